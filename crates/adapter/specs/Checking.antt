@@ -14,15 +14,19 @@ use Rattle.byte_streams.specs.Streams.{Output, WritesAll, FailsIn}
 use Rattle.adapter.specs.declared.checking.CheckFault.{CheckFault}
 use Rattle.adapter.specs.declared.checking.CheckFault.TheVariants.{CannotRead, Syntax, WriteFailed, NoMemory}
 
--- The text is the listing of a file: of the steps of its program, and of code that belongs to this program.
-pub record IsListingOf (file text : List ℕ) : Type 0 where
-  pub main : Block
-  pub program : IsTreeOf file main
+-- The text is the listing of a program: of its steps, and of code that belongs to it.
+pub record IsListingOfProgram (main : Block) (text : List ℕ) : Type 0 where
   pub code : List Instruction
   pub begun : List (Option ℕ)
   pub table : List Step
   pub coded : ∥ IsUnitOf main code begun table ∥₁
   pub text_is : text ≡ listing_text (steps main) code begun
+
+-- The text is the listing of a file: of the program that the file has.
+pub record IsListingOf (file text : List ℕ) : Type 0 where
+  pub main : Block
+  pub program : IsTreeOf file main
+  pub listing : IsListingOfProgram main text
 
 -- The loader was asked once, for this path, and returned this file.
 abbrev pub Gives : List ℕ → List ℕ → List Load → List Load → Type 0

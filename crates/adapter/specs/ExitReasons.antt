@@ -1,5 +1,7 @@
 -- Defines how the program ends: its exit status and the last line on standard error.
 use Rattle.std.specs.Prelude.{ℕ, List, [], ◌++◌, codes, decimal, Result, Ok, Err}
+use Rattle.std.specs.declared.io.ErrorKind.{ErrorKind}
+use Rattle.std.specs.declared.io.ErrorKind.TheVariants as kind
 use Rattle.dap_frame.specs.declared.fault.FramingFault.{FramingFault}
 use Rattle.dap_frame.specs.declared.fault.FramingFault.TheVariants as frame
 use Rattle.dap_history.specs.declared.fault.SessionFault.{SessionFault}
@@ -55,6 +57,11 @@ abbrev pub reason_of_arguments : ArgumentsFault → ExitReason
 reason_of_arguments arguments.Help = Success
 reason_of_arguments arguments.NotUnderstood = NotUnderstood
 reason_of_arguments arguments.NoMemory = NoMemory
+
+-- why there are no arguments: no memory for them, or one of them is no text
+abbrev pub reason_of_reading : ErrorKind → ExitReason
+reason_of_reading kind.OutOfMemory = NoMemory
+reason_of_reading _ = NotUnderstood
 
 -- the exit status
 abbrev pub status_of : ExitReason → ℕ

@@ -1,5 +1,12 @@
 -- Defines what the program does with its arguments, and how it ends.
-use Rattle.std.specs.Prelude.{◌≡◌, ◌⊎◌, ℕ, List, [], ◌∷◌, ◌++◌, Some, None, Result, Err}
+use Rattle.std.specs.Prelude.{◌≡◌, ◌⊎◌, ℕ, List, [], ◌∷◌, ◌++◌, map, Some, None, Result, Ok, Err, string_bytes}
+use Rattle.std.specs.IoError.{error_kind}
+use Rattle.std.specs.Vec.Iter.{into_iter_items}
+use Rattle.std.specs.declared.alloc.Global.{Global}
+use Rattle.std.specs.declared.io.Error.{Error}
+use Rattle.std.specs.declared.io.ErrorKind.{ErrorKind}
+use Rattle.std.specs.declared.string.String.{String}
+use Rattle.std.specs.declared.vec.IntoIter.{IntoIter}
 use Rattle.clap.specs.Words.{Text}
 use Rattle.clap.specs.declared.error.kind.ErrorKind.TheVariants.{DisplayHelp}
 use Rattle.dap_msg.specs.declared.request.FirstSeq.{FirstSeq}
@@ -13,7 +20,7 @@ use Rattle.adapter.specs.declared.serving.Served.{Served}
 use Rattle.adapter.specs.declared.serving.ServeFault.{ServeFault}
 use Rattle.adapter.specs.Arguments.{Reads, IsParsed, refusals}
 use Rattle.adapter.specs.Checking.{IsChecked}
-use Rattle.adapter.specs.ExitReasons.{reason_of_serve, reason_of_check, last_line}
+use Rattle.adapter.specs.ExitReasons.{reason_of_serve, reason_of_check, reason_of_reading, last_line}
 use Rattle.adapter.specs.Listing.{line_feed}
 use Rattle.adapter.specs.Serving.{Streams, world, output_of, IsServed}
 use Rattle.byte_streams.specs.Streams.{Output, WritesAll, FailsIn, Says}
@@ -74,15 +81,24 @@ pub record Executes (first : FirstSeq) (arguments : List Text) (reason : ExitRea
   pub performs : Performs first arguments reason loads later_loads old later
   pub reports : Reports reason errors later_errors
 
--- The system has no arguments, or some that are not text, or there was no memory for them.
-pub record GetsNoArguments (reason : ExitReason) (old later : Streams) (errors later_errors : Output) : Type 0 where
-  pub reason_is : (reason ≡ NoMemory) ⊎ (reason ≡ NotUnderstood)
+-- the arguments that were given, or the kind of the error that was given in their place
+abbrev pub Given : Type 0
+Given = Result (List Text) ErrorKind
+
+abbrev pub given_of : Result (IntoIter (String Global) Global) Error → Given
+given_of (Ok arguments) = Ok (map string_bytes (into_iter_items arguments))
+given_of (Err error) = Err (error_kind error)
+
+-- There are no arguments. The program said so on standard error, and did nothing else.
+pub record GetsNoArguments (error : ErrorKind) (reason : ExitReason) (old later : Streams)
+    (errors later_errors : Output) : Type 0 where
+  pub reason_is : reason ≡ reason_of_reading error
   pub kept : later ≡ old
   pub reports : Reports reason errors later_errors
 
--- The program ran on the arguments that the system has, with a loader that was asked for no file before.
-abbrev pub Runs : FirstSeq → ExitReason → Streams → Streams → Output → Output → Type 0
-Runs first reason old later errors later_errors =
-    ((arguments : List Text) × (loads : List Load)
-    × Executes first arguments reason [] loads old later errors later_errors)
-    ⊎ GetsNoArguments reason old later errors later_errors
+-- The program ran on the arguments that were given, with a loader that was asked for no file before.
+abbrev pub Runs : FirstSeq → Given → ExitReason → Streams → Streams → Output → Output → Type 0
+Runs first (Ok arguments) reason old later errors later_errors =
+    (loads : List Load) × Executes first arguments reason [] loads old later errors later_errors
+Runs first (Err error) reason old later errors later_errors =
+    GetsNoArguments error reason old later errors later_errors

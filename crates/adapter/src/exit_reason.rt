@@ -1,7 +1,8 @@
 //! Why a run ends: the exit status, and the last line on standard error.
 
 ghost use Rattle.std.specs.Prelude.{◌≡◌, Some};
-ghost use Rattle.adapter.specs.ExitReasons.{reason_of_serve, reason_of_session, reason_of_framing, reason_of_check, reason_of_arguments, status_of};
+ghost use Rattle.std.specs.IoError.{error_kind};
+ghost use Rattle.adapter.specs.ExitReasons.{reason_of_serve, reason_of_session, reason_of_framing, reason_of_check, reason_of_arguments, reason_of_reading, status_of};
 
 use crate::arguments::ArgumentsFault;
 use crate::checking::CheckFault;
@@ -10,6 +11,7 @@ use dap_frame::FramingFault;
 use dap_session::SessionFault;
 use pl0_tree::Place;
 use std::fmt;
+use std::io::{self, ErrorKind};
 
 /// Why a run of the program ends. `Display` writes the last line on standard error, without its line feed. It writes
 /// nothing for `Success`, and nothing for `NotUnderstood`, where standard error gets the usage instead.
@@ -99,6 +101,16 @@ pub(crate) fn end_of_arguments(fault: ArgumentsFault) -> ExitReason
         ArgumentsFault::Help => ExitReason::Success,
         ArgumentsFault::NotUnderstood => ExitReason::NotUnderstood,
         ArgumentsFault::NoMemory => ExitReason::NoMemory,
+    }
+}
+
+/// How the program ends where this error came in place of its arguments.
+pub(crate) fn end_of_reading(error: &io::Error) -> ExitReason
+    ensures { result ≡ reason_of_reading (error_kind error.now) }
+{
+    match error.kind() {
+        ErrorKind::OutOfMemory => ExitReason::NoMemory,
+        _ => ExitReason::NotUnderstood,
     }
 }
 

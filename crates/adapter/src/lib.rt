@@ -1,11 +1,12 @@
 //! The adapter that the program `pl0dap` is: a debug adapter for PL/0 over an input and an output.
 //!
-//! The one contract is that of [`execute`]: what the arguments ask for was done over these ports, the reason that it
-//! returns says how that ended, and standard error has it as its last line. The contract cites three others:
-//! [`parse_arguments`](arguments::parse_arguments) says what the arguments ask for; [`serve`] says that reader, runner,
-//! session and writer, each in a thread, did together what `specs/Serving` defines; and [`check`] says that the listing of
-//! a file's text was written, which `specs/Listing` defines. The hard lemmas are in `proofs/Gathered`: they put together
-//! what the ends of the queues say when all threads were joined.
+//! The one contract is that of [`run_process`], which is all that a `main` calls: what the arguments ask for was done over
+//! the input, the output and the errors that were lent, the exit code says how that ended, and standard error has it as its
+//! last line. [`run`] returns the reason in place of the code, and [`execute`] does it with another loader than that of the
+//! system's files. The contract cites three others: [`parse_arguments`](arguments::parse_arguments) says what the arguments
+//! ask for; [`serve`] says that reader, runner, session and writer, each in a thread, did together what `specs/Serving`
+//! defines; and [`check`] says that the listing of a file's text was written, which `specs/Listing` defines. The hard
+//! lemmas are in `proofs/Gathered`: they put together what the ends of the queues say when all threads were joined.
 #![tactic(auto)]
 
 pub mod arguments;
@@ -21,6 +22,7 @@ mod reporting;
 mod serving;
 mod tasks;
 mod telling;
+mod wires;
 
 pub use byte_streams::{IoFault, ReadFault, Reading, Sink, Source, Writing, read_beginning};
 pub use checking::{CheckFault, check};

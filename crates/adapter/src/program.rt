@@ -1,84 +1,139 @@
 //! The program from its arguments to its end.
 
-ghost use Rattle.std.specs.Prelude.{◌≡◌, ◌≢◌, ◌⊎◌, Result, map};
-ghost use Rattle.std.specs.IoError.{error_kind};
+ghost use Rattle.std.specs.Prelude.{◌≡◌, [], List, Result, IfOk, map, string_bytes};
 ghost use Rattle.std.specs.Process.{exit_status};
-ghost use Rattle.std.specs.declared.io.ErrorKind.TheVariants as kind;
+ghost use Rattle.std.specs.Vec.Iter.{into_iter_items};
+ghost use Rattle.dap_history.specs.Interleaving.{Load};
 ghost use Rattle.adapter.specs.declared.exit_reason.ExitReason.{ExitReason};
-ghost use Rattle.adapter.specs.declared.exit_reason.ExitReason.TheVariants.{NoMemory, NotUnderstood};
 ghost use Rattle.adapter.specs.declared.checking.CheckFault.{CheckFault};
 ghost use Rattle.adapter.specs.Arguments.{IsParsed};
 ghost use Rattle.adapter.specs.Checking.{IsChecked};
 ghost use Rattle.adapter.specs.ExitReasons.{reason_of_check, status_of};
-ghost use Rattle.adapter.specs.Running.{EndsServing, Reports, Executes, Runs, EndsHelping};
-ghost use Rattle.adapter.specs.Serving.{Streams, streams};
-ghost use Rattle.byte_streams.specs.Streams.{Output, output as output_at};
+ghost use Rattle.adapter.specs.Running.{EndsServing, Reports, Executes, Runs, EndsHelping, given_of};
+ghost use Rattle.adapter.specs.Serving.{streams};
+ghost use Rattle.byte_streams.specs.Streams.{output as output_at};
 
 use crate::arguments::{ArgumentsFault, HELP, Invocation, parse_arguments};
 use crate::checking::{CheckFault, check_keeping};
-use crate::exit_reason::{ExitReason, end_of_arguments, end_of_check, end_of_serve};
+use crate::exit_reason::{
+    ExitReason, end_of_arguments, end_of_check, end_of_reading, end_of_serve,
+};
 use crate::files::FileLoader;
 use crate::gates::OpenGate;
 use crate::reporting::{EndReporter, note_mistake, report};
 use crate::serving::{end_loan, serve_from};
-use byte_streams::{Reading, Sink, Source, Writing, write_all};
+use byte_streams::{Sink, Source, write_all};
 use dap_session::{FirstSeq, Loader};
 use std::alloc::{AllocError, Global};
-use std::io::{ErrorKind, Read, Write};
+use std::env::Args;
+use std::io;
 use std::process::ExitCode;
-use std::rt::{Env, Files};
+use std::rt::Files;
 use std::sync::Wait;
 use std::thread::Threads;
 use std::time::Clock;
-use std::{env, io};
 
-/// Does what the arguments of this process ask for, as [`run`] does, over std's streams, and returns the exit code. It is all
-/// that a `main` does.
-pub fn run_process<R, I, O, E>(rt: &R, first: FirstSeq, input: I, output: O, errors: E) -> ExitCode
-where
-    R: Threads + Wait + Clock + Env + Files + Eprint + AllocGlobal + Copy + Drop + Send + Sync,
-    I: Read + Send + Drop,
-    O: Write + Send + Drop,
-    E: Write + Drop,
-    ensures { (reason : ExitReason) × (exit_status result ≡ status_of reason)
-        × ((later : Streams) × (later_errors : Output) × Runs first reason
-        (streams (I.remaining input) 0 (O.contents output) 0) later (output_at (E.contents errors) 0) later_errors) }
-{
-    let mut input = Reading::new(rt, input);
-    let mut output = Writing::new(rt, output);
-    let mut errors = Writing::new(rt, errors);
-    ExitCode::from(run(rt, first, &mut input, &mut output, &mut errors).status())
-}
-
-/// Does what the arguments of this process ask for, as [`execute`] does, with the files of the system: `launch` gets regular
-/// files alone, and `--check` also what may block, such as a named pipe.
-pub fn run<R, I, O, E>(
+/// Does what the arguments ask for, as [`run`] does, and returns the exit code. A `main` is one call of it, with what
+/// `env::args` gave, the program's name first, and the standard streams.
+pub fn run_process<R, I, O, E>(
     rt: &R,
     first: FirstSeq,
+    given: io::Result<Args>,
     input: &mut I,
     output: &mut O,
     errors: &mut E,
-) -> ExitReason
+) -> ExitCode
 where
-    R: Threads + Wait + Clock + Env + Files + Eprint + AllocGlobal + Copy + Drop + Send,
+    R: Threads + Wait + Clock + Files + Eprint + AllocGlobal + Copy + Drop + Send,
     I: Source + Send,
     O: Sink + Send,
     E: Sink,
-    // It does so for some arguments and some files, since no contract can say which ones the system has.
-    ensures { Runs first result
+    ensures { (reason : ExitReason) × (exit_status result ≡ status_of reason) × Runs first (given_of given) reason
         (streams (I.left input.old) (I.failures input.old) (O.written output.old) (O.failures output.old))
         (streams (I.left input.new) (I.failures input.new) (O.written output.new) (O.failures output.new))
         (output_at (E.written errors.old) (E.failures errors.old))
         (output_at (E.written errors.new) (E.failures errors.new)) }
 {
-    let given = match given_arguments(rt) {
-        Ok(given) => given,
-        Err(error) => return end_with(rt, &[], end_of_reading(&error), errors),
+    ExitCode::from(run(rt, first, given, input, output, errors).status())
+}
+
+/// Does what the arguments ask for, as [`execute`] does, with the files of the system, and returns how that ended: `launch`
+/// gets regular files alone, and `--check` also what may block, such as a named pipe. Where an error was given in place of the
+/// arguments, it says so on `errors`, and does nothing else.
+pub fn run<R, I, O, E>(
+    rt: &R,
+    first: FirstSeq,
+    given: io::Result<Args>,
+    input: &mut I,
+    output: &mut O,
+    errors: &mut E,
+) -> ExitReason
+where
+    R: Threads + Wait + Clock + Files + Eprint + AllocGlobal + Copy + Drop + Send,
+    I: Source + Send,
+    O: Sink + Send,
+    E: Sink,
+    ensures { Runs first (given_of given) result
+        (streams (I.left input.old) (I.failures input.old) (O.written output.old) (O.failures output.old))
+        (streams (I.left input.new) (I.failures input.new) (O.written output.new) (O.failures output.new))
+        (output_at (E.written errors.old) (E.failures errors.old))
+        (output_at (E.written errors.new) (E.failures errors.new)) }
+{
+    match given {
+        Ok(given) => run_given(rt, first, given, input, output, errors),
+        Err(error) => end_with(rt, &[], end_of_reading(&error), errors),
+    }
+}
+
+/// Does what the arguments ask for, as [`run`] does.
+fn run_given<R, I, O, E>(
+    rt: &R,
+    first: FirstSeq,
+    given: Args,
+    input: &mut I,
+    output: &mut O,
+    errors: &mut E,
+) -> ExitReason
+where
+    R: Threads + Wait + Clock + Files + Eprint + AllocGlobal + Copy + Drop + Send,
+    I: Source + Send,
+    O: Sink + Send,
+    E: Sink,
+    ensures { (loads : List Load) × Executes first (map string_bytes (into_iter_items given)) result [] loads
+        (streams (I.left input.old) (I.failures input.old) (O.written output.old) (O.failures output.old))
+        (streams (I.left input.new) (I.failures input.new) (O.written output.new) (O.failures output.new))
+        (output_at (E.written errors.old) (E.failures errors.old))
+        (output_at (E.written errors.new) (E.failures errors.new)) }
+{
+    let Ok(given) = collected(rt.alloc(), given) else {
+        return end_with(rt, &[], ExitReason::NoMemory, errors);
     };
     let Ok(arguments) = texts(rt.alloc(), given.as_slice()) else {
         return end_with(rt, &[], ExitReason::NoMemory, errors);
     };
-    let arguments = arguments.as_slice();
+    execute_on_files(rt, first, arguments.as_slice(), input, output, errors)
+}
+
+/// Does what the arguments ask for, as [`execute`] does, with the files of the system.
+fn execute_on_files<R, I, O, E>(
+    rt: &R,
+    first: FirstSeq,
+    arguments: &[&str],
+    input: &mut I,
+    output: &mut O,
+    errors: &mut E,
+) -> ExitReason
+where
+    R: Threads + Wait + Clock + Files + Eprint + AllocGlobal + Copy + Drop + Send,
+    I: Source + Send,
+    O: Sink + Send,
+    E: Sink,
+    ensures { (loads : List Load) × Executes first (map (λ argument. argument.now) arguments.entry.now) result [] loads
+        (streams (I.left input.old) (I.failures input.old) (O.written output.old) (O.failures output.old))
+        (streams (I.left input.new) (I.failures input.new) (O.written output.new) (O.failures output.new))
+        (output_at (E.written errors.old) (E.failures errors.old))
+        (output_at (E.written errors.new) (E.failures errors.new)) }
+{
     let asked = parse_arguments(rt.alloc(), arguments);
     let mut files = match asked {
         Ok(Invocation::Check(_)) => FileLoader::new(rt, rt.alloc()),
@@ -152,33 +207,21 @@ where
     end_with(rt, arguments, reason, errors)
 }
 
-/// Returns the arguments of this process, the program's name first.
-///
-/// # Errors
-///
-/// Memory ran out, or an argument is not text.
-fn given_arguments(rt: &(impl Env + AllocGlobal)) -> io::Result<Vec<String>> {
-    Ok(env::args(rt)?.collect(rt.alloc())?)
+/// Returns the arguments as a list.
+fn collected(alloc: Global, given: Args) -> Result<Vec<String>, AllocError>
+    ensures { IfOk result (λ arguments. arguments.items ≡ into_iter_items given) }
+{
+    given.collect(alloc)
 }
 
 /// Returns the arguments as borrowed texts.
-fn texts(alloc: Global, arguments: &[String]) -> Result<Vec<&str>, AllocError> {
+fn texts(alloc: Global, arguments: &[String]) -> Result<Vec<&str>, AllocError>
+    ensures { IfOk result (λ texts. map (λ text. text.now) texts.items ≡ map string_bytes arguments.now) }
+{
     arguments
         .iter()
         .map(|argument| argument.as_str())
         .collect(alloc)
-}
-
-/// Returns why the arguments can't be read: there was no memory for them, or one of them is not text.
-fn end_of_reading(error: &io::Error) -> ExitReason
-    ensures reason { (result ≡ NoMemory) ⊎ (result ≡ NotUnderstood) }
-    ensures no_memory { result ≡ NoMemory → error_kind error.now ≡ kind.OutOfMemory }
-    ensures not_understood { result ≡ NotUnderstood → error_kind error.now ≢ kind.OutOfMemory }
-{
-    match error.kind() {
-        ErrorKind::OutOfMemory => ExitReason::NoMemory,
-        _ => ExitReason::NotUnderstood,
-    }
 }
 
 /// Reports the reason on `errors`, and returns it.

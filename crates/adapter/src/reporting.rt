@@ -84,10 +84,7 @@ pub(crate) fn report<R: Wait + Eprint + AllocGlobal, E: Sink>(
 /// Writes the reason to the log at status 1 to 3. On standard error it stands before the last line. A mistake of a program
 /// text was noted before, in words.
 fn log_end<R: Eprint>(rt: &R, reason: ExitReason) {
-    let is_noted = match reason {
-        ExitReason::Syntax { .. } => true,
-        _ => false,
-    };
+    let is_noted = matches!(reason, ExitReason::Syntax { .. });
     if 0 < reason.status() && reason.status() < 4 && !is_noted {
         let notes = Logged::new(rt, Level::Error, Console(rt));
         error!(notes; "ended by {reason:?}");

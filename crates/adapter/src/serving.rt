@@ -1,26 +1,19 @@
 //! Serving a client over an input and an output: reader, runner and writer in threads of their own, the session in this
 //! one.
 
-ghost use Rattle.std.specs.Prelude.{◌≡◌, ◌≢◌, true};
-ghost use Rattle.dap_session.specs.Sending.{IsPrefixOf};
-ghost use Rattle.dap_wires.specs.Ends.{receive_log, receive_log_queue};
-ghost use Rattle.dap_wires.specs.Inbox.{client_events, client_queue, sent_reports, report_queue, received, left_queue};
-ghost use Rattle.dap_wires.specs.Orders.{FourWerePushed, pushed_orders, push_queue, taken_orders, pop_queue};
-ghost use Rattle.dap_wires.specs.Outbox.{messages_put, ended_queue, ended_unused_queue, messages_received};
-ghost use Rattle.dap_wires.specs.Senders.{from_client, reports_among};
+ghost use Rattle.std.specs.Prelude.{◌≡◌};
 ghost use Rattle.adapter.specs.Serving.{streams, world, outcome_of, IsServed};
+ghost use Rattle.adapter.specs.Wires.{AreUnused, AreJoined};
 
-use crate::jobs::{ReaderTask, RunnerTask, SessionEnds, SessionTask, WriterTask};
+use crate::jobs::{ReaderTask, RunnerTask, SessionTask, WriterTask};
 use crate::tasks::run_beside;
 use crate::telling::{Deaf, EndListener, Telling, tell};
+use crate::wires::{Wires, make_wires, reconcile};
 use byte_streams::{Sink, Source};
 use dap_session::{Closed, FirstSeq, Loader, SessionFault};
-use dap_wires::{
-    ClientSender, OrderReceiver, ReceiveLog, ReportSender, WriteFailed, WriterMessage, inbox,
-    orders, outbox, reconcile_inbox, reconcile_orders, reconcile_outbox,
-};
+use dap_wires::WriteFailed;
 use dbg_runner::Gate;
-use std::alloc::Global;
+use std::alloc::{AllocError, Global};
 use std::sync::Wait;
 use std::thread::Threads;
 
@@ -122,19 +115,54 @@ where
         (streams (I.left input.new) (I.failures input.new) (O.written output.new) (O.failures output.new))) }
     ensures told { E.tells listener.old listener.new result }
 {
-    let Ok((client, reports, events)) = inbox(*rt, alloc) else {
-        return tell(listener, NO_MEMORY);
-    };
-    let Ok((frames, messages)) = outbox(*rt, alloc) else {
-        return tell(listener, NO_MEMORY);
-    };
-    let Ok((pushed, taken)) = orders(*rt, alloc) else {
-        return tell(listener, NO_MEMORY);
-    };
-    let writer = WriterTask::new(*rt, output, messages);
-    let runner = RunnerTask::new(*rt, alloc, taken, reports, gate);
-    let reader = ReaderTask::new(*rt, alloc, input, client);
-    let session = SessionTask::new(*rt, alloc, first, loader, events, frames, pushed);
+    match make_wires(*rt, alloc) {
+        Ok(wires) => serve_over(
+            rt, alloc, first, wires, input, output, loader, gate, listener,
+        ),
+        Err(AllocError) => tell(listener, NO_MEMORY),
+    }
+}
+
+/// Serves as [`serve_from`] does, over queues that nothing went through.
+fn serve_over<R, I, O, L, G, E>(
+    rt: &R,
+    alloc: Global,
+    first: FirstSeq,
+    wires: Wires<R>,
+    input: &mut I,
+    output: &mut O,
+    loader: &mut L,
+    gate: &mut G,
+    listener: &mut E,
+) -> Result<Served, ServeFault>
+where
+    R: Threads + Wait + Copy + Drop + Send,
+    I: Source + Send,
+    O: Sink + Send,
+    L: Loader,
+    G: Gate + Send,
+    E: EndListener,
+    requires unused { AreUnused wires }
+    requires joined { AreJoined wires }
+    ensures served { IsServed first result
+        (world (L.loaded loader.old) (G.passed gate.old)
+        (streams (I.left input.old) (I.failures input.old) (O.written output.old) (O.failures output.old)))
+        (world (L.loaded loader.new) (G.passed gate.new)
+        (streams (I.left input.new) (I.failures input.new) (O.written output.new) (O.failures output.new))) }
+    ensures told { E.tells listener.old listener.new result }
+{
+    let writer = WriterTask::new(*rt, output, wires.messages);
+    let runner = RunnerTask::new(*rt, alloc, wires.taken, wires.reports, gate);
+    let reader = ReaderTask::new(*rt, alloc, input, wires.client);
+    let session = SessionTask::new(
+        *rt,
+        alloc,
+        first,
+        loader,
+        wires.events,
+        wires.frames,
+        wires.pushed,
+    );
     // The reader is started last, since nothing can wake it from a read.
     let done = run_beside(rt, writer, runner, reader, session, Telling::new(listener));
     match done {
@@ -147,52 +175,15 @@ where
                 listener,
             ),
         ) => {
-            end_loan(output);
-            end_loan(gate);
-            end_loan(input);
-            end_loan(loader);
-            end_loan(listener);
+            end_loans(output, gate, input, loader, listener);
             reconcile(client, reports, written, taken, ends);
             outcome(&wrote, &closed)
         }
         Err((telling, loader)) => {
             end_loan(loader);
-            let listener = telling.into_listener();
-            let outcome = tell(listener, Err(ServeFault::NoThread));
-            end_loan(listener);
-            outcome
+            tell(telling.into_listener(), Err(ServeFault::NoThread))
         }
     }
-}
-
-/// Brings the logs of all ends of each queue together, when all threads were joined, and proves that what was received is a
-/// prefix of what was sent.
-fn reconcile<R: Wait + Drop>(
-    client: ClientSender<R>,
-    reports: ReportSender<R>,
-    written: ReceiveLog<WriterMessage>,
-    taken: OrderReceiver<R>,
-    ends: SessionEnds<R>,
-)
-    requires inbox { (report_queue reports ≡ client_queue client) × (left_queue ends.inbox ≡ client_queue client) }
-    requires outbox { (ended_unused_queue ends.outbox ≡ ended_queue ends.outbox)
-        × (receive_log_queue written ≡ ended_queue ends.outbox) }
-    requires messages { (receive_log written).takes ≡ true }
-    requires orders { pop_queue taken ≡ push_queue ends.orders }
-    ensures client { IsPrefixOf (from_client (received ends.inbox)) (client_events client) }
-    ensures reports { IsPrefixOf (reports_among (received ends.inbox)) (sent_reports reports) }
-    ensures frames { IsPrefixOf (messages_received written) (messages_put ends.outbox) }
-    ensures orders { IsPrefixOf (taken_orders taken) (pushed_orders ends.orders).orders }
-    ensures full { (pushed_orders ends.orders).fulls ≢ 0 → FourWerePushed (pushed_orders ends.orders).orders }
-{
-    let SessionEnds {
-        inbox,
-        outbox,
-        orders,
-    } = ends;
-    reconcile_inbox(client, reports, inbox);
-    reconcile_outbox(outbox, written);
-    reconcile_orders(orders, taken);
 }
 
 /// Returns how serving ended, by how the writer and the session ended.
@@ -217,4 +208,19 @@ pub(crate) fn outcome(
 /// parameter that was lent.
 pub(crate) fn end_loan<T>(x: &mut T)
     ensures { x.new ≡ x.old }
+{}
+
+/// Ends the loans of all references that the tasks returned.
+fn end_loans<O, G, I, L, E>(
+    output: &mut O,
+    gate: &mut G,
+    input: &mut I,
+    loader: &mut L,
+    listener: &mut E,
+)
+    ensures output { output.new ≡ output.old }
+    ensures gate { gate.new ≡ gate.old }
+    ensures input { input.new ≡ input.old }
+    ensures loader { loader.new ≡ loader.old }
+    ensures listener { listener.new ≡ listener.old }
 {}

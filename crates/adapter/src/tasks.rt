@@ -95,13 +95,7 @@ pub fn run_beside<
                 × W.sees witness r.0 r.3 r.4) }
             ensures err { IfErr result (λ r. (r.0 ≡ witness) × V.leaves last r.1) }
         {
-            let Some(one) = start(scope, first) else {
-                return Err((witness, last.give_up()));
-            };
-            let Some(two) = start(scope, second) else {
-                return Err((witness, last.give_up()));
-            };
-            let Some(three) = start(scope, third) else {
+            let Some((one, two, three)) = start_all(scope, first, second, third) else {
                 return Err((witness, last.give_up()));
             };
             let d = last.run();
@@ -110,6 +104,38 @@ pub fn run_beside<
             Ok((a, two.join(rt), three.join(rt), d, x))
         },
     )
+}
+
+/// Starts a thread of a scope for each of three tasks, in their order. Where one can't be made, it drops the tasks that are
+/// left and returns `None`; the threads that were started go on.
+fn start_all<
+    's,
+    E,
+    S: Task<Output = A> + Send + 's,
+    T: Task<Output = B> + Send + 's,
+    U: Task<Output = C> + Send + 's,
+    A: Send + Drop + 's,
+    B: Send + Drop + 's,
+    C: Send + Drop + 's,
+>(
+    scope: &Scope<'s, E>,
+    first: S,
+    second: T,
+    third: U,
+) -> Option<
+    (
+        PromisedHandle<A, Ran<S>>,
+        PromisedHandle<B, Ran<T>>,
+        PromisedHandle<C, Ran<U>>,
+    ),
+>
+    requires { S.can_run first × T.can_run second × U.can_run third }
+    ensures { IfSome result (λ handles. (handles.0.promise.0.value ≡ first) × (handles.1.promise.0.value ≡ second)
+        × (handles.2.promise.0.value ≡ third)) }
+{
+    let one = start(scope, first)?;
+    let two = start(scope, second)?;
+    Some((one, two, start(scope, third)?))
 }
 
 /// Starts a thread of a scope that does a task. Where no thread can be made, it drops the task and returns `None`.

@@ -16,19 +16,19 @@ use Rattle.adapter.specs.Jobs.{SessionLeaves}
 use Rattle.adapter.specs.Serving.{World, world, streams, outcome_of, nothing_sent, TasksEnd, tasks_ended}
 use Rattle.adapter.proofs.Crossing.{runner_task_send, runner_output_send, reader_task_send, reader_output_send}
 use Rattle.adapter.proofs.Gathered.{gathers, moved}
-use Rattle.adapter.proofs.serving.serve_from.Goals as goal
+use Rattle.adapter.proofs.serving.serve_over.Goals as goal
 
-pub returns-in-Ok-done-clause-served : goal.returns-in-Ok-done-clause-served
-returns-in-Ok-done-clause-served g c =
-    let ends = c.in-Ok-done.ends in
-    let closed = c.in-Ok-done.closed in
-    let facts : (IsPrefixOf (reports_among (received ends.inbox)) (sent_reports c.in-Ok-done.reports))
-    × (IsPrefixOf (from_client (received ends.inbox)) (client_events c.in-Ok-done.client))
-    × (IsPrefixOf (messages_received c.in-Ok-done.written) (messages_put ends.outbox))
-    × (IsPrefixOf (taken_orders c.in-Ok-done.taken) (pushed_orders ends.orders).orders)
-    × (c.outcome.result ≡ outcome_of c.in-Ok-done.wrote closed) × (c.in-Ok-done.input.now ≡ c.input-1.given.0)
-    × (c.in-Ok-done.output.now ≡ c.output-1.given.0) × (c.in-Ok-done.loader.now ≡ c.loader-1.given.0)
-    × (c.in-Ok-done.gate.now ≡ c.gate-1.given.0) × ((pushed_orders ends.orders).fulls ≢ 0
+pub returns-in-Ok-clause-served : goal.returns-in-Ok-clause-served
+returns-in-Ok-clause-served g c =
+    let ends = c.in-Ok.ends in
+    let closed = c.in-Ok.closed in
+    let facts : (IsPrefixOf (reports_among (received ends.inbox)) (sent_reports c.in-Ok.reports))
+    × (IsPrefixOf (from_client (received ends.inbox)) (client_events c.in-Ok.client))
+    × (IsPrefixOf (messages_received c.in-Ok.written) (messages_put ends.outbox))
+    × (IsPrefixOf (taken_orders c.in-Ok.taken) (pushed_orders ends.orders).orders)
+    × (c.outcome.result ≡ outcome_of c.in-Ok.wrote closed) × (c.in-Ok.input.now ≡ c.input-1.given.0)
+    × (c.in-Ok.output.now ≡ c.output-1.given.0) × (c.in-Ok.loader.now ≡ c.loader-1.given.0)
+    × (c.in-Ok.gate.now ≡ c.gate-1.given.0) × ((pushed_orders ends.orders).fulls ≢ 0
     → FourWerePushed (pushed_orders ends.orders).orders) = (
       (c.reconcile.ensures.reports.0, search (rules, c.reconcile.ensures.reports.1)),
       (c.reconcile.ensures.client.0, search (rules, c.reconcile.ensures.client.1)),
@@ -41,91 +41,91 @@ returns-in-Ok-done-clause-served g c =
       search rules,
       λ some. moved (c.reconcile.ensures.full (λ none. some (search (rules, none)))) (search rules),
     ) in
-    let inbox_reports : IsPrefixOf (reports_among (received ends.inbox)) (sent_reports c.in-Ok-done.reports) =
+    let inbox_reports : IsPrefixOf (reports_among (received ends.inbox)) (sent_reports c.in-Ok.reports) =
     facts.0 in
-    let inbox_client : IsPrefixOf (from_client (received ends.inbox)) (client_events c.in-Ok-done.client) = facts.1 in
-    let outbox_taken : IsPrefixOf (messages_received c.in-Ok-done.written) (messages_put ends.outbox) = facts.2 in
-    let orders_taken : IsPrefixOf (taken_orders c.in-Ok-done.taken) (pushed_orders ends.orders).orders = facts.3 in
-    let answer : c.outcome.result ≡ outcome_of c.in-Ok-done.wrote closed = facts.4 in
-    let input : c.in-Ok-done.input.now ≡ c.input-1.given.0 = facts.5 in
-    let output : c.in-Ok-done.output.now ≡ c.output-1.given.0 = facts.6 in
-    let loader : c.in-Ok-done.loader.now ≡ c.loader-1.given.0 = facts.7 in
-    let gate : c.in-Ok-done.gate.now ≡ c.gate-1.given.0 = facts.8 in
-    let w = c.in-Ok-done.ensures.ok.0 in
-    let r = c.in-Ok-done.ensures.ok.1 in
-    let i = c.in-Ok-done.ensures.ok.2 in
-    let s = c.in-Ok-done.ensures.ok.3 in
+    let inbox_client : IsPrefixOf (from_client (received ends.inbox)) (client_events c.in-Ok.client) = facts.1 in
+    let outbox_taken : IsPrefixOf (messages_received c.in-Ok.written) (messages_put ends.outbox) = facts.2 in
+    let orders_taken : IsPrefixOf (taken_orders c.in-Ok.taken) (pushed_orders ends.orders).orders = facts.3 in
+    let answer : c.outcome.result ≡ outcome_of c.in-Ok.wrote closed = facts.4 in
+    let input : c.in-Ok.input.now ≡ c.input-1.given.0 = facts.5 in
+    let output : c.in-Ok.output.now ≡ c.output-1.given.0 = facts.6 in
+    let loader : c.in-Ok.loader.now ≡ c.loader-1.given.0 = facts.7 in
+    let gate : c.in-Ok.gate.now ≡ c.gate-1.given.0 = facts.8 in
+    let w = c.in-Ok.ensures.ok.0 in
+    let r = c.in-Ok.ensures.ok.1 in
+    let i = c.in-Ok.ensures.ok.2 in
+    let s = c.in-Ok.ensures.ok.3 in
     let given_to = c.new-session.ensures in
     let events : taken_events c.new-session.result.inbox ≡ [] =
-    ap taken_events given_to.inbox ∙ c.in-Ok.ensures.events in
+    ap taken_events given_to.inbox ∙ c.requires.unused.events in
     let frames : put_frames c.new-session.result.outbox ≡ record { frames = []; refused = [] } =
-    ap put_frames given_to.outbox ∙ c.in-Ok-outbox.ensures.frames in
+    ap put_frames given_to.outbox ∙ c.requires.unused.frames in
     let orders : pushed_orders c.new-session.result.orders ≡ record { orders = []; fulls = 0; refusals = 0 } =
-    ap pushed_orders given_to.orders ∙ c.in-Ok-orders.ensures.pushed in
+    ap pushed_orders given_to.orders ∙ c.requires.unused.pushed in
     let ports_are : ports (put_frames c.new-session.result.outbox)
     (pushed_orders c.new-session.result.orders) ≡ nothing_sent =
     ap (λ w. ports w (pushed_orders c.new-session.result.orders)) frames
     ∙ ap (λ o. ports (record { frames = []; refused = [] }) o) orders in
     let fresh : SessionLeaves c.args.first closed [] (received ends.inbox)
     (g.L.Loader.loaded c.new-session.result.loader.now)
-    (g.L.Loader.loaded c.in-Ok-done.loader.now)
+    (g.L.Loader.loaded c.in-Ok.loader.now)
     (ports (put_frames c.new-session.result.outbox) (pushed_orders c.new-session.result.orders))
     (messages_put ends.outbox) (pushed_orders ends.orders) =
     subst (λ given. SessionLeaves c.args.first closed given (received ends.inbox)
     (g.L.Loader.loaded c.new-session.result.loader.now)
-    (g.L.Loader.loaded c.in-Ok-done.loader.now)
+    (g.L.Loader.loaded c.in-Ok.loader.now)
     (ports (put_frames c.new-session.result.outbox) (pushed_orders c.new-session.result.orders))
     (messages_put ends.outbox) (pushed_orders ends.orders)) events
     (subst (λ f. SessionLeaves f closed (taken_events c.new-session.result.inbox) (received ends.inbox)
-    (g.L.Loader.loaded c.new-session.result.loader.now) (g.L.Loader.loaded c.in-Ok-done.loader.now)
+    (g.L.Loader.loaded c.new-session.result.loader.now) (g.L.Loader.loaded c.in-Ok.loader.now)
     (ports (put_frames c.new-session.result.outbox) (pushed_orders c.new-session.result.orders))
     (messages_put ends.outbox) (pushed_orders ends.orders)) given_to.first s.5) in
     let lent : SessionLeaves c.args.first closed [] (received ends.inbox) (g.L.Loader.loaded c.args.loader.now)
-    (g.L.Loader.loaded c.in-Ok-done.loader.now)
+    (g.L.Loader.loaded c.in-Ok.loader.now)
     (ports (put_frames c.new-session.result.outbox) (pushed_orders c.new-session.result.orders))
     (messages_put ends.outbox) (pushed_orders ends.orders) =
     subst (λ l. SessionLeaves c.args.first closed [] (received ends.inbox) (g.L.Loader.loaded l)
-    (g.L.Loader.loaded c.in-Ok-done.loader.now)
+    (g.L.Loader.loaded c.in-Ok.loader.now)
     (ports (put_frames c.new-session.result.outbox) (pushed_orders c.new-session.result.orders))
     (messages_put ends.outbox) (pushed_orders ends.orders)) given_to.loader fresh in
     let session : SessionLeaves c.args.first closed [] (received ends.inbox) (g.L.Loader.loaded c.args.loader.now)
-    (g.L.Loader.loaded c.in-Ok-done.loader.now) nothing_sent (messages_put ends.outbox) (pushed_orders ends.orders) =
+    (g.L.Loader.loaded c.in-Ok.loader.now) nothing_sent (messages_put ends.outbox) (pushed_orders ends.orders) =
     subst (λ p. SessionLeaves c.args.first closed [] (received ends.inbox) (g.L.Loader.loaded c.args.loader.now)
-    (g.L.Loader.loaded c.in-Ok-done.loader.now) p (messages_put ends.outbox) (pushed_orders ends.orders)) ports_are
+    (g.L.Loader.loaded c.in-Ok.loader.now) p (messages_put ends.outbox) (pushed_orders ends.orders)) ports_are
     lent in
-    let client : client_events c.in-Ok-done.client ≡ i.2.0 =
-    i.2.1 ∙ ap (λ l. l ++ i.2.0) (ap client_events c.new-reader.ensures.inbox ∙ c.in-Ok.ensures.client.0) in
-    let taken : messages_received c.in-Ok-done.written ≡ w.3.0 =
-    w.3.1 ∙ ap (λ l. l ++ w.3.0) (ap messages_taken c.new-writer.ensures.outbox ∙ c.in-Ok-outbox.ensures.messages)
+    let client : client_events c.in-Ok.client ≡ i.2.0 =
+    i.2.1 ∙ ap (λ l. l ++ i.2.0) (ap client_events c.new-reader.ensures.inbox ∙ c.requires.unused.client) in
+    let taken : messages_received c.in-Ok.written ≡ w.3.0 =
+    w.3.1 ∙ ap (λ l. l ++ w.3.0) (ap messages_taken c.new-writer.ensures.outbox ∙ c.requires.unused.messages)
     in
     let read =
-    subst (λ x. IsReadUntil c.in-Ok-done.field-0-2-2 i.2.0 (supply (g.I.Source.left x) (g.I.Source.failures x))
-    (supply (g.I.Source.left c.in-Ok-done.input.now) (g.I.Source.failures c.in-Ok-done.input.now)))
+    subst (λ x. IsReadUntil c.in-Ok.field-0-2-2 i.2.0 (supply (g.I.Source.left x) (g.I.Source.failures x))
+    (supply (g.I.Source.left c.in-Ok.input.now) (g.I.Source.failures c.in-Ok.input.now)))
     c.new-reader.ensures.input i.2.2 in
     let written =
-    subst (λ x. IsWrittenUntil c.in-Ok-done.wrote w.3.0 (output_at (g.O.Sink.written x) (g.O.Sink.failures x))
-    (output_at (g.O.Sink.written c.in-Ok-done.output.now) (g.O.Sink.failures c.in-Ok-done.output.now)))
+    subst (λ x. IsWrittenUntil c.in-Ok.wrote w.3.0 (output_at (g.O.Sink.written x) (g.O.Sink.failures x))
+    (output_at (g.O.Sink.written c.in-Ok.output.now) (g.O.Sink.failures c.in-Ok.output.now)))
     c.new-writer.ensures.output w.3.2 in
     let four : (pushed_orders ends.orders).fulls ≢ 0 → FourWerePushed (pushed_orders ends.orders).orders = facts.9 in
-    let passed : g.G.Gate.passed c.in-Ok-done.gate.now ≡ g.G.Gate.passed c.args.gate.now ++ flat_map passed_in r.3.0 =
+    let passed : g.G.Gate.passed c.in-Ok.gate.now ≡ g.G.Gate.passed c.args.gate.now ++ flat_map passed_in r.3.0 =
     r.3.4 ∙ ap (λ x. g.G.Gate.passed x ++ flat_map passed_in r.3.0) c.new-runner.ensures.gate in
     let before : World =
     world (g.L.Loader.loaded c.args.loader.now) (g.G.Gate.passed c.args.gate.now)
     (streams (g.I.Source.left c.args.input.now) (g.I.Source.failures c.args.input.now)
     (g.O.Sink.written c.args.output.now) (g.O.Sink.failures c.args.output.now)) in
     let after : World =
-    world (g.L.Loader.loaded c.in-Ok-done.loader.now) (g.G.Gate.passed c.in-Ok-done.gate.now)
-    (streams (g.I.Source.left c.in-Ok-done.input.now) (g.I.Source.failures c.in-Ok-done.input.now)
-    (g.O.Sink.written c.in-Ok-done.output.now) (g.O.Sink.failures c.in-Ok-done.output.now)) in
-    let driven : TasksEnd c.args.first c.in-Ok-done.wrote closed before after =
-    gathers c.args.first c.in-Ok-done.wrote closed before after (received ends.inbox) (messages_put ends.outbox)
-    (pushed_orders ends.orders) _ i.2.0 r.3.0 _ (taken_orders c.in-Ok-done.taken) w.3.0
+    world (g.L.Loader.loaded c.in-Ok.loader.now) (g.G.Gate.passed c.in-Ok.gate.now)
+    (streams (g.I.Source.left c.in-Ok.input.now) (g.I.Source.failures c.in-Ok.input.now)
+    (g.O.Sink.written c.in-Ok.output.now) (g.O.Sink.failures c.in-Ok.output.now)) in
+    let driven : TasksEnd c.args.first c.in-Ok.wrote closed before after =
+    gathers c.args.first c.in-Ok.wrote closed before after (received ends.inbox) (messages_put ends.outbox)
+    (pushed_orders ends.orders) _ i.2.0 r.3.0 _ (taken_orders c.in-Ok.taken) w.3.0
     session read
     (subst (λ l. IsPrefixOf (from_client (received ends.inbox)) l) client inbox_client)
     r.3.1 r.3.2 r.3.3
     orders_taken four inbox_reports passed written
     (subst (λ l. IsPrefixOf l (messages_put ends.outbox)) taken outbox_taken) in
-    tasks_ended c.in-Ok-done.wrote closed answer (rw (input, output, loader, gate) at driven)
+    tasks_ended c.in-Ok.wrote closed answer (rw (input, output, loader, gate) at driven)
 
 pub run_beside-done-requires-send-T : goal.run_beside-done-requires-send-T
 run_beside-done-requires-send-T g c κs within =

@@ -1,0 +1,20 @@
+use Rattle.std.proofs.Common.{[], refl, inl, inr, rules}
+use Rattle.adapter.proofs.program.run_given.Goals as goal
+
+pub returns-in_default : goal.returns-in_default
+returns-in_default g c = (
+  [],
+  record {
+    performs = inr (inr (inr (refl, inr c.end_with.ensures.reason, refl)));
+    reports = c.end_with.ensures.reports;
+  },
+)
+
+pub returns-in_default-texts : goal.returns-in_default-texts
+returns-in_default-texts g c = (
+  [],
+  record {
+    performs = inr (inr (inr (refl, inr c.end_with-in_default-texts.ensures.reason, refl)));
+    reports = c.end_with-in_default-texts.ensures.reports;
+  },
+)
