@@ -4,6 +4,7 @@
 #![tactic(auto)]
 
 use adapter::{FileLoader, FirstSeq, Reading, Writing, execute, run};
+use std::env;
 
 /// Files that are checked: each has a listing, or else a fault, or isn't there.
 const FILES: [&str; 11] = [
@@ -26,7 +27,8 @@ fn main(rt: HostRuntime) -> Result<(), anyhow::Error> {
     let output = &mut Writing::new(&rt, rt.stdout());
     let errors = &mut Writing::new(&rt, rt.stdout());
     println!(rt; "two.pl0:")?;
-    let reason = run(&rt, FirstSeq::One, input, output, errors);
+    let given = env::args(&rt);
+    let reason = run(&rt, FirstSeq::One, given, input, output, errors);
     println!(rt; "status {}", reason.status())?;
     let mut files = FileLoader::new(&rt, rt.alloc());
     for file in FILES {
