@@ -1,18 +1,14 @@
 -- Lines written one after another.
-use Rattle.std.proofs.Common.{◌≡◌, ℕ, suc, ◌+◌, ◌<◌, ◌≤◌, List, [], ◌∷◌, ◌++◌, drop, get_or, length, slice_get, Option, refl, sym, ap, ◌∙◌, arith, append_assoc, append-nil, drop-cons}
+use Rattle.std.proofs.Common.{◌≡◌, ℕ, ◌+◌, ◌<◌, ◌≤◌, List, [], ◌∷◌, ◌++◌, drop, get_or, length, slice_get, Option, refl, sym, ap, ◌∙◌, append_assoc, append-nil}
 use Rattle.std.proofs.Math.Logic.{∥∥₁_elim}
 use Rattle.std.specs.Coded.{codes}
-use Rattle.std.proofs.lemmas.List.{drop_all}
+use Rattle.std.proofs.lemmas.List.{drop_all, drop_more}
 use Rattle.pl0_tree.specs.declared.step.Step.{Step}
 use Rattle.pl0_tree.specs.Tree.{Block}
 use Rattle.pl0_tree.specs.Steps.{StepAt, AreSteps, steps}
 use Rattle.pl0_unit.specs.declared.instruction.Instruction.{Instruction}
 use Rattle.pl0_unit.specs.Code.{IsUnitOf}
 use Rattle.adapter.specs.Listing.{lines_from, step_line, instruction_line, begun_by, line_feed, listing_text}
-
-drop_item : {A : Type 0} (xs : List A) (i : ℕ) (d : A) → i < length xs → drop i xs ≡ get_or xs i d ∷ drop (i + 1) xs
-drop_item xs i d inside =
-    drop-cons xs i d inside ∙ ap (λ n. get_or xs i d ∷ drop n xs) (let same : suc i ≡ i + 1 = omega arith in same)
 
 -- what was written and the lines of the items that are left are the whole text
 pub lines_next : {A : Type 0} (line : ℕ → A → List ℕ) (xs : List A) (n : ℕ) (d : A) (old new whole : List ℕ)
@@ -22,7 +18,7 @@ pub lines_next : {A : Type 0} (line : ℕ → A → List ℕ) (xs : List A) (n :
 lines_next line xs n d old new whole inside wrote before =
     ap (λ t. t ++ lines_from line (n + 1) (drop (n + 1) xs)) wrote
     ∙ append_assoc old (line n (get_or xs n d)) (lines_from line (n + 1) (drop (n + 1) xs))
-    ∙ ap (λ l. old ++ lines_from line n l) (sym (drop_item xs n d inside))
+    ∙ ap (λ l. old ++ lines_from line n l) (sym (drop_more xs n d inside))
     ∙ before
 
 pub lines_end : {A : Type 0} (line : ℕ → A → List ℕ) (xs : List A) (n : ℕ) (old whole : List ℕ) → length xs ≤ n

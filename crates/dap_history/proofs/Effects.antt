@@ -58,7 +58,8 @@ one_resolved main asked none = by_step_from (step_from main asked.line) refl
                           is,
                           c,
                           λ (m : HasMessageAt main n (string_bytes asked.log_message)).
-                              none (At n) (record { step = n; condition = c.condition; rule = r.rule; message = m.message } ∷ []) (
+                              none (At n)
+                              (record { step = n; condition = c.condition; rule = r.rule; message = m.message } ∷ []) (
                                 is,
                                 (
                                   record { step = n; condition = c.condition; rule = r.rule; message = m.message },

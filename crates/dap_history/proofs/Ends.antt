@@ -38,11 +38,6 @@ exit_of _ = None
 abbrev exits : List EventBody → List ℕ
 exits events = filter_map exit_of events
 
-output_exits_not : (e : EventBody) → IsOutput e → exit_of e ≡ None
-output_exits_not (event.Output v) is = refl
-output_exits_not (event.Log text) is = refl
-output_exits_not _ is = absurd is
-
 outputs_exit_not : (es : List EventBody) → All IsOutput es → exits es ≡ []
 outputs_exit_not [] all = refl
 outputs_exit_not (event.Output v ∷ es) all =
@@ -334,7 +329,8 @@ module _ (one : OneProgram) (joins : WrittenJoins) where
             from = by.from;
             goes = by.goes;
             over = ap (λ p. at p r.end)
-                (sym (report_program one joins past r lawful l accepts (kept.0.so_far.progress (Some l) there))) ∙ over.1;
+                (sym (report_program one joins past r lawful l accepts (kept.0.so_far.progress (Some l) there)))
+                ∙ over.1;
             on = omega (arith, from, over.0);
             nowhere = λ k above below.
                 nowhere l run by.asked by.from

@@ -11,7 +11,7 @@ use Rattle.dap_frame.specs.declared.fault.FramingFault.{FramingFault}
 use Rattle.dap_server.specs.Requests.{Request, IsReadAs, request_of, is_request, seq_of, command_of}
 use Rattle.dap_server.specs.Messages.{PlainReply, messages, frames_of, Adds}
 use Rattle.dap_server.specs.Conversation.{State, state, Replies, Conversation, Progress, Answers, Turns}
-use Rattle.dap_server.specs.Serving.{LacksNumbers, IsLeftTo, FailsAt, FailsIn, IsDone, Breaks, Failures, HasFailed, Unmade}
+use Rattle.dap_server.specs.Serving.{IsLeftTo, FailsAt, FailsIn, IsDone, Breaks, Failures, HasFailed}
 use Rattle.dap_server.specs.declared.ending.ServeFault.{ServeFault}
 use Rattle.dap_server.specs.declared.ending.ServeFault.TheVariants as fault
 use Rattle.dap_server.proofs.Adding.{frames_of-append}
@@ -92,34 +92,6 @@ answered {S} replies a d seq name arguments reply adapter next bytes W typed num
       };
       written = subst W adds.bytes_are wrote;
     })
-
--- the adapter was asked, and found no memory
-pub asked : {S : Type 0} (a : State S) (d : Data) (seq : ℕ) (name : List ℕ) (arguments : Option Data) (adapter : S)
-    → is_request d ≡ true → Some seq ≡ seq_of d → Some name ≡ command_of d → arguments ≡ get (codes "arguments") d
-    → IsLeftTo a (request_of d) adapter
-asked a d seq name arguments adapter typed numbered named given =
-    subst (λ r. IsLeftTo a r adapter) (sym (by_parts d seq name arguments typed numbered named given)) tt
-
--- the adapter has replied, and the messages can't be made
-pub unmade : {S : Type 0} (f : ServeFault) (replies : Replies S) (a : State S) (d : Data) (seq : ℕ) (name : List ℕ)
-    (arguments : Option Data) (reply : PlainReply) (adapter : S) (written : Option (List ℕ))
-    → is_request d ≡ true → Some seq ≡ seq_of d → Some name ≡ command_of d → arguments ≡ get (codes "arguments") d
-    → replies a.adapter name arguments reply adapter
-    → Unmade f (a.next + length (messages seq name reply a.next))
-    → FailsAt f replies a (request_of d) adapter written written
-unmade fault.Input replies a d seq name arguments reply adapter written typed numbered named given replied is =
-    absurd is
-unmade fault.Output replies a d seq name arguments reply adapter written typed numbered named given replied is =
-    absurd is
-unmade (fault.Framing f) replies a d seq name arguments reply adapter written typed numbered named given replied is =
-    absurd is
-unmade fault.NoMemory replies a d seq name arguments reply adapter written typed numbered named given replied is =
-    (asked a d seq name arguments adapter typed numbered named given, refl)
-unmade fault.NoSeq replies a d seq name arguments reply adapter written typed numbered named given replied is = (
-  subst (λ r. LacksNumbers replies a r adapter) (sym (by_parts d seq name arguments typed numbered named given))
-      (reply, replied, is),
-  refl,
-)
 
 -- a content that is read as a value is the request that the value is, or none
 pub turns : {S : Type 0} (replies : Replies S) (a b : State S) (content : List ℕ) (d : Data) (W : List ℕ → Type 0)

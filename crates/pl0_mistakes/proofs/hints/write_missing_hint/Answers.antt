@@ -1,13 +1,14 @@
 use Rattle.std.proofs.Common.{◌∙◌, sym}
+use Rattle.std.proofs.lemmas.Bool.{cond-true, cond-false}
 use Rattle.pl0_mistakes.specs.Scenes.{plain}
 use Rattle.pl0_mistakes.specs.Hints.{missing_hint}
-use Rattle.pl0_mistakes.proofs.Choosing.{yes, no, written}
+use Rattle.pl0_mistakes.proofs.Choosing.{written}
 use Rattle.pl0_mistakes.proofs.hints.write_missing_hint.Goals as goal
 
 pub returns-then-has_fraction : goal.returns-then-has_fraction
 returns-then-has_fraction c =
     let fraction = sym c.has_fraction.ensures ∙ c.if-has_fraction.true in
-    written c.write.result _ c.args.line.now.items (missing_hint (plain c.args.scene)) _ (yes _ _ fraction)
+    written c.write.result _ c.args.line.now.items (missing_hint (plain c.args.scene)) _ (cond-true _ _ _ fraction)
     c.write.ensures
 
 pub returns-then-lacks_end : goal.returns-then-lacks_end
@@ -16,7 +17,7 @@ returns-then-lacks_end c =
     let final = sym c.is_final.ensures ∙ c.if-is_final.false in
     let lacks_end = sym c.lacks_end.ensures ∙ c.if-lacks_end.true in
     written c.write-then-lacks_end.result _ c.args.line.now.items (missing_hint (plain c.args.scene)) _
-    (no _ _ fraction ∙ (no _ _ final ∙ yes _ _ lacks_end)) c.write-then-lacks_end.ensures
+    (cond-false _ _ _ fraction ∙ (cond-false _ _ _ final ∙ cond-true _ _ _ lacks_end)) c.write-then-lacks_end.ensures
 
 pub returns-then-lacks_semicolon : goal.returns-then-lacks_semicolon
 returns-then-lacks_semicolon c =
@@ -25,7 +26,8 @@ returns-then-lacks_semicolon c =
     let lacks_end = sym c.lacks_end.ensures ∙ c.if-lacks_end.false in
     let lacks_semicolon = sym c.lacks_semicolon.ensures ∙ c.if-lacks_semicolon.true in
     written c.write-then-lacks_semicolon.result _ c.args.line.now.items (missing_hint (plain c.args.scene)) _
-    (no _ _ fraction ∙ (no _ _ final ∙ (no _ _ lacks_end ∙ yes _ _ lacks_semicolon)))
+    (cond-false _ _ _ fraction
+    ∙ (cond-false _ _ _ final ∙ (cond-false _ _ _ lacks_end ∙ cond-true _ _ _ lacks_semicolon)))
     c.write-then-lacks_semicolon.ensures
 
 pub returns-then-lacks_call : goal.returns-then-lacks_call
@@ -36,5 +38,7 @@ returns-then-lacks_call c =
     let lacks_semicolon = sym c.lacks_semicolon.ensures ∙ c.if-lacks_semicolon.false in
     let lacks_call = sym c.lacks_call.ensures ∙ c.if-lacks_call.true in
     written c.write_around.result _ c.args.line.now.items (missing_hint (plain c.args.scene)) _
-    (no _ _ fraction ∙ (no _ _ final ∙ (no _ _ lacks_end ∙ (no _ _ lacks_semicolon ∙ yes _ _ lacks_call))))
+    (cond-false _ _ _ fraction
+    ∙ (cond-false _ _ _ final
+    ∙ (cond-false _ _ _ lacks_end ∙ (cond-false _ _ _ lacks_semicolon ∙ cond-true _ _ _ lacks_call))))
     c.write_around.ensures
