@@ -19,6 +19,7 @@ ghost use Rattle.adapter.specs.Jobs.{SessionLeaves};
 
 use crate::gates::{Gated, OpenGate};
 use crate::tasks::{LastTask, Task};
+use crate::wires::Wires;
 use byte_streams::{Sink, Source};
 use dap_session::{Closed, FirstSeq, Loader, Order, Orders, SessionFault, drive_from};
 use dap_wires::{
@@ -296,4 +297,54 @@ impl<'a, L: Loader, R: Wait + Drop> LastTask for SessionTask<'a, L, R> {
         let _ = orders.push(Order::Quit);
         loader
     }
+}
+
+/// Makes the tasks of the writer, the runner, the reader and the session, each with the ends of the queues that it needs.
+pub fn tasks_over<'a, R: Wait + Copy + Drop, I, O, L, G>(
+    rt: R,
+    alloc: Global,
+    first: FirstSeq,
+    wires: Wires<R>,
+    input: &'a mut I,
+    output: &'a mut O,
+    loader: &'a mut L,
+    gate: &'a mut G,
+) -> (
+    WriterTask<'a, O, R>,
+    RunnerTask<'a, G, R>,
+    ReaderTask<'a, I, R>,
+    SessionTask<'a, L, R>,
+)
+    ensures same_output { result.0.output.ghost_name ≡ output.entry.ghost_name }
+    ensures output { result.0.output.now ≡ output.old }
+    ensures outbox { result.0.outbox ≡ wires.messages }
+    ensures taken { result.1.orders ≡ wires.taken }
+    ensures reports { result.1.reports ≡ wires.reports }
+    ensures same_gate { result.1.gate.ghost_name ≡ gate.entry.ghost_name }
+    ensures gate { result.1.gate.now ≡ gate.old }
+    ensures same_input { result.2.input.ghost_name ≡ input.entry.ghost_name }
+    ensures input { result.2.input.now ≡ input.old }
+    ensures client { result.2.inbox ≡ wires.client }
+    ensures first { result.3.first ≡ first }
+    ensures same_loader { result.3.loader.ghost_name ≡ loader.entry.ghost_name }
+    ensures loader { result.3.loader.now ≡ loader.old }
+    ensures events { result.3.inbox ≡ wires.events }
+    ensures frames { result.3.outbox ≡ wires.frames }
+    ensures pushed { result.3.orders ≡ wires.pushed }
+{
+    let Wires {
+        client,
+        taken,
+        reports,
+        events,
+        frames,
+        pushed,
+        messages,
+    } = wires;
+    (
+        WriterTask::new(rt, output, messages),
+        RunnerTask::new(rt, alloc, taken, reports, gate),
+        ReaderTask::new(rt, alloc, input, client),
+        SessionTask::new(rt, alloc, first, loader, events, frames, pushed),
+    )
 }

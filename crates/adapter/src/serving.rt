@@ -5,7 +5,7 @@ ghost use Rattle.std.specs.Prelude.{◌≡◌};
 ghost use Rattle.adapter.specs.Serving.{streams, world, outcome_of, IsServed};
 ghost use Rattle.adapter.specs.Wires.{AreUnused, AreJoined};
 
-use crate::jobs::{ReaderTask, RunnerTask, SessionTask, WriterTask};
+use crate::jobs::tasks_over;
 use crate::tasks::run_beside;
 use crate::telling::{Deaf, EndListener, Telling, tell};
 use crate::wires::{Wires, make_wires, reconcile};
@@ -151,17 +151,8 @@ where
         (streams (I.left input.new) (I.failures input.new) (O.written output.new) (O.failures output.new))) }
     ensures told { E.tells listener.old listener.new result }
 {
-    let writer = WriterTask::new(*rt, output, wires.messages);
-    let runner = RunnerTask::new(*rt, alloc, wires.taken, wires.reports, gate);
-    let reader = ReaderTask::new(*rt, alloc, input, wires.client);
-    let session = SessionTask::new(
-        *rt,
-        alloc,
-        first,
-        loader,
-        wires.events,
-        wires.frames,
-        wires.pushed,
+    let (writer, runner, reader, session) = tasks_over(
+        *rt, alloc, first, wires, input, output, loader, gate,
     );
     // The reader is started last, since nothing can wake it from a read.
     let done = run_beside(rt, writer, runner, reader, session, Telling::new(listener));

@@ -55,38 +55,38 @@ returns-in-Ok-clause-served g c =
     let r = c.in-Ok.ensures.ok.1 in
     let i = c.in-Ok.ensures.ok.2 in
     let s = c.in-Ok.ensures.ok.3 in
-    let given_to = c.new-session.ensures in
-    let events : taken_events c.new-session.result.inbox ≡ [] =
-    ap taken_events given_to.inbox ∙ c.requires.unused.events in
-    let frames : put_frames c.new-session.result.outbox ≡ record { frames = []; refused = [] } =
-    ap put_frames given_to.outbox ∙ c.requires.unused.frames in
-    let orders : pushed_orders c.new-session.result.orders ≡ record { orders = []; fulls = 0; refusals = 0 } =
-    ap pushed_orders given_to.orders ∙ c.requires.unused.pushed in
-    let ports_are : ports (put_frames c.new-session.result.outbox)
-    (pushed_orders c.new-session.result.orders) ≡ nothing_sent =
-    ap (λ w. ports w (pushed_orders c.new-session.result.orders)) frames
+    let given_to = c.tasks_over-writer.ensures in
+    let events : taken_events c.tasks_over-writer.result.3.inbox ≡ [] =
+    ap taken_events given_to.events ∙ c.requires.unused.events in
+    let frames : put_frames c.tasks_over-writer.result.3.outbox ≡ record { frames = []; refused = [] } =
+    ap put_frames given_to.frames ∙ c.requires.unused.frames in
+    let orders : pushed_orders c.tasks_over-writer.result.3.orders ≡ record { orders = []; fulls = 0; refusals = 0 } =
+    ap pushed_orders given_to.pushed ∙ c.requires.unused.pushed in
+    let ports_are : ports (put_frames c.tasks_over-writer.result.3.outbox)
+    (pushed_orders c.tasks_over-writer.result.3.orders) ≡ nothing_sent =
+    ap (λ w. ports w (pushed_orders c.tasks_over-writer.result.3.orders)) frames
     ∙ ap (λ o. ports (record { frames = []; refused = [] }) o) orders in
     let fresh : SessionLeaves c.args.first closed [] (received ends.inbox)
-    (g.L.Loader.loaded c.new-session.result.loader.now)
+    (g.L.Loader.loaded c.tasks_over-writer.result.3.loader.now)
     (g.L.Loader.loaded c.in-Ok.loader.now)
-    (ports (put_frames c.new-session.result.outbox) (pushed_orders c.new-session.result.orders))
+    (ports (put_frames c.tasks_over-writer.result.3.outbox) (pushed_orders c.tasks_over-writer.result.3.orders))
     (messages_put ends.outbox) (pushed_orders ends.orders) =
     subst (λ given. SessionLeaves c.args.first closed given (received ends.inbox)
-    (g.L.Loader.loaded c.new-session.result.loader.now)
+    (g.L.Loader.loaded c.tasks_over-writer.result.3.loader.now)
     (g.L.Loader.loaded c.in-Ok.loader.now)
-    (ports (put_frames c.new-session.result.outbox) (pushed_orders c.new-session.result.orders))
+    (ports (put_frames c.tasks_over-writer.result.3.outbox) (pushed_orders c.tasks_over-writer.result.3.orders))
     (messages_put ends.outbox) (pushed_orders ends.orders)) events
-    (subst (λ f. SessionLeaves f closed (taken_events c.new-session.result.inbox) (received ends.inbox)
-    (g.L.Loader.loaded c.new-session.result.loader.now) (g.L.Loader.loaded c.in-Ok.loader.now)
-    (ports (put_frames c.new-session.result.outbox) (pushed_orders c.new-session.result.orders))
+    (subst (λ f. SessionLeaves f closed (taken_events c.tasks_over-writer.result.3.inbox) (received ends.inbox)
+    (g.L.Loader.loaded c.tasks_over-writer.result.3.loader.now) (g.L.Loader.loaded c.in-Ok.loader.now)
+    (ports (put_frames c.tasks_over-writer.result.3.outbox) (pushed_orders c.tasks_over-writer.result.3.orders))
     (messages_put ends.outbox) (pushed_orders ends.orders)) given_to.first s.5) in
     let lent : SessionLeaves c.args.first closed [] (received ends.inbox) (g.L.Loader.loaded c.args.loader.now)
     (g.L.Loader.loaded c.in-Ok.loader.now)
-    (ports (put_frames c.new-session.result.outbox) (pushed_orders c.new-session.result.orders))
+    (ports (put_frames c.tasks_over-writer.result.3.outbox) (pushed_orders c.tasks_over-writer.result.3.orders))
     (messages_put ends.outbox) (pushed_orders ends.orders) =
     subst (λ l. SessionLeaves c.args.first closed [] (received ends.inbox) (g.L.Loader.loaded l)
     (g.L.Loader.loaded c.in-Ok.loader.now)
-    (ports (put_frames c.new-session.result.outbox) (pushed_orders c.new-session.result.orders))
+    (ports (put_frames c.tasks_over-writer.result.3.outbox) (pushed_orders c.tasks_over-writer.result.3.orders))
     (messages_put ends.outbox) (pushed_orders ends.orders)) given_to.loader fresh in
     let session : SessionLeaves c.args.first closed [] (received ends.inbox) (g.L.Loader.loaded c.args.loader.now)
     (g.L.Loader.loaded c.in-Ok.loader.now) nothing_sent (messages_put ends.outbox) (pushed_orders ends.orders) =
@@ -94,21 +94,21 @@ returns-in-Ok-clause-served g c =
     (g.L.Loader.loaded c.in-Ok.loader.now) p (messages_put ends.outbox) (pushed_orders ends.orders)) ports_are
     lent in
     let client : client_events c.in-Ok.client ≡ i.2.0 =
-    i.2.1 ∙ ap (λ l. l ++ i.2.0) (ap client_events c.new-reader.ensures.inbox ∙ c.requires.unused.client) in
+    i.2.1 ∙ ap (λ l. l ++ i.2.0) (ap client_events c.tasks_over-writer.ensures.client ∙ c.requires.unused.client) in
     let taken : messages_received c.in-Ok.written ≡ w.3.0 =
-    w.3.1 ∙ ap (λ l. l ++ w.3.0) (ap messages_taken c.new-writer.ensures.outbox ∙ c.requires.unused.messages)
+    w.3.1 ∙ ap (λ l. l ++ w.3.0) (ap messages_taken c.tasks_over-writer.ensures.outbox ∙ c.requires.unused.messages)
     in
     let read =
     subst (λ x. IsReadUntil c.in-Ok.field-0-2-2 i.2.0 (supply (g.I.Source.left x) (g.I.Source.failures x))
     (supply (g.I.Source.left c.in-Ok.input.now) (g.I.Source.failures c.in-Ok.input.now)))
-    c.new-reader.ensures.input i.2.2 in
+    c.tasks_over-writer.ensures.input i.2.2 in
     let written =
     subst (λ x. IsWrittenUntil c.in-Ok.wrote w.3.0 (output_at (g.O.Sink.written x) (g.O.Sink.failures x))
     (output_at (g.O.Sink.written c.in-Ok.output.now) (g.O.Sink.failures c.in-Ok.output.now)))
-    c.new-writer.ensures.output w.3.2 in
+    c.tasks_over-writer.ensures.output w.3.2 in
     let four : (pushed_orders ends.orders).fulls ≢ 0 → FourWerePushed (pushed_orders ends.orders).orders = facts.9 in
     let passed : g.G.Gate.passed c.in-Ok.gate.now ≡ g.G.Gate.passed c.args.gate.now ++ flat_map passed_in r.3.0 =
-    r.3.4 ∙ ap (λ x. g.G.Gate.passed x ++ flat_map passed_in r.3.0) c.new-runner.ensures.gate in
+    r.3.4 ∙ ap (λ x. g.G.Gate.passed x ++ flat_map passed_in r.3.0) c.tasks_over-writer.ensures.gate in
     let before : World =
     world (g.L.Loader.loaded c.args.loader.now) (g.G.Gate.passed c.args.gate.now)
     (streams (g.I.Source.left c.args.input.now) (g.I.Source.failures c.args.input.now)
