@@ -23,7 +23,7 @@ refusal message = record { outcome = Err message; events = [] }
 
 -- In what follows `stood` says whether the program was stopped before the request, and `stands` whether it is after it.
 
--- a refusal changes nothing
+-- a refusal, after which the program stands as before
 abbrev pub IsRefused : Bool → PlainReply → Bool → Type 0
 IsRefused stood reply stands = ((message : List ℕ) × (reply ≡ refusal message)) × (stands ≡ stood)
 

@@ -2,15 +2,12 @@
 
 use crate::machine::Machine;
 use crate::parsing::{Parsed, parse};
-use byte_streams::{IoFault, Reading, Source};
+use byte_streams::{BEGINNING_LIMIT, ReadFault, Reading, read_beginning};
 use serde_json::Value;
 use std::alloc::{AllocError, Global};
 use std::fs;
 use std::rt::{Clock, Files};
 use std::sync::Wait;
-
-/// The most bytes of a program.
-const MOST: usize = 65_536;
 
 /// What became of a launch.
 #[derive(Drop)]
@@ -71,21 +68,11 @@ fn bytes_of<R: Wait + Files + Clock>(
     let Ok(file) = fs::open(rt, path) else {
         return Ok(None);
     };
-    let mut source = Reading::new(rt, file);
-    let mut bytes = Vec::new(alloc);
-    let mut room = [0; 4096];
-    for _ in rt.forever() {
-        match source.read(&mut room) {
-            Ok(0) => return Ok(Some(bytes)),
-            Ok(count) => bytes.extend_from_slice(room.split_at(count).0)?,
-            Err(IoFault::Interrupted) => {}
-            Err(IoFault::Failed) => return Ok(None),
-        }
-        if bytes.len() > MOST {
-            return Ok(None);
-        }
+    match read_beginning(rt, alloc, &mut Reading::new(rt, file)) {
+        Ok(bytes) if bytes.len() < BEGINNING_LIMIT => Ok(Some(bytes)),
+        Ok(_) | Err(ReadFault::CannotRead) => Ok(None),
+        Err(ReadFault::NoMemory) => Err(AllocError),
     }
-    unreachable!()
 }
 
 /// Returns a text among the arguments.
