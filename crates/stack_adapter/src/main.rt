@@ -10,7 +10,7 @@
 //! | `stackTrace`, `scopes`, `variables`, `evaluate` | the calls that are alive, and the variables, where the program is stopped |
 //! | `disconnect` | ends the session |
 //!
-//! It refuses all else as `unsupported`. A program runs while its request is answered, for 1,000,000 steps at most, and stops
+//! It refuses all else as `unsupported`. A program runs while its request is answered, for 100,000 steps at most, and stops
 //! then with the reason `pause`; so a `pause` can't come meanwhile. `program.rt` has the language.
 //!
 //! What it promises of its replies is `Replies` in `specs/Promises.antt`; docs/YOUR_OWN_ADAPTER.md explains it.
