@@ -174,7 +174,7 @@ fn pauses_a_program_that_prints(rt: HostRuntime) {
     let (between, _) = after
         .split_once("\"event\":\"stopped\"")
         .expect(&rt, "a stop");
-    assert!(rt; outputs(before) + outputs(between) > 0, "no output");
+    assert!(rt; outputs(before) > 0 || outputs(between) > 0, "no output");
     assert!(rt; outputs(before) <= MOST_OUTPUTS, "{}", outputs(before));
     assert!(rt; outputs(between) <= MOST_OUTPUTS, "{}", outputs(between));
 }
