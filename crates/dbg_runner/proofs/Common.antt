@@ -22,7 +22,7 @@ pub use Rattle.dbg_runner.specs.Retreating.{GoesOnBack, heading_back, IsRoomFor,
 pub use Rattle.dbg_runner.specs.Rooms.{IsRoomOf, Room, slice_limit}
 pub use Rattle.dbg_runner.specs.Runner.{Act, begun, Does, Ended, finds_go, finds_hold, finds_none, finds_quit, finds_vain_hold, goes_on, Going, HandedBack, has_none_to_hold, Holding, holds, Idle, is_refused, is_refused_held, IsOfHold, IsOfNextSlice, Leads, Looked, Looking, onward, Passed, passes, quits, Ready, Runner, RunsAgain, Sent, Slicing, StandsIn, stops, takes_go, Waited, Worked}
 pub use Rattle.dbg_runner.specs.Slices.{IsNextBackOf, IsNextOf, IsOfSlice, IsSliceOf}
-pub use Rattle.dbg_runner.specs.Steps.{ending, ending_by, IsWritten, BeginsSlice, runs, stays, TookSteps}
+pub use Rattle.dbg_runner.specs.Steps.{ending, ending_by, IsWritten, RanFurther, TookSteps}
 pub use Rattle.dbg_runner.specs.Turns.{going, heading_of_course, held_at, held_in, stands_at}
 pub use Rattle.dbg_runner.specs.declared.outcome.SliceOutcome.{SliceOutcome}
 pub use Rattle.dbg_runner.specs.declared.retreat.Way.TheVariants.{Returns, Searches}

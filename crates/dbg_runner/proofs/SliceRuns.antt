@@ -1,36 +1,21 @@
--- How a slice begins: with a run, or with no step.
-use Rattle.dbg_runner.proofs.Common.{[], Advance, Advanced, ap, arith, Closes, considered_at, Debugged, Done, ending, ending_by, Fault, IsConsidered, IsOfSlice, IsRoomOf, IsWritten, last_position, List, Log, Mode, None, Option, option_and_then, debugged_program, RanFrom, BeginsSlice, refl, Room, runs, slice_limit, sliced, SliceOutcome, Some, StandsAtEnd, stays, subst, suc, sym, To, TookSteps, written, written_before, written_from, zero, ℕ, ℤ, ◌+◌, ◌-◌, ◌∙◌, ◌∷◌, ◌≡◌, ◌≤◌}
+-- What the steps of a slice leave: one by one, or by runs of the debuggee.
+use Rattle.dbg_runner.proofs.Common.{[], Advance, Advanced, ap, arith, back_if, Closes, considered_at, counts_from, Debugged, Done, ending, ending_by, false, Fault, goes_back, IsConsidered, IsOfSlice, IsRoomOf, IsWritten, List, Log, Mode, None, Option, option_and_then, debugged_program, RanFurther, refl, Room, slice_limit, sliced, SliceOutcome, Some, StandsAtEnd, stopped, subst, suc, sym, To, TookSteps, written, written_before, written_from, zero, ℕ, ℤ, ◌+◌, ◌-◌, ◌<◌, ◌∙◌, ◌∷◌, ◌≡◌, ◌≤◌}
 use Rattle.dbg_plan.specs.declared.mode.Mode.TheVariants.{Continue}
 use Rattle.dbg_plan.proofs.Unwatched.{not_due, nothing_logged}
 use Rattle.dbg_runner.specs.declared.outcome.SliceOutcome.TheVariants as out
-use Rattle.dbg_runner.proofs.SliceSteps.{Underway, nothing_more, goes, ended}
+use Rattle.dbg_runner.proofs.SliceSteps.{Underway, nothing_more, is_empty, goes, ended, spent}
 
 -- a step ends no slice as one that was held, or had no memory
 by_logs_of_slice : (logged : List Log) (outcome : SliceOutcome) → ending_by logged ≡ Some outcome → IsOfSlice outcome
 by_logs_of_slice [] outcome is = absurd cc
 by_logs_of_slice (log ∷ logs) outcome is = (λ held. cc, λ lacking. cc)
 
-pub is_of_slice : (a : Advance) (logged : List Log) (outcome : SliceOutcome) → ending a logged ≡ Some outcome
+is_of_slice : (a : Advance) (logged : List Log) (outcome : SliceOutcome) → ending a logged ≡ Some outcome
     → IsOfSlice outcome
 is_of_slice (To None) logged outcome is = by_logs_of_slice logged outcome is
 is_of_slice _ logged outcome is = (λ held. cc, λ lacking. cc)
 
-module _ (limit : ℕ) (mode : Mode) (old : Debugged) (room : Room) (continues : mode ≡ Continue)
-    (le : limit ≤ last_position) (new : Debugged) (more : Room)
-    (kept : more ≡ record room { numbers = more.numbers; logs = more.logs }) where
-  pub ran_out : RanFrom limit old room.numbers None new more.numbers more.logs
-      → BeginsSlice limit mode old room None new more
-  ran_out r =
-      subst (λ m. BeginsSlice limit mode old room None new m) (sym kept)
-      (runs None new more.numbers more.logs continues le r)
-
-  pub ran_there : (advance : Advance) → RanFrom limit old room.numbers (Some advance) new more.numbers more.logs
-      → BeginsSlice limit mode old room (ending advance more.logs) new more
-  ran_there advance r =
-      subst (λ m. BeginsSlice limit mode old room (ending advance more.logs) new m) (sym kept)
-      (runs (Some advance) new more.numbers more.logs continues le r)
-
-begins : (mode : Mode) (start : Debugged) (room : Room) → IsConsidered start → IsRoomOf room start
+pub begins : (mode : Mode) (start : Debugged) (room : Room) → IsConsidered start → IsRoomOf room start
     → Underway mode start start room
 begins mode start room was of =
     let e : 0 ≡ start.position - start.position = omega arith in
@@ -46,166 +31,232 @@ begins mode start room was of =
       passed = λ m above le. absurd (omega (arith, above, le));
     }
 
--- a run of the debuggee
-module _ (start : Debugged) (room : Room) (was : IsConsidered start) (of : IsRoomOf room start)
-    (advance : Option Advance) (new : Debugged) (numbers : List ℤ) (logged : List Log)
-    (r : RanFrom (start.position + slice_limit) start room.numbers advance new numbers logged) where
-  abbrev more : Room
-  more = record room { numbers = numbers; logs = logged }
+-- ---- what steps keep
 
+-- all but the position, and what was considered
+record Keeps (old new : Debugged) : Type 0 where
+  unit : new.unit ≡ old.unit
+  breakpoints : new.breakpoints ≡ old.breakpoints
+  counted_from : new.counted_from ≡ old.counted_from
+  trail : new.trail ≡ old.trail
+
+-- the debuggee, by what a report of the slice has of it
+as_reported : (mode : Mode) → goes_back mode ≡ false → (run start before : ℕ) (room : Room) (d : Debugged)
+    (outcome : SliceOutcome) → d.unit ≡ room.unit → d.breakpoints ≡ room.breakpoints → d.next ≡ d.position + 1
+    → d ≡ stopped (sliced run mode start before room d outcome) d.trail
+as_reported mode forward run start before room d outcome unit breakpoints next =
+    let r = sliced run mode start before room d outcome in
+    let counts : d.counted_from ≡ counts_from (back_if (goes_back mode)) r =
+    sym (ap (λ b. counts_from (back_if b) r) forward) in
+    λ i. record {
+      unit = unit i;
+      position = d.position;
+      breakpoints = breakpoints i;
+      counted_from = counts i;
+      next = next i;
+      trail = d.trail;
+    }
+
+module _ (mode : Mode) (start d : Debugged) (room : Room) (s : Underway mode start d room) where
+  kept_so_far : Keeps start d
+  kept_so_far = record {
+    unit = ap (λ (e : Debugged). e.unit) s.d_is;
+    breakpoints = ap (λ (e : Debugged). e.breakpoints) s.d_is;
+    counted_from = ap (λ (e : Debugged). e.counted_from) s.d_is;
+    trail = ap (λ (e : Debugged). e.trail) s.d_is;
+  }
+
+  behind : d.next ≡ d.position + 1
+  behind = ap (λ (e : Debugged). e.next) s.d_is ∙ sym (ap (λ (e : Debugged). e.position + 1) s.d_is)
+
+  kept_by : (a : Advance) (new : Debugged) (logged : List Log) → Advanced mode d a new logged → Keeps start new
+  kept_by (To due) new logged led = let k = kept_so_far in record {
+    unit = ap (λ (e : Debugged). e.unit) led.0 ∙ k.unit;
+    breakpoints = ap (λ (e : Debugged). e.breakpoints) led.0 ∙ k.breakpoints;
+    counted_from = ap (λ (e : Debugged). e.counted_from) led.0 ∙ k.counted_from;
+    trail = ap (λ (e : Debugged). e.trail) led.0 ∙ k.trail;
+  }
+  kept_by Done new logged led = let k = kept_so_far in record {
+    unit = ap (λ (e : Debugged). e.unit) led.0 ∙ k.unit;
+    breakpoints = ap (λ (e : Debugged). e.breakpoints) led.0 ∙ k.breakpoints;
+    counted_from = ap (λ (e : Debugged). e.counted_from) led.0 ∙ k.counted_from;
+    trail = ap (λ (e : Debugged). e.trail) led.0 ∙ k.trail;
+  }
+  kept_by (Fault fault) new logged led = let k = kept_so_far in record {
+    unit = ap (λ (e : Debugged). e.unit) led.0 ∙ k.unit;
+    breakpoints = ap (λ (e : Debugged). e.breakpoints) led.0 ∙ k.breakpoints;
+    counted_from = ap (λ (e : Debugged). e.counted_from) led.0 ∙ k.counted_from;
+    trail = ap (λ (e : Debugged). e.trail) led.0 ∙ k.trail;
+  }
+
+-- ---- single steps
+
+-- a step that ends no slice leads further
+pub further : (mode : Mode) (d new : Debugged) (logged : List Log) (a : Advance) → Advanced mode d a new logged
+    → ending a logged ≡ None → new.position ≡ d.position + 1
+further mode d new logged (To due) led is = ap (λ (e : Debugged). e.position) led.0
+further mode d new logged Done led is = absurd cc
+further mode d new logged (Fault fault) led is = absurd cc
+
+module _ (mode : Mode) (forward : goes_back mode ≡ false) (start d : Debugged) (room : Room)
+    (s : Underway mode start d room) where
+  -- all steps of the slice were taken
+  pub all_taken : start.position + slice_limit ≤ d.position → TookSteps mode start out.More d room
+  all_taken all =
+      let k = kept_so_far mode start d room s in
+      let unit : room.unit ≡ start.unit = ap (λ (r : Room). r.unit) s.room_is in
+      let breakpoints : room.breakpoints ≡ start.breakpoints = ap (λ (r : Room). r.breakpoints) s.room_is in
+      record {
+        lawful = λ run. spent mode forward start d room s all run;
+        stands = λ run.
+            as_reported mode forward run start.position (written_before start) room d out.More (k.unit ∙ sym unit)
+            (k.breakpoints ∙ sym breakpoints) (behind mode start d room s);
+        outcome_is = (λ held. cc, λ lacking. cc);
+        unit = unit;
+        breakpoints = breakpoints;
+        counted_from = k.counted_from;
+        trail = k.trail;
+      }
+
+  -- a step was taken
+  module _ (lt : d.position < start.position + slice_limit) (new : Debugged) (more : Room)
+      (wrote : IsWritten d room more.logs more) (a : Advance) (led : Advanced mode d a new more.logs) where
+    unit_is : more.unit ≡ start.unit
+    unit_is = ap (λ (r : Room). r.unit) wrote ∙ ap (λ (r : Room). r.unit) s.room_is
+
+    breakpoints_are : more.breakpoints ≡ start.breakpoints
+    breakpoints_are = ap (λ (r : Room). r.breakpoints) wrote ∙ ap (λ (r : Room). r.breakpoints) s.room_is
+
+    abbrev Stands : SliceOutcome → Type 0
+    Stands outcome =
+        (run : ℕ)
+        → StandsAtEnd (sliced run mode start.position (written_before start) more new outcome) new outcome
+
+    reported : new.next ≡ new.position + 1 → (outcome : SliceOutcome) (run : ℕ)
+        → new ≡ stopped (sliced run mode start.position (written_before start) more new outcome) new.trail
+    reported next outcome run =
+        let k = kept_by mode start d room s a new more.logs led in
+        as_reported mode forward run start.position (written_before start) more new outcome (k.unit ∙ sym unit_is)
+        (k.breakpoints ∙ sym breakpoints_are) next
+
+    stands_logging : new.next ≡ new.position + 1 → (ls : List Log) (outcome : SliceOutcome)
+        → ending_by ls ≡ Some outcome → Stands outcome
+    stands_logging next [] outcome is = absurd cc
+    stands_logging next (l ∷ ls) outcome is =
+        let same : out.More ≡ outcome = cc in subst (λ o. Stands o) same (reported next out.More)
+
+    stands : (b : Advance) → Advanced mode d b new more.logs → (outcome : SliceOutcome)
+        → ending b more.logs ≡ Some outcome → Stands outcome
+    stands (To None) led outcome is = stands_logging led.1.behind more.logs outcome is
+    stands (To (Some reason)) led outcome is =
+        let same : out.Due reason ≡ outcome =
+        cc in subst (λ o. Stands o) same (reported led.1.behind (out.Due reason))
+    stands Done led outcome is =
+        let same : out.Done ≡ outcome = cc in subst (λ o. Stands o) same (λ run. tt)
+    stands (Fault fault) led outcome is =
+        let same : out.Fault fault ≡ outcome = cc in
+        let next : new.next ≡ new.position + 1 =
+        ap (λ (e : Debugged). e.next) led.0 ∙ behind mode start d room s
+        ∙ sym (ap (λ (e : Debugged). e.position + 1) led.0) in
+        subst (λ o. Stands o) same (reported next (out.Fault fault))
+
+    pub took : (outcome : SliceOutcome) → ending a more.logs ≡ Some outcome → TookSteps mode start outcome new more
+    took outcome is =
+        let k = kept_by mode start d room s a new more.logs led in
+        record {
+          lawful = λ run. ended mode forward start d room s lt new more.logs more wrote run a led outcome is;
+          stands = stands a led outcome is;
+          outcome_is = is_of_slice a more.logs outcome is;
+          unit = unit_is;
+          breakpoints = breakpoints_are;
+          counted_from = k.counted_from;
+          trail = k.trail;
+        }
+
+-- ---- runs of the debuggee
+
+module _ (start d : Debugged) (room : Room) (s : Underway Continue start d room)
+    (lt : d.position < start.position + slice_limit) (result : Option SliceOutcome) (new : Debugged) (more : Room)
+    (f : RanFurther (start.position + slice_limit) d room result new more) where
   -- where the quiet steps led
   abbrev last : Debugged
-  last = considered_at start (start.position + r.steps)
+  last = considered_at d (d.position + f.ran.steps)
 
-  underway : (k : ℕ) → k ≤ r.steps → Underway Continue start (considered_at start (start.position + k)) room
+  empty : room.logs ≡ []
+  empty = is_empty Continue start d room s
+
+  underway : (k : ℕ) → k ≤ f.ran.steps → Underway Continue start (considered_at d (d.position + k)) room
   underway zero le =
-      let e : start.position ≡ start.position + 0 = omega arith in
-      subst (λ d. Underway Continue start d room)
-      (ap (λ (n : ℕ). record start { next = n }) was.behind
-      ∙ ap (λ (p : ℕ). record start { position = p; next = p + 1 }) e) (begins Continue start room was of)
+      let e : d.position ≡ d.position + 0 = omega arith in
+      subst (λ e. Underway Continue start e room)
+      (ap (λ (n : ℕ). record d { next = n }) (behind Continue start d room s)
+      ∙ ap (λ (p : ℕ). record d { position = p; next = p + 1 }) e) s
   underway (suc k) le =
-      let e : start.position + k + 1 ≡ start.position + suc k = omega arith in
-      let w = r.within in
-      let q = r.quiet k (omega (arith, le)) in
-      let next = considered_at start (start.position + k + 1) in
-      subst (λ (p : ℕ). Underway Continue start (record start { position = p; next = p + 1 }) room) e
-      (goes Continue refl start (considered_at start (start.position + k)) room (underway k (omega (arith, le)))
+      let e : d.position + k + 1 ≡ d.position + suc k = omega arith in
+      let w = f.ran.within in
+      let q = f.ran.quiet k (omega (arith, le)) in
+      let next = considered_at d (d.position + k + 1) in
+      subst (λ (p : ℕ). Underway Continue start (record d { position = p; next = p + 1 }) room) e
+      (goes Continue refl start (considered_at d (d.position + k)) room (underway k (omega (arith, le)))
       (omega (arith, le, w)) next []
-      room (nothing_more (considered_at start (start.position + k)) room of.logs q.silent) (To None) (
+      room (nothing_more (considered_at d (d.position + k)) room empty q.silent) (To None) (
         refl,
         record { behind = refl; running = q.running },
         sym (not_due next q.unmet),
-        sym
-            (nothing_logged next q.unmet),
+        sym (nothing_logged next q.unmet),
       ) refl)
 
   abbrev ClosesBy : Option Advance → Type 0
-  ClosesBy answer = Closes (start.position + slice_limit) last room.numbers answer new numbers logged
+  ClosesBy answer = Closes (start.position + slice_limit) last room.numbers answer new more.numbers more.logs
 
-  wrote : (a : Advance) → ClosesBy (Some a) → IsWritten last room logged more
-  wrote a closes = ap (λ (ns : List ℤ). record room { numbers = ns; logs = logged }) closes.3
+  abbrev end_by : Option Advance → Option SliceOutcome
+  end_by answer = option_and_then (λ a. ending a more.logs) answer
+
+  wrote : (a : Advance) → ClosesBy (Some a) → IsWritten last room more.logs more
+  wrote a closes = f.kept ∙ ap (λ (ns : List ℤ). record room { numbers = ns; logs = more.logs }) closes.3
 
   -- at the limit the room is as it was
   as_before : ClosesBy None → room ≡ more
   as_before closes =
-      λ i. record {
+      let same : room ≡ record room { numbers = more.numbers; logs = more.logs } = λ i. record {
         unit = room.unit;
         breakpoints = room.breakpoints;
         numbers = (sym closes.1) i;
-        logs = (of.logs ∙ sym closes.3) i;
-      }
+        logs = (empty ∙ sym closes.3) i;
+      } in
+      same ∙ sym f.kept
 
-  pub on_its_way : option_and_then (λ a. ending a logged) advance ≡ None → Underway Continue start new more
-  on_its_way is = by_answer advance r.ends is
+  pub on_its_way : result ≡ None → Underway Continue start new more
+  on_its_way is = by_answer f.advance f.ran.ends (sym f.ends ∙ is)
     where
-      by_answer : (o : Option Advance) → ClosesBy o → option_and_then (λ a. ending a logged) o ≡ None
-          → Underway Continue start new more
+      by_answer : (o : Option Advance) → ClosesBy o → end_by o ≡ None → Underway Continue start new more
       by_answer None closes is =
-          subst (λ d. Underway Continue start d more) (sym closes.0)
-          (subst (λ (m : Room). Underway Continue start last m) (as_before closes) (underway r.steps (omega arith)))
+          subst (λ e. Underway Continue start e more) (sym closes.0)
+          (subst (λ (m : Room). Underway Continue start last m) (as_before closes)
+          (underway f.ran.steps (omega arith)))
       by_answer (Some a) closes is =
-          goes Continue refl start last room (underway r.steps (omega arith)) closes.0 new logged more (wrote a closes)
-          a closes.2 is
+          goes Continue refl start last room (underway f.ran.steps (omega arith)) closes.0 new more.logs more
+          (wrote a closes) a closes.2 is
 
-  same : (a : Advance) → Advanced Continue last a new logged → (new.unit ≡ start.unit)
-      × (new.breakpoints ≡ start.breakpoints) × (new.counted_from ≡ start.counted_from) × (new.trail ≡ start.trail)
-  same (To due) led = (
-    ap (λ (d : Debugged). d.unit) led.0,
-    ap (λ (d : Debugged). d.breakpoints) led.0,
-    ap (λ (d : Debugged). d.counted_from) led.0,
-    ap (λ (d : Debugged). d.trail) led.0,
-  )
-  same Done led = (
-    ap (λ (d : Debugged). d.unit) led.0,
-    ap (λ (d : Debugged). d.breakpoints) led.0,
-    ap (λ (d : Debugged). d.counted_from) led.0,
-    ap (λ (d : Debugged). d.trail) led.0,
-  )
-  same (Fault fault) led = (
-    ap (λ (d : Debugged). d.unit) led.0,
-    ap (λ (d : Debugged). d.breakpoints) led.0,
-    ap (λ (d : Debugged). d.counted_from) led.0,
-    ap (λ (d : Debugged). d.trail) led.0,
-  )
-
-  -- the debuggee, by what a report of the slice has of it
-  as_reported : (a : Advance) → Advanced Continue last a new logged → new.next ≡ new.position + 1
-      → new ≡ record {
-        unit = room.unit;
-        position = new.position;
-        breakpoints = room.breakpoints;
-        counted_from = new.counted_from;
-        next = new.position + 1;
-        trail = new.trail;
-      }
-  as_reported a led next =
-      let is = same a led in
-      λ i. record {
-        unit = (is.0 ∙ sym of.unit) i;
-        position = new.position;
-        breakpoints = (is.1 ∙ sym of.breakpoints) i;
-        counted_from = new.counted_from;
-        next = next i;
-        trail = new.trail;
-      }
-
-  abbrev Stands : ℕ → SliceOutcome → Type 0
-  Stands run outcome =
-      StandsAtEnd (sliced run Continue start.position (written_before start) more new outcome) new outcome
-
-  stands_logging : (run : ℕ) → Advanced Continue last (To None) new logged → (ls : List Log) (outcome : SliceOutcome)
-      → ending_by ls ≡ Some outcome → Stands run outcome
-  stands_logging run led [] outcome is = absurd cc
-  stands_logging run led (l ∷ ls) outcome is =
-      let same : out.More ≡ outcome = cc in subst (λ o. Stands run o) same (as_reported (To None) led led.1.behind)
-
-  stands : (run : ℕ) (a : Advance) → Advanced Continue last a new logged → (outcome : SliceOutcome)
-      → ending a logged ≡ Some outcome → Stands run outcome
-  stands run (To None) led outcome is = stands_logging run led logged outcome is
-  stands run (To (Some reason)) led outcome is =
-      let same : out.Due reason ≡ outcome =
-      cc in subst (λ o. Stands run o) same (as_reported (To (Some reason)) led led.1.behind)
-  stands run Done led outcome is = let same : out.Done ≡ outcome = cc in subst (λ o. Stands run o) same tt
-  stands run (Fault fault) led outcome is =
-      let same : out.Fault fault ≡ outcome = cc in
-      let next : new.next ≡ new.position + 1 =
-      ap (λ (d : Debugged). d.next) led.0 ∙ sym (ap (λ (d : Debugged). d.position + 1) led.0) in
-      subst (λ o. Stands run o) same (as_reported (Fault fault) led next)
-
-  pub took : (outcome : SliceOutcome) → option_and_then (λ a. ending a logged) advance ≡ Some outcome
-      → TookSteps Continue start outcome new more
-  took outcome is = by_answer advance r.ends is
+  pub came_further : result ≡ None → d.position < new.position
+  came_further is = by_answer f.advance f.ran.ends (sym f.ends ∙ is)
     where
-      by_answer : (o : Option Advance) → ClosesBy o → option_and_then (λ a. ending a logged) o ≡ Some outcome
+      by_answer : (o : Option Advance) → ClosesBy o → end_by o ≡ None → d.position < new.position
+      by_answer None closes is =
+          let there : new.position ≡ d.position + f.ran.steps = ap (λ (e : Debugged). e.position) closes.0 in
+          let all = closes.2 in
+          let below = lt in
+          omega (arith, there, all, below)
+      by_answer (Some a) closes is =
+          let there = further Continue last new more.logs a closes.2 is in
+          omega (arith, there)
+
+  pub ran_took : (outcome : SliceOutcome) → result ≡ Some outcome → TookSteps Continue start outcome new more
+  ran_took outcome is = by_answer f.advance f.ran.ends (sym f.ends ∙ is)
+    where
+      by_answer : (o : Option Advance) → ClosesBy o → end_by o ≡ Some outcome
           → TookSteps Continue start outcome new more
       by_answer None closes is = absurd cc
       by_answer (Some a) closes is =
-          let kept = same a closes.2 in
-          record {
-            lawful = λ run. ended Continue refl start last room (underway r.steps (omega arith)) closes.0 new logged
-                more (wrote a closes) run a closes.2 outcome is;
-            stands = λ run. stands run a closes.2 outcome is;
-            outcome_is = is_of_slice a logged outcome is;
-            unit = of.unit;
-            breakpoints = of.breakpoints;
-            counted_from = kept.2;
-            trail = kept.3;
-          }
-
--- a slice that began with a run, or with no step
-module _ (mode : Mode) (start : Debugged) (room : Room) (was : IsConsidered start) (of : IsRoomOf room start) where
-  pub begins_well : (result : Option SliceOutcome) (new : Debugged) (after : Room)
-      → BeginsSlice (start.position + slice_limit) mode start room result new after → result ≡ None
-      → Underway mode start new after
-  begins_well result new after (runs advance now numbers logged continues le ran) is =
-      subst (λ m. Underway m start now (record room { numbers = numbers; logs = logged })) (sym continues)
-      (on_its_way start room was of advance now numbers logged ran is)
-  begins_well result new after (stays never) is = begins mode start room was of
-
-  pub ends_well : (outcome : SliceOutcome) (result : Option SliceOutcome) (new : Debugged) (after : Room)
-      → BeginsSlice (start.position + slice_limit) mode start room result new after → result ≡ Some outcome
-      → TookSteps mode start outcome new after
-  ends_well outcome result new after (runs advance now numbers logged continues le ran) is =
-      subst (λ m. TookSteps m start outcome now (record room { numbers = numbers; logs = logged })) (sym continues)
-      (took start room was of advance now numbers logged ran outcome is)
-  ends_well outcome result new after (stays never) is = absurd cc
+          took Continue refl start last room (underway f.ran.steps (omega arith)) closes.0 new more (wrote a closes) a
+          closes.2 outcome is
