@@ -12,11 +12,10 @@ use Rattle.pl0_machine.specs.declared.outcome.StepOutcome.{StepOutcome}
 use Rattle.pl0_machine.specs.declared.outcome.StepOutcome.TheVariants.{Went, Done}
 use Rattle.pl0_machine.specs.declared.mark.Comparison.{Comparison}
 use Rattle.pl0_machine.specs.declared.mark.Marks.{Marks}
-use Rattle.pl0_machine.specs.Machine.{Standing, program, frames, frames_of, top_of, outcome_of, Stepped, IsNext, BeginsNext}
+use Rattle.pl0_machine.specs.Machine.{Standing, program, frames, frames_of, top_of, depth_of, outcome_of, Stepped, IsNext, BeginsNext}
 use Rattle.dbg_plan.specs.Breakpoints.{Breakpoint, plain_breakpoints}
 use Rattle.dbg_plan.specs.Plans.{Listed, IsPlanOf, watched_lines, has_breakpoint, breakpoints_of}
 use Rattle.dbg_plan.specs.Table.{AreMarksOf}
-use Rattle.dbg_plan.specs.Debugged.{IsRunning}
 use Rattle.pl0_machine.specs.Stretches.{ahead, IsMet, CanAsk, IsTable, HasMark, IsUnseen, Stretches}
 use Rattle.dbg_plan.specs.Running.{has_arrival, IsQuiet, RanQuietly}
 use Rattle.dbg_plan.specs.Quiet.{Watches, RanByMachine}
@@ -28,10 +27,11 @@ use Rattle.dbg_plan.proofs.Asked.{can_ask, unmet}
 use Rattle.dbg_plan.proofs.Stepping.{went_on}
 
 -- a step that wrote nothing and led to a position without a breakpoint
-abbrev pub IsQuietly : List Breakpoint → StepOutcome → Standing → Type 0
-IsQuietly breakpoints result new = (result ≡ Went None) × (has_arrival breakpoints new ≡ false)
+abbrev pub IsQuietly : ℕ → List Breakpoint → StepOutcome → Standing → Type 0
+IsQuietly outer breakpoints result new =
+    (result ≡ Went None) × (outer < depth_of new) × (has_arrival breakpoints new ≡ false)
 
-module _ (breakpoints : List Breakpoint) (old new : Standing) (result : StepOutcome)
+module _ (outer : ℕ) (breakpoints : List Breakpoint) (old new : Standing) (result : StepOutcome)
     (stepped : Stepped (outcome_of old) old result new) where
   silent : result ≡ Went None → written_by (outcome_of old) ≡ []
   silent is = by_outcome (outcome_of old) stepped
@@ -43,52 +43,56 @@ module _ (breakpoints : List Breakpoint) (old new : Standing) (result : StepOutc
       by_outcome (Faults fault) s = refl
       by_outcome Stuck s = refl
 
-  pub is_quiet : IsQuietly breakpoints result new → IsQuiet breakpoints old
+  pub is_quiet : IsQuietly outer breakpoints result new → IsQuiet outer breakpoints old
   is_quiet told =
       let went = went_on old new result stepped None told.0 in
       record {
         silent = silent told.0;
-        running = subst (λ m. IsRunning m) went.0 went.1;
-        unmet = subst (λ m. has_arrival breakpoints m ≡ false) went.0 told.1;
+        running = subst (λ m. outer < depth_of m) went.0 told.1;
+        unmet = subst (λ m. has_arrival breakpoints m ≡ false) went.0 told.2;
       }
 
   -- where nothing is alive after it, a step isn't quiet
   ends_run : (o : Option Configuration) → led_to (outcome_of old) ≡ o → length (frames_of o) ≡ 0
-      → IsQuiet breakpoints old → ⊥
+      → IsQuiet outer breakpoints old → ⊥
   ends_run o led none quiet =
       let there : at (program old) (old.position + 1) ≡ o = at_next (program old) old.position ∙ led in
-      let some : 0 < length (frames_of o) = subst (λ c. 0 < length (frames_of c)) there quiet.running in
+      let some : outer < length (frames_of o) = subst (λ c. outer < length (frames_of c)) there quiet.running in
       omega (arith, none, some)
 
   writes : (v : ℤ) → v ∷ [] ≡ [] → ⊥
   writes v e = cc
 
-  pub is_told : IsQuiet breakpoints old → IsQuietly breakpoints result new
+  pub is_told : IsQuiet outer breakpoints old → IsQuietly outer breakpoints result new
   is_told quiet = by_outcome (outcome_of old) refl stepped quiet.silent
     where
       by_outcome : (o : Outcome) → outcome_of old ≡ o → Stepped o old result new → written_by o ≡ []
-          → IsQuietly breakpoints result new
+          → IsQuietly outer breakpoints result new
       by_outcome (Goes None []) e s none = absurd (ends_run (Some []) (ap led_to e) refl quiet)
-      by_outcome (Goes None (f ∷ below)) e s none =
-          (s.0, subst (λ m. has_arrival breakpoints m ≡ false) (sym s.1) quiet.unmet)
+      by_outcome (Goes None (f ∷ below)) e s none = (
+        s.0,
+        subst (λ m. outer < depth_of m) (sym s.1) quiet.running,
+        subst (λ m. has_arrival breakpoints m ≡ false) (sym s.1) quiet.unmet,
+      )
       by_outcome (Goes (Some v) c) e s none = absurd (writes v none)
       by_outcome (Faults fault) e s none = absurd (ends_run None (ap led_to e) refl quiet)
       by_outcome Stuck e s none = absurd s
 
 -- quiet steps led to the machine m
-abbrev pub Quietly : ℕ → List Breakpoint → Standing → Standing → Type 0
-Quietly limit breakpoints start m =
-    RanQuietly limit breakpoints start (λ steps. (m ≡ ahead start steps) × IsRunning m × (m.position ≤ limit))
+abbrev pub Quietly : ℕ → ℕ → List Breakpoint → Standing → Standing → Type 0
+Quietly limit outer breakpoints start m =
+    RanQuietly limit outer breakpoints start
+    (λ steps. (m ≡ ahead start steps) × (outer < depth_of m) × (m.position ≤ limit))
 
-pub none_yet : (limit : ℕ) (breakpoints : List Breakpoint) (start : Standing) → IsRunning start → start.position ≤ limit
-    → Quietly limit breakpoints start start
-none_yet limit breakpoints start running within =
+pub none_yet : (limit outer : ℕ) (breakpoints : List Breakpoint) (start : Standing) → outer < depth_of start
+    → start.position ≤ limit → Quietly limit outer breakpoints start start
+none_yet limit outer breakpoints start running within =
     let e : start.position ≡ start.position + 0 = omega arith in
     let here : start ≡ ahead start 0 = ap (λ (p : ℕ). record start { position = p }) e in
     record {
       steps = 0;
       quiet = λ k lt. absurd (omega (arith, lt));
-      running = subst (λ m. IsRunning m) here running;
+      running = subst (λ m. outer < depth_of m) here running;
       within = omega (arith, within);
       ends = (here, running, within);
     }
@@ -148,9 +152,10 @@ module _ (laws : FramesAreLinked) (plan : Option Listed) where
           (same_Some _ _ (sym has_one ∙ sym (ap (λ l. slice_get l unmarked.0) watches.2.marked) ∙ at))
       by_mark true at met = by_asked (slice_index_or marks.asked.items next.step None) refl met
 
-module _ (laws : FramesAreLinked) (limit : ℕ) (plan : Option Listed) (marks : Option Marks)
+module _ (laws : FramesAreLinked) (limit outer : ℕ) (plan : Option Listed) (marks : Option Marks)
     (watches : Watches plan marks) where
-  quiet_passed : (m : Standing) → MayBePlanOf m.unit plan → IsUnseen marks m → IsQuiet (breakpoints_of plan) m
+  quiet_passed : (m : Standing) → MayBePlanOf m.unit plan → IsUnseen outer marks m → IsQuiet outer (breakpoints_of
+      plan) m
   quiet_passed m fits p =
       record {
         silent = p.silent;
@@ -164,8 +169,8 @@ module _ (laws : FramesAreLinked) (limit : ℕ) (plan : Option Listed) (marks : 
       ap (λ (p : ℕ). record m { position = p }) e
 
   pub stretched : (start m new : Standing) → MayBePlanOf start.unit plan
-      → Quietly limit (breakpoints_of plan) start m → Stretches marks m new → new.position ≤ limit
-      → Quietly limit (breakpoints_of plan) start new
+      → Quietly limit outer (breakpoints_of plan) start m → Stretches outer marks m new → new.position ≤ limit
+      → Quietly limit outer (breakpoints_of plan) start new
   stretched start m new fits q s within =
       let led = s.led ∙ ap (λ x. ahead x s.steps) q.ends.0 ∙ further_on start q.steps s.steps in
       let place = ap (λ (x : Standing). x.position) led in
@@ -177,21 +182,22 @@ module _ (laws : FramesAreLinked) (limit : ℕ) (plan : Option Listed) (marks : 
             let rest : k - q.steps < s.steps = omega (arith, after, lt) in
             let same : q.steps + (k - q.steps) ≡ k = omega (arith, after) in
             let there = further_on start q.steps (k - q.steps) ∙ ap (λ n. ahead start n) same in
-            subst (λ x. IsQuiet (breakpoints_of plan) x) there
+            subst (λ x. IsQuiet outer (breakpoints_of plan) x) there
             (quiet_passed (ahead (ahead start q.steps) (k - q.steps)) fits
-            (subst (λ x. IsUnseen marks (ahead x (k - q.steps))) q.ends.0
+            (subst (λ x. IsUnseen outer marks (ahead x (k - q.steps))) q.ends.0
             (s.passed (k - q.steps) rest))))
             (cases_lt k q.steps);
-        running = subst (λ x. IsRunning x) led s.running;
+        running = subst (λ x. outer < depth_of x) led s.running;
         within = omega (arith, place, within);
         ends = (led, s.running, within);
       }
 
-module _ (limit : ℕ) (plan : Option Listed) (start m : Standing) (q : Quietly limit (breakpoints_of plan) start m) where
+module _ (limit outer : ℕ) (plan : Option Listed) (start m : Standing)
+    (q : Quietly limit outer (breakpoints_of plan) start m) where
   abbrev breakpoints : List Breakpoint
   breakpoints = breakpoints_of plan
 
-  pub stops : limit ≤ m.position → RanByMachine limit plan start None m
+  pub stops : limit ≤ m.position → RanByMachine limit outer plan start None m
   stops reached =
       record {
         steps = q.steps;
@@ -203,18 +209,18 @@ module _ (limit : ℕ) (plan : Option Listed) (start m : Standing) (q : Quietly 
 
   module _ (result : StepOutcome) (new : Standing) (stepped : Stepped (outcome_of m) m result new)
       (below : m.position < limit) where
-    pub ended : (IsQuietly breakpoints result new → ⊥) → RanByMachine limit plan start (Some result) new
+    pub ended : (IsQuietly outer breakpoints result new → ⊥) → RanByMachine limit outer plan start (Some result) new
     ended loud = record {
       steps = q.steps;
       quiet = q.quiet;
       running = q.running;
       within = q.within;
-      ends = subst (λ (s : Standing). (s.position < limit) × (¬ IsQuiet breakpoints s)
+      ends = subst (λ (s : Standing). (s.position < limit) × (¬ IsQuiet outer breakpoints s)
           × Stepped (outcome_of s) s result new) q.ends.0
-          (below, λ quiet. loud (is_told breakpoints m new result stepped quiet), stepped);
+          (below, λ quiet. loud (is_told outer breakpoints m new result stepped quiet), stepped);
     }
 
-    pub goes : IsQuietly breakpoints result new → Quietly limit breakpoints start new
+    pub goes : IsQuietly outer breakpoints result new → Quietly limit outer breakpoints start new
     goes told =
         let went = went_on m new result stepped None told.0 in
         let place = ap (λ (s : Standing). s.position) q.ends.0 in
@@ -223,14 +229,14 @@ module _ (limit : ℕ) (plan : Option Listed) (start m : Standing) (q : Quietly 
         let further : new ≡ ahead start (q.steps + 1) =
         went.0 ∙ ap (λ (s : Standing). record s { position = m.position + 1 }) q.ends.0
         ∙ ap (λ (p : ℕ). record start { position = p }) e in
-        let last : IsQuiet breakpoints (ahead start q.steps) =
-        subst (λ s. IsQuiet breakpoints s) q.ends.0 (is_quiet breakpoints m new result stepped told) in
+        let last : IsQuiet outer breakpoints (ahead start q.steps) =
+        subst (λ s. IsQuiet outer breakpoints s) q.ends.0 (is_quiet outer breakpoints m new result stepped told) in
         record {
           steps = q.steps + 1;
           quiet = λ k lt.
-              ⊎_elim (λ (same : k ≡ q.steps). subst (λ j. IsQuiet breakpoints (ahead start j)) (sym same) last)
+              ⊎_elim (λ (same : k ≡ q.steps). subst (λ j. IsQuiet outer breakpoints (ahead start j)) (sym same) last)
               (λ ne. q.quiet k (omega (arith, ne, lt))) (cases_eq k q.steps);
-          running = subst (λ s. IsRunning s) further went.1;
+          running = subst (λ s. outer < depth_of s) further told.1;
           within = omega (arith, place, below);
-          ends = (further, went.1, omega (arith, there, below));
+          ends = (further, told.1, omega (arith, there, below));
         }

@@ -1,20 +1,22 @@
 -- Where there is no arrival: none is counted, none due and none logged.
 use Rattle.std.proofs.Common.{◌≡◌, ℕ, ◌+◌, ◌<◌, ◌≤◌, Bool, true, false, cond, List, [], ◌∷◌, length, get_or, Option, Some, None, ap, sym, ◌∙◌, subst, refl, arith}
-use Rattle.std.specs.Prelude.{◌&&◌, ◌||◌, is_none, if◌then◌else◌}
+use Rattle.std.specs.Prelude.{◌&&◌, ◌||◌, is_none, unwrap_or, option_map, if◌then◌else◌}
 use Rattle.std.specs.List.{list_any, filter_map, enumerate_from, cons_option}
 use Rattle.std.proofs.lemmas.Bool.{or_from, or_parts}
 use Rattle.pl0_unit.specs.declared.unit.Unit.{Unit as Compiled}
-use Rattle.pl0_machine.specs.Machine.{Standing, program, configuration, frames, top_of, IsNext}
+use Rattle.pl0_machine.specs.Machine.{Standing, program, configuration, frames, frames_of, top_of, depth_of, IsNext}
 use Rattle.dbg_plan.specs.declared.breakpoint.Breakpoint.{Breakpoint}
 use Rattle.dbg_plan.specs.declared.mode.Reason.TheVariants as reason
+use Rattle.pl0_meaning.specs.Values.{Configuration}
+use Rattle.dbg_plan.specs.declared.mode.Mode.{Mode}
 use Rattle.dbg_plan.specs.declared.mode.Mode.TheVariants.{Continue}
 use Rattle.dbg_plan.specs.Breakpoints.{Breakpoint as PlainBreakpoint, plain_breakpoint, plain_breakpoints}
 use Rattle.dbg_plan.specs.Plans.{Listed, IsPlanOf, is_of, those_of, listed_of, breakpoints_of}
-use Rattle.dbg_plan.specs.Due.{arrives_in, arrivals, accepts, is_hit, stops}
+use Rattle.dbg_plan.specs.Due.{arrives_in, arrivals, accepts, is_hit, stops, reason_of, depth_at}
 use Rattle.dbg_plan.specs.Logs.{log_in, log_at}
 use Rattle.dbg_plan.specs.Counting.{holds_now, reduced, AreCounts, CountFrom, CountsOn, MayBePlanOf}
-use Rattle.dbg_plan.specs.Debugged.{Debugged, machine_of, due_now, logs_now}
-use Rattle.dbg_plan.specs.Running.{has_arrival}
+use Rattle.dbg_plan.specs.Debugged.{Debugged, machine_of, debugged_program, due_now, logs_now}
+use Rattle.dbg_plan.specs.Running.{has_arrival, IsUndueAbove}
 use Rattle.dbg_plan.proofs.Here.{any_plain, arrivals_rise}
 use Rattle.dbg_plan.proofs.Places.{arrives_here}
 use Rattle.dbg_plan.proofs.Watching.{none_of}
@@ -128,6 +130,19 @@ pub not_due : (d : Debugged) → has_arrival d.breakpoints (machine_of d) ≡ fa
 not_due d none =
     ap (λ hit. if hit then Some reason.Breakpoint else None)
     (none_stops (machine_of d) d.counted_from d.breakpoints none)
+
+depth_there : (o : Option Configuration) → unwrap_or (option_map length o) 0 ≡ length (frames_of o)
+depth_there None = refl
+depth_there (Some c) = refl
+
+-- nor is it in a mode that makes none due with so many frames
+pub not_due_above : (mode : Mode) (outer : ℕ) → IsUndueAbove mode outer → (d : Debugged)
+    → has_arrival d.breakpoints (machine_of d) ≡ false → outer < depth_of (machine_of d) → due_now d mode ≡ None
+not_due_above mode outer undue d none more =
+    let depth = depth_there (configuration (machine_of d)) in
+    ap (λ hit. if hit then Some reason.Breakpoint else reason_of mode (depth_at (debugged_program d) d.position))
+    (none_stops (machine_of d) d.counted_from d.breakpoints none)
+    ∙ undue (depth_at (debugged_program d) d.position) (subst (λ n. outer < n) (sym depth) more)
 
 -- and logs nothing
 pub nothing_logged : (d : Debugged) → has_arrival d.breakpoints (machine_of d) ≡ false → logs_now d ≡ []

@@ -18,14 +18,15 @@ Watches plan None = listed_of plan ≡ []
 Watches plan (Some marks) = (asked : Listed) × (plan ≡ Some asked) × AreMarksOf asked marks
 
 -- nothing more at the limit, or the first step that isn't quiet
-abbrev pub Ends : ℕ → List Breakpoint → Standing → Option StepOutcome → Standing → Type 0
-Ends limit breakpoints m None new = (new ≡ m) × (limit ≤ m.position)
-Ends limit breakpoints m (Some outcome) new =
-    (m.position < limit) × (¬ IsQuiet breakpoints m) × Stepped (outcome_of m) m outcome new
+abbrev pub Ends : ℕ → ℕ → List Breakpoint → Standing → Option StepOutcome → Standing → Type 0
+Ends limit outer breakpoints m None new = (new ≡ m) × (limit ≤ m.position)
+Ends limit outer breakpoints m (Some outcome) new =
+    (m.position < limit) × (¬ IsQuiet outer breakpoints m) × Stepped (outcome_of m) m outcome new
 
-abbrev pub RanByMachine : ℕ → Option Listed → Standing → Option StepOutcome → Standing → Type 0
-RanByMachine limit plan old outcome new =
-    RanQuietly limit (breakpoints_of plan) old (λ steps. Ends limit (breakpoints_of plan) (ahead old steps) outcome new)
+abbrev pub RanByMachine : ℕ → ℕ → Option Listed → Standing → Option StepOutcome → Standing → Type 0
+RanByMachine limit outer plan old outcome new =
+    RanQuietly limit outer (breakpoints_of plan) old
+    (λ steps. Ends limit outer (breakpoints_of plan) (ahead old steps) outcome new)
 
 -- whether the position is considered where a run stands
 abbrev pub considered_after : Option StepOutcome → Bool
@@ -35,14 +36,14 @@ considered_after (Some Done) = false
 considered_after (Some (Fault fault)) = true
 
 -- the same of a debuggee; the position that the last step led to is still to be considered
-abbrev pub EndsAt : ℕ → Debugged → Option StepOutcome → Debugged → Type 0
-EndsAt limit d None new = (new ≡ d) × (limit ≤ d.position)
-EndsAt limit d (Some outcome) new =
-    (d.position < limit) × (¬ IsQuiet d.breakpoints (machine_of d))
+abbrev pub EndsAt : ℕ → ℕ → Debugged → Option StepOutcome → Debugged → Type 0
+EndsAt limit outer d None new = (new ≡ d) × (limit ≤ d.position)
+EndsAt limit outer d (Some outcome) new =
+    (d.position < limit) × (¬ IsQuiet outer d.breakpoints (machine_of d))
     × Stepped (outcome_of (machine_of d)) (machine_of d) outcome (machine_of new)
     × (new ≡ record d { position = new.position })
 
-abbrev pub RanTo : ℕ → Debugged → Option StepOutcome → Debugged → Type 0
-RanTo limit old outcome new =
-    RanQuietly limit old.breakpoints (machine_of old)
-    (λ steps. EndsAt limit (considered_at old (old.position + steps)) outcome new)
+abbrev pub RanTo : ℕ → ℕ → Debugged → Option StepOutcome → Debugged → Type 0
+RanTo limit outer old outcome new =
+    RanQuietly limit outer old.breakpoints (machine_of old)
+    (λ steps. EndsAt limit outer (considered_at old (old.position + steps)) outcome new)

@@ -2,14 +2,14 @@
 use Rattle.std.specs.Prelude.{◌≡◌, ℕ, ◌+◌, ◌<◌, ◌≤◌, ◌++◌, ℤ, Bool, false, List, [], Option, Some, None}
 use Rattle.std.specs.List.{list_any}
 use Rattle.pl0_meaning.specs.Runs.{written_by}
-use Rattle.pl0_machine.specs.Machine.{Standing, program, configuration, outcome_of}
+use Rattle.pl0_machine.specs.Machine.{Standing, program, configuration, outcome_of, depth_of}
 use Rattle.pl0_machine.specs.Stretches.{ahead}
 use Rattle.dbg_plan.specs.Breakpoints.{Breakpoint}
-use Rattle.dbg_plan.specs.Due.{arrives_in}
-use Rattle.dbg_plan.specs.declared.mode.Mode.TheVariants.{Continue}
+use Rattle.dbg_plan.specs.Due.{arrives_in, reason_of}
+use Rattle.dbg_plan.specs.declared.mode.Mode.{Mode}
 use Rattle.dbg_plan.specs.declared.debuggee.Advance.{Advance}
 use Rattle.dbg_plan.specs.Logs.{Log}
-use Rattle.dbg_plan.specs.Debugged.{Debugged, machine_of, IsRunning}
+use Rattle.dbg_plan.specs.Debugged.{Debugged, machine_of}
 use Rattle.dbg_plan.specs.Advances.{considered_at, Advanced}
 
 -- ---- quiet steps
@@ -18,32 +18,38 @@ use Rattle.dbg_plan.specs.Advances.{considered_at, Advanced}
 abbrev pub has_arrival : List Breakpoint → Standing → Bool
 has_arrival breakpoints m = list_any (λ b. arrives_in (program m) b (configuration m)) breakpoints
 
--- The step writes nothing, the program goes on, and where it leads to is no arrival at a breakpoint.
-pub record IsQuiet (breakpoints : List Breakpoint) (m : Standing) : Type 0 where
+-- the mode alone makes no position due where more than `outer` frames are alive
+abbrev pub IsUndueAbove : Mode → ℕ → Type 0
+IsUndueAbove mode outer = (depth : ℕ) → outer < depth → reason_of mode depth ≡ None
+
+-- The step writes nothing, more than `outer` frames are alive where it leads, and that is no arrival at a breakpoint.
+pub record IsQuiet (outer : ℕ) (breakpoints : List Breakpoint) (m : Standing) : Type 0 where
   pub silent : written_by (outcome_of m) ≡ []
-  pub running : IsRunning (ahead m 1)
+  pub running : outer < depth_of (ahead m 1)
   pub unmet : has_arrival breakpoints (ahead m 1) ≡ false
 
 -- Quiet steps were taken, up to the position `limit` at most. `Ends` says of their number how the run ended there.
-pub record RanQuietly (limit : ℕ) (breakpoints : List Breakpoint) (old : Standing) (Ends : ℕ → Type 0) : Type 0 where
-  pub steps : ℕ
-  pub quiet : (k : ℕ) → k < steps → IsQuiet breakpoints (ahead old k)
-  pub running : IsRunning (ahead old steps)
-  pub within : old.position + steps ≤ limit
-  pub ends : Ends steps
+pub record RanQuietly (limit outer : ℕ) (breakpoints : List Breakpoint) (old : Standing) (Ends : ℕ → Type 0) : Type 0
+  where
+    pub steps : ℕ
+    pub quiet : (k : ℕ) → k < steps → IsQuiet outer breakpoints (ahead old k)
+    pub running : outer < depth_of (ahead old steps)
+    pub within : old.position + steps ≤ limit
+    pub ends : Ends steps
 
 -- ---- of a debuggee
 
 -- At the limit nothing is returned, the numbers are the same, and nothing is logged. Before it one more step was taken,
 -- which isn't quiet.
-abbrev pub Closes : ℕ → Debugged → List ℤ → Option Advance → Debugged → List ℤ → List Log → Type 0
-Closes limit d before None new after logged = (new ≡ d) × (after ≡ before) × (limit ≤ d.position) × (logged ≡ [])
-Closes limit d before (Some advance) new after logged =
-    (d.position < limit) × (¬ IsQuiet d.breakpoints (machine_of d)) × Advanced Continue d advance new logged
+abbrev pub Closes : ℕ → ℕ → Mode → Debugged → List ℤ → Option Advance → Debugged → List ℤ → List Log → Type 0
+Closes limit outer mode d before None new after logged =
+    (new ≡ d) × (after ≡ before) × (limit ≤ d.position) × (logged ≡ [])
+Closes limit outer mode d before (Some advance) new after logged =
+    (d.position < limit) × (¬ IsQuiet outer d.breakpoints (machine_of d)) × Advanced mode d advance new logged
     × (after ≡ before ++ written_by (outcome_of (machine_of d)))
 
--- Quiet steps were taken in the mode Continue, and before the limit one more, as `advance` takes it.
-abbrev pub RanFrom : ℕ → Debugged → List ℤ → Option Advance → Debugged → List ℤ → List Log → Type 0
-RanFrom limit old before advance new after logged =
-    RanQuietly limit old.breakpoints (machine_of old)
-    (λ steps. Closes limit (considered_at old (old.position + steps)) before advance new after logged)
+-- Quiet steps were taken, and before the limit one more, as `advance` takes it.
+abbrev pub RanFrom : ℕ → ℕ → Mode → Debugged → List ℤ → Option Advance → Debugged → List ℤ → List Log → Type 0
+RanFrom limit outer mode old before advance new after logged =
+    RanQuietly limit outer old.breakpoints (machine_of old)
+    (λ steps. Closes limit outer mode (considered_at old (old.position + steps)) before advance new after logged)

@@ -224,39 +224,48 @@ impl Debuggee {
         }
     }
 
-    /// Takes steps that write nothing and lead to no arrival at a breakpoint, up to the position `limit`, and returns
-    /// `None` there. Any other step is the last one, and what it did is returned; the position that it leads to isn't
-    /// considered.
+    /// Takes steps that write nothing, lead to no arrival at a breakpoint and leave more than `outer` frames alive, up to the
+    /// position `limit`, and returns `None` there. Any other step is the last one, and what it did is returned; the position
+    /// that it leads to isn't considered.
     #[inline(always)]
-    fn run_quietly(&mut self, limit: u64) -> Option<StepOutcome>
+    fn run_quietly(&mut self, limit: u64, outer: usize) -> Option<StepOutcome>
         requires considered { IsConsidered self.old }
+        requires alive { outer < depth_of (machine_of self.old) }
         requires within { self.old.position ≤ limit }
-        ensures ran { RanTo limit self.old result self.new }
+        ensures ran { RanTo limit outer self.old result self.new }
         ensures next { (written : Option ℤ) → result ≡ Some (Went written) → IsNext self.new }
     {
-        let outcome = run_quietly(&mut self.machine, limit, &self.plan);
+        let outcome = run_quietly(&mut self.machine, limit, outer, &self.plan);
         self.considered = stays_considered(outcome);
         outcome
     }
 
-    /// Advances in the mode `Continue` up to the position `limit`, while the steps write nothing and lead to no arrival at
-    /// a breakpoint, and returns `None` there. Any other step is the last one, taken as `advance` takes it, and where it
-    /// led is returned. `logs` is empty before, and holds what the last position logs afterwards.
+    /// Advances up to the position `limit`, while the steps write nothing, lead to no arrival at a breakpoint and leave more
+    /// than `outer` frames alive, and returns `None` there. Any other step is the last one, taken as `advance` takes it, and
+    /// where it led is returned. `logs` is empty before, and holds what the last position logs afterwards.
     #[inline(always)]
-    pub fn run(&mut self, limit: u64, numbers: &mut Vec<i64>, logs: &mut Logs) -> Option<Advance>
+    pub fn run(
+        &mut self,
+        limit: u64,
+        outer: usize,
+        mode: Mode,
+        numbers: &mut Vec<i64>,
+        logs: &mut Logs,
+    ) -> Option<Advance>
         requires considered { IsConsidered self.old }
+        requires alive { outer < depth_of (machine_of self.old) }
         requires within { self.old.position ≤ limit }
         requires room { vec_len numbers.old < vec_capacity numbers.old }
         requires empty { logs.old ≡ [] }
-        ensures ran { RanFrom limit self.old numbers.old.items result self.new numbers.new.items logs.new }
+        ensures ran { RanFrom limit outer mode self.old numbers.old.items result self.new numbers.new.items logs.new }
         ensures capacity { vec_capacity numbers.new ≡ vec_capacity numbers.old }
     {
-        match self.run_quietly(limit)? {
+        match self.run_quietly(limit, outer)? {
             StepOutcome::Went(written) => {
                 if let Some(last) = written {
                     numbers.push_reserved(last);
                 }
-                Some(Advance::To(self.consider_on(Mode::Continue, logs)))
+                Some(Advance::To(self.consider_on(mode, logs)))
             }
             StepOutcome::Done => Some(Advance::Done),
             StepOutcome::Fault(fault) => Some(Advance::Fault(fault)),

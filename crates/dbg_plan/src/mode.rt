@@ -1,5 +1,8 @@
 //! How a run goes on, and why it stops.
 
+ghost use Rattle.std.specs.Prelude.{IfSome};
+ghost use Rattle.dbg_plan.specs.Running.{IsUndueAbove};
+
 /// What makes a position due besides breakpoints. The number of `Over` and `Out` is how many frames were alive at the stop
 /// that was resumed.
 #[derive(Clone, Copy, PartialEq, Eq)]
@@ -18,6 +21,21 @@ pub enum Mode {
     StepBack,
     /// No position: the run goes back to the last position before it where a breakpoint is due.
     Reverse,
+}
+
+impl Mode {
+    /// Returns a number of frames such that the mode alone makes no position due where more are alive. `None` for a mode that
+    /// has none, or goes back.
+    pub fn outer(self) -> Option<usize>
+        ensures { IfSome result (λ outer. IsUndueAbove self outer) }
+    {
+        match self {
+            Mode::Continue => Some(0),
+            Mode::Over(most) => Some(most),
+            Mode::Out(fewer) => Some(fewer.saturating_sub(1)),
+            _ => None,
+        }
+    }
 }
 
 /// Why a position is due.

@@ -1,8 +1,9 @@
 //! Steps that write nothing and lead to no arrival at a breakpoint.
 
-ghost use Rattle.std.specs.Prelude.{◌≡◌, ◌≤◌, All, Decides, IsTrue, false, Some, None, option_map};
+ghost use Rattle.std.specs.Prelude.{◌≡◌, ◌<◌, ◌≤◌, All, Decides, IsTrue, false, Some, None, option_map};
 ghost use Rattle.std.specs.Arc.{arc_value};
 ghost use Rattle.pl0_machine.specs.declared.outcome.StepOutcome.TheVariants.{Went};
+ghost use Rattle.pl0_machine.specs.Machine.{depth_of};
 ghost use Rattle.std.specs.List.{list_any};
 ghost use Rattle.dbg_plan.specs.Debugged.{IsRunning};
 ghost use Rattle.dbg_plan.specs.Counting.{holds_now, IsMetHere, MayBePlanOf};
@@ -64,22 +65,26 @@ fn marks_of(plan: &Option<Arc<Plan>>) -> Option<&Marks>
     }
 }
 
-/// Takes steps up to the position `limit`, or up to the first that isn't quiet: what that one did. The machine asks the
-/// conditions that it can; the others are asked where it stops for them.
+/// Takes steps up to the position `limit`, or up to the first that isn't quiet: what that one did. A step that leaves no more
+/// than `outer` frames isn't. The machine asks the conditions that it can; the others are asked where it stops for them.
 pub fn run_quietly(
     machine: &mut Machine,
     limit: u64,
+    outer: usize,
     plan: &Option<Arc<Plan>>,
 ) -> Option<StepOutcome>
-    requires running { IsRunning machine.old }
+    requires alive { outer < depth_of machine.old }
     requires within { machine.old.position ≤ limit }
     requires fits { MayBePlanOf machine.old.unit (option_map arc_value plan.now) }
-    ensures { RanByMachine limit (option_map arc_value plan.now) machine.old result machine.new }
+    ensures { RanByMachine limit outer (option_map arc_value plan.now) machine.old result machine.new }
 {
     configuration_laws();
     let marks = marks_of(plan);
     'steps: while machine.position() < limit {
-        let outcome = machine.run(limit, marks)?;
+        let outcome = machine.run(limit, outer, marks)?;
+        if machine.depth() <= outer {
+            return Some(outcome);
+        }
         if !is_quiet(outcome, machine, plan) {
             return Some(outcome);
         }

@@ -9,7 +9,8 @@ use Rattle.dbg_runner.proofs.Alive.{runs_before, not_over, no_fault}
 module _ (limit : ℕ) (old : Debugged) (runs : RunsAt (debugged_program old) limit) (lt : old.position < limit)
     (before : List ℤ) (new : Debugged) (after : List ℤ) (logged : List Log) where
   -- at the positions of its quiet steps nothing is due
-  undue : (advance : Option Advance) (r : RanFrom limit old before advance new after logged) (m : ℕ) → old.position < m
+  undue : (advance : Option Advance) (r : RanFrom limit 0 Continue old before advance new after logged) (m : ℕ) →
+      old.position < m
       → m ≤ old.position + r.steps → due (debugged_program old) old.breakpoints old.counted_from Continue m ≡ None
   undue advance r m above le =
       let k = m - old.position - 1 in
@@ -17,7 +18,7 @@ module _ (limit : ℕ) (old : Debugged) (runs : RunsAt (debugged_program old) li
       subst (λ n. due (debugged_program old) old.breakpoints old.counted_from Continue n ≡ None) there
       (not_due (considered_at old (old.position + k + 1)) (r.quiet k (omega (arith, above, le))).unmet)
 
-  pub hops_to_limit : RanFrom limit old before None new after logged → Hopped limit old false new
+  pub hops_to_limit : RanFrom limit 0 Continue old before None new after logged → Hopped limit old false new
   hops_to_limit r =
       let w = r.within in
       let far = r.ends.2 in
@@ -31,7 +32,7 @@ module _ (limit : ℕ) (old : Debugged) (runs : RunsAt (debugged_program old) li
       } in
       subst (λ d. Hopped limit old false d) (sym r.ends.0) hopped
 
-  pub hops : (why : Option Reason) → RanFrom limit old before (Some (To why)) new after logged
+  pub hops : (why : Option Reason) → RanFrom limit 0 Continue old before (Some (To why)) new after logged
       → Hopped limit old (is_some why) new
   hops why r =
       let w = r.within in
@@ -48,14 +49,14 @@ module _ (limit : ℕ) (old : Debugged) (runs : RunsAt (debugged_program old) li
       } in
       subst (λ d. Hopped limit old (is_some why) d) (sym led.0) hopped
 
-  pub never_over : RanFrom limit old before (Some Done) new after logged → ⊥
+  pub never_over : RanFrom limit 0 Continue old before (Some Done) new after logged → ⊥
   never_over r =
       let short = r.ends.0 in
       let led = r.ends.2 in
       not_over (debugged_program old) (old.position + r.steps + 1)
       (runs_before (debugged_program old) (old.position + r.steps + 1) limit (omega arith) runs) led.1
 
-  pub never_faults : (fault : RunFault) → RanFrom limit old before (Some (Fault fault)) new after logged → ⊥
+  pub never_faults : (fault : RunFault) → RanFrom limit 0 Continue old before (Some (Fault fault)) new after logged → ⊥
   never_faults fault r =
       let short = r.ends.0 in
       let led = r.ends.2 in

@@ -1,7 +1,7 @@
 -- What the steps of a slice leave: one by one, or by runs of the debuggee.
 use Rattle.dbg_runner.proofs.Common.{[], Advance, Advanced, ap, arith, back_if, Closes, considered_at, counts_from, Debugged, Done, ending, ending_by, false, Fault, goes_back, IsConsidered, IsOfSlice, IsRoomOf, IsWritten, List, Log, Mode, None, Option, option_and_then, debugged_program, RanFurther, refl, Room, slice_limit, sliced, SliceOutcome, Some, StandsAtEnd, stopped, subst, suc, sym, To, TookSteps, written, written_before, written_from, zero, ℕ, ℤ, ◌+◌, ◌-◌, ◌<◌, ◌∙◌, ◌∷◌, ◌≡◌, ◌≤◌}
-use Rattle.dbg_plan.specs.declared.mode.Mode.TheVariants.{Continue}
-use Rattle.dbg_plan.proofs.Unwatched.{not_due, nothing_logged}
+use Rattle.dbg_plan.specs.Running.{IsUndueAbove}
+use Rattle.dbg_plan.proofs.Unwatched.{not_due_above, nothing_logged}
 use Rattle.dbg_runner.specs.declared.outcome.SliceOutcome.TheVariants as out
 use Rattle.dbg_runner.proofs.SliceSteps.{Underway, nothing_more, is_empty, goes, ended, spent}
 
@@ -175,39 +175,40 @@ module _ (mode : Mode) (forward : goes_back mode ≡ false) (start d : Debugged)
 
 -- ---- runs of the debuggee
 
-module _ (start d : Debugged) (room : Room) (s : Underway Continue start d room)
+module _ (mode : Mode) (forward : goes_back mode ≡ false) (outer : ℕ) (undue : IsUndueAbove mode outer)
+    (start d : Debugged) (room : Room) (s : Underway mode start d room)
     (lt : d.position < start.position + slice_limit) (result : Option SliceOutcome) (new : Debugged) (more : Room)
-    (f : RanFurther (start.position + slice_limit) d room result new more) where
+    (f : RanFurther (start.position + slice_limit) outer mode d room result new more) where
   -- where the quiet steps led
   abbrev last : Debugged
   last = considered_at d (d.position + f.ran.steps)
 
   empty : room.logs ≡ []
-  empty = is_empty Continue start d room s
+  empty = is_empty mode start d room s
 
-  underway : (k : ℕ) → k ≤ f.ran.steps → Underway Continue start (considered_at d (d.position + k)) room
+  underway : (k : ℕ) → k ≤ f.ran.steps → Underway mode start (considered_at d (d.position + k)) room
   underway zero le =
       let e : d.position ≡ d.position + 0 = omega arith in
-      subst (λ e. Underway Continue start e room)
-      (ap (λ (n : ℕ). record d { next = n }) (behind Continue start d room s)
+      subst (λ e. Underway mode start e room)
+      (ap (λ (n : ℕ). record d { next = n }) (behind mode start d room s)
       ∙ ap (λ (p : ℕ). record d { position = p; next = p + 1 }) e) s
   underway (suc k) le =
       let e : d.position + k + 1 ≡ d.position + suc k = omega arith in
       let w = f.ran.within in
       let q = f.ran.quiet k (omega (arith, le)) in
       let next = considered_at d (d.position + k + 1) in
-      subst (λ (p : ℕ). Underway Continue start (record d { position = p; next = p + 1 }) room) e
-      (goes Continue refl start (considered_at d (d.position + k)) room (underway k (omega (arith, le)))
+      subst (λ (p : ℕ). Underway mode start (record d { position = p; next = p + 1 }) room) e
+      (goes mode forward start (considered_at d (d.position + k)) room (underway k (omega (arith, le)))
       (omega (arith, le, w)) next []
       room (nothing_more (considered_at d (d.position + k)) room empty q.silent) (To None) (
         refl,
-        record { behind = refl; running = q.running },
-        sym (not_due next q.unmet),
+        record { behind = refl; running = (let more = q.running in omega (arith, more)) },
+        sym (not_due_above mode outer undue next q.unmet q.running),
         sym (nothing_logged next q.unmet),
       ) refl)
 
   abbrev ClosesBy : Option Advance → Type 0
-  ClosesBy answer = Closes (start.position + slice_limit) last room.numbers answer new more.numbers more.logs
+  ClosesBy answer = Closes (start.position + slice_limit) outer mode last room.numbers answer new more.numbers more.logs
 
   abbrev end_by : Option Advance → Option SliceOutcome
   end_by answer = option_and_then (λ a. ending a more.logs) answer
@@ -226,16 +227,16 @@ module _ (start d : Debugged) (room : Room) (s : Underway Continue start d room)
       } in
       same ∙ sym f.kept
 
-  pub on_its_way : result ≡ None → Underway Continue start new more
+  pub on_its_way : result ≡ None → Underway mode start new more
   on_its_way is = by_answer f.advance f.ran.ends (sym f.ends ∙ is)
     where
-      by_answer : (o : Option Advance) → ClosesBy o → end_by o ≡ None → Underway Continue start new more
+      by_answer : (o : Option Advance) → ClosesBy o → end_by o ≡ None → Underway mode start new more
       by_answer None closes is =
-          subst (λ e. Underway Continue start e more) (sym closes.0)
-          (subst (λ (m : Room). Underway Continue start last m) (as_before closes)
+          subst (λ e. Underway mode start e more) (sym closes.0)
+          (subst (λ (m : Room). Underway mode start last m) (as_before closes)
           (underway f.ran.steps (omega arith)))
       by_answer (Some a) closes is =
-          goes Continue refl start last room (underway f.ran.steps (omega arith)) closes.0 new more.logs more
+          goes mode forward start last room (underway f.ran.steps (omega arith)) closes.0 new more.logs more
           (wrote a closes) a closes.2 is
 
   pub came_further : result ≡ None → d.position < new.position
@@ -248,15 +249,15 @@ module _ (start d : Debugged) (room : Room) (s : Underway Continue start d room)
           let below = lt in
           omega (arith, there, all, below)
       by_answer (Some a) closes is =
-          let there = further Continue last new more.logs a closes.2 is in
+          let there = further mode last new more.logs a closes.2 is in
           omega (arith, there)
 
-  pub ran_took : (outcome : SliceOutcome) → result ≡ Some outcome → TookSteps Continue start outcome new more
+  pub ran_took : (outcome : SliceOutcome) → result ≡ Some outcome → TookSteps mode start outcome new more
   ran_took outcome is = by_answer f.advance f.ran.ends (sym f.ends ∙ is)
     where
       by_answer : (o : Option Advance) → ClosesBy o → end_by o ≡ Some outcome
-          → TookSteps Continue start outcome new more
+          → TookSteps mode start outcome new more
       by_answer None closes is = absurd cc
       by_answer (Some a) closes is =
-          took Continue refl start last room (underway f.ran.steps (omega arith)) closes.0 new more (wrote a closes) a
+          took mode forward start last room (underway f.ran.steps (omega arith)) closes.0 new more (wrote a closes) a
           closes.2 outcome is

@@ -40,7 +40,7 @@ fn hop(debuggee: &mut Debuggee, outputs: &mut Outputs, limit: u64) -> bool
     ensures room { outputs.new ≡ outputs.old }
 {
     meaning_laws();
-    let advance = outputs.run(debuggee, limit);
+    let advance = outputs.run(debuggee, limit, 0, Mode::Continue);
     outputs.clear();
     match advance {
         None => false,

@@ -159,13 +159,13 @@ ran_after old new told n silent stepped =
       led = more.1 ∙ ahead-ahead old n more.0;
     }
 
-pub ran_stretch : (old mid new : Standing) (told : StepOutcome) → Stretches None old mid
+pub ran_stretch : (old mid new : Standing) (told : StepOutcome) → Stretches 0 None old mid
     → Stepped (outcome_of mid) mid told new → Ran old new told
 ran_stretch old mid new told s stepped =
     ran_after old new told s.steps (λ k lt. (s.passed k lt).silent)
     (subst (λ (m : Standing). Stepped (outcome_of m) m told new) s.led stepped)
 
-pub ran_on : (limit : ℕ) (old new : Standing) (told : StepOutcome) → RanOn limit None old (Some told) new
+pub ran_on : (limit : ℕ) (old new : Standing) (told : StepOutcome) → RanOn limit 0 None old (Some told) new
     → Ran old new told
 ran_on limit old new told r = ran_stretch old r.0 new told r.1 r.3
 

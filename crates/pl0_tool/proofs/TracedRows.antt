@@ -130,7 +130,7 @@ came_same : (start now : Standing) (q : ℕ) → Came start now → at_position 
 came_same start now q came = ap (λ (m : Standing). at_position m q) came.1
 
 -- a machine that came to a position
-pub came_to : (start now new : Standing) (position : ℕ) → Came start now → RanOn position None now None new
+pub came_to : (start now new : Standing) (position : ℕ) → Came start now → RanOn position 0 None now None new
     → (0 < depth_of new) × (new ≡ at_position start position)
 came_to start now new position came ran =
     let more : at_position new position ≡ at_position now position =
@@ -141,7 +141,7 @@ came_to start now new position came ran =
 
 -- after a number the run goes on, and is no further
 pub goes_further : {number : Option ℤ} (start now new : Standing) (position : ℕ) (outcome : StepOutcome)
-    → outcome ≡ Went number → Came start now → RanOn position None now (Some outcome) new
+    → outcome ≡ Went number → Came start now → RanOn position 0 None now (Some outcome) new
     → (0 < depth_of new) × (new.position ≤ position) × Came start new
 goes_further {number} start now new position outcome is came ran =
     let stepped = subst (λ o. Stepped (outcome_of ran.0) ran.0 o new) is ran.3 in
@@ -154,7 +154,7 @@ goes_further {number} start now new position outcome is came ran =
 
 -- where a run stops before a position, no frame is alive there
 pub never_there : (start now new : Standing) (position : ℕ) (outcome : StepOutcome) → Came start now
-    → RanOn position None now (Some outcome) new → IsStop outcome → depth_of (at_position start position) ≡ 0
+    → RanOn position 0 None now (Some outcome) new → IsStop outcome → depth_of (at_position start position) ≡ 0
 never_there start now new position outcome came ran stop =
     let last = ran.0 in
     let lt = ran.2 in

@@ -67,7 +67,7 @@ fn run_on(machine: &mut Machine) -> StepOutcome
     if machine.position() == LAST_POSITION {
         return machine.step();
     }
-    match machine.run(LAST_POSITION, None) {
+    match machine.run(LAST_POSITION, 0, None) {
         Some(outcome) => outcome,
         None => machine.step(),
     }

@@ -72,7 +72,7 @@ fn go_to(rt: &impl Wait, machine: &mut Machine, position: u64) -> bool
         (depth_of (at_position machine.old position) ≡ 0) }
 {
     'numbers: for _ in rt.forever() {
-        match machine.run(position, None) {
+        match machine.run(position, 0, None) {
             None => return true,
             Some(StepOutcome::Went(_)) => {}
             Some(StepOutcome::Done) => return false,

@@ -11,7 +11,7 @@ use Rattle.dbg_plan.proofs.running.run_quietly.Goals as goal
 use Rattle.dbg_plan.proofs.running.run_quietly.Goals.{After-run}
 
 pub steps-init : goal.steps-init
-steps-init c = none_yet _ _ _ c.requires.running c.requires.within
+steps-init c = none_yet _ _ _ _ c.requires.alive c.requires.within
 
 pub run-requires-clause-table : goal.run-requires-clause-table
 run-requires-clause-table c =
@@ -22,18 +22,20 @@ run-requires-clause-table c =
 
 abbrev RanSome : (c : After-run) → StepOutcome → Type 0
 RanSome c outcome =
-    RanOn c.args.limit (option_map (λ t. t.now) c.marks_of-marks.result) c.steps.machine (Some outcome) c.run.new.self
+    RanOn c.args.limit c.args.outer (option_map (λ t. t.now) c.marks_of-marks.result) c.steps.machine (Some outcome)
+    c.run.new.self
 
 some : (c : After-run) (outcome : StepOutcome) → c.run.result ≡ Some outcome → RanSome c outcome
-some c outcome is = subst (λ o. RanOn c.args.limit (option_map (λ t. t.now) c.marks_of-marks.result) c.steps.machine o
+some c outcome is = subst (λ o. RanOn c.args.limit c.args.outer (option_map (λ t. t.now) c.marks_of-marks.result)
+    c.steps.machine o
     c.run.new.self) is c.run.ensures
 
 -- the steps before the last one
 before : (c : After-run) (outcome : StepOutcome) (all : RanSome c outcome)
-    → Quietly c.args.limit (breakpoints_of (option_map arc_value c.args.plan.now)) c.args.machine.now all.0
+    → Quietly c.args.limit c.args.outer (breakpoints_of (option_map arc_value c.args.plan.now)) c.args.machine.now all.0
 before c outcome all =
     let below = all.2 in
-    stretched c.configuration_laws.ensures.linked c.args.limit (option_map arc_value c.args.plan.now)
+    stretched c.configuration_laws.ensures.linked c.args.limit c.args.outer (option_map arc_value c.args.plan.now)
     (option_map (λ t. t.now) c.marks_of-marks.result) c.marks_of-marks.ensures c.args.machine.now c.steps.machine all.0
     c.requires.fits c.steps.invariant all.1 (omega (arith, below))
 
@@ -41,24 +43,39 @@ pub returns-in_err-outcome : goal.returns-in_err-outcome
 returns-in_err-outcome c =
     let plan = option_map arc_value c.args.plan.now in
     let all =
-    subst (λ o. RanOn c.args.limit (option_map (λ t. t.now) c.marks_of-marks.result) c.steps.machine o c.run.new.self)
+    subst (λ o. RanOn c.args.limit c.args.outer (option_map (λ t. t.now) c.marks_of-marks.result) c.steps.machine o
+    c.run.new.self)
     c.in_err-outcome.was c.run.ensures in
     let reached = all.1 in
-    subst (λ o. RanByMachine c.args.limit plan c.args.machine.now o c.run.new.self) (sym c.from_residual.ensures)
-    (stops c.args.limit plan c.args.machine.now c.run.new.self
-    (stretched c.configuration_laws.ensures.linked c.args.limit plan (option_map (λ t. t.now) c.marks_of-marks.result)
+    subst (λ o. RanByMachine c.args.limit c.args.outer plan c.args.machine.now o c.run.new.self) (sym
+    c.from_residual.ensures)
+    (stops c.args.limit c.args.outer plan c.args.machine.now c.run.new.self
+    (stretched c.configuration_laws.ensures.linked c.args.limit c.args.outer plan (option_map (λ t. t.now)
+    c.marks_of-marks.result)
     c.marks_of-marks.ensures c.args.machine.now c.steps.machine c.run.new.self c.requires.fits
     c.steps.invariant all.0 (omega (arith, reached)))
     (omega (arith, reached)))
+
+pub returns-then-depth-outer : goal.returns-then-depth-outer
+returns-then-depth-outer c =
+    let here = (goal.at.returns-then-depth-outer c).After-run in
+    let all = some here c.in_ok-outcome.outcome c.in_ok-outcome.was in
+    ended c.args.limit c.args.outer (option_map arc_value c.args.plan.now) c.args.machine.now all.0
+    (before here c.in_ok-outcome.outcome all) c.in_ok-outcome.outcome c.run.new.self all.3 all.2
+    (λ quietly.
+    let more = quietly.1 in
+    let few = c.if-depth-outer.true in
+    let depth = c.depth.ensures.depth in
+    absurd (omega (arith, more, few, depth)))
 
 pub returns-then-not-is_quiet : goal.returns-then-not-is_quiet
 returns-then-not-is_quiet c =
     let here = (goal.at.returns-then-not-is_quiet c).After-run in
     let all = some here c.in_ok-outcome.outcome c.in_ok-outcome.was in
-    ended c.args.limit (option_map arc_value c.args.plan.now) c.args.machine.now all.0
+    ended c.args.limit c.args.outer (option_map arc_value c.args.plan.now) c.args.machine.now all.0
     (before here c.in_ok-outcome.outcome all) c.in_ok-outcome.outcome c.run.new.self all.3 all.2
     (λ quietly.
-    let other : c.is_quiet.result ≡ true = c.is_quiet.ensures.1 quietly in
+    let other : c.is_quiet.result ≡ true = c.is_quiet.ensures.1 (quietly.0, quietly.2) in
     let is = c.if-not-is_quiet.true in
     cc)
 
@@ -66,6 +83,9 @@ pub steps-preserved : goal.steps-preserved
 steps-preserved c =
     let here = (goal.at.steps-preserved c).After-run in
     let all = some here c.in_ok-outcome.outcome c.in_ok-outcome.was in
-    goes c.args.limit (option_map arc_value c.args.plan.now) c.args.machine.now all.0
+    goes c.args.limit c.args.outer (option_map arc_value c.args.plan.now) c.args.machine.now all.0
     (before here c.in_ok-outcome.outcome all) c.in_ok-outcome.outcome c.run.new.self all.3 all.2
-    (c.is_quiet.ensures.0 c.if-not-is_quiet.false)
+    (let quietly = c.is_quiet.ensures.0 c.if-not-is_quiet.false in
+    let more = c.if-depth-outer.false in
+    let depth = c.depth.ensures.depth in
+    (quietly.0, omega (arith, more, depth), quietly.1))

@@ -6,7 +6,7 @@ use Rattle.dbg_plan.proofs.Quiet.{Quietly}
 use Rattle.dbg_plan.proofs.running.run_quietly.Given as goal
 
 abbrev pub invariant-steps : goal.invariant-steps
-invariant-steps l = Quietly l.limit (breakpoints_of (option_map arc_value l.plan)) l.initial.machine l.machine
+invariant-steps l = Quietly l.limit l.outer (breakpoints_of (option_map arc_value l.plan)) l.initial.machine l.machine
 
 abbrev pub decreases-steps : goal.decreases-steps
 decreases-steps l = l.limit - l.machine.position

@@ -1,5 +1,4 @@
-use Rattle.dbg_plan.specs.declared.mode.Mode.TheVariants.{Continue}
-use Rattle.dbg_runner.proofs.Common.{ap, arith, Debugged, None, Option, RanFurther, refl, Room, slice_limit, SliceOutcome, Some, Standing, subst, sym, ℕ, ◌+◌, ◌<◌, ◌≡◌}
+use Rattle.dbg_runner.proofs.Common.{ap, arith, Debugged, Mode, None, Option, RanFurther, refl, Room, slice_limit, SliceOutcome, Some, Standing, subst, sym, ℕ, ◌+◌, ◌<◌, ◌≡◌}
 use Rattle.dbg_runner.proofs.SliceSteps.{has_room, is_empty, goes}
 use Rattle.dbg_runner.proofs.SliceRuns.{begins, took, all_taken, on_its_way, came_further, ran_took}
 use Rattle.dbg_runner.proofs.slicing.take_runs.Goals as goal
@@ -7,7 +6,7 @@ use Rattle.dbg_runner.proofs.slicing.take_runs.Goals.{In-runs}
 
 pub runs-init : goal.runs-init
 runs-init c = (
-  begins Continue c.args.debuggee.now c.args.outputs.now c.requires.considered c.requires.room,
+  begins c.args.mode c.args.debuggee.now c.args.outputs.now c.requires.considered c.requires.room,
   c.requires.limit,
 )
 
@@ -28,43 +27,45 @@ run_on-requires-clause-within c =
 
 pub step_on-requires-clause-room : goal.step_on-requires-clause-room
 step_on-requires-clause-room c =
-    has_room Continue c.args.debuggee.now c.runs.debuggee c.runs.outputs c.runs.invariant.0
+    has_room c.args.mode c.args.debuggee.now c.runs.debuggee c.runs.outputs c.runs.invariant.0
     (below (goal.at.step_on-requires-clause-room c).In-runs)
 
 pub step_on-requires-clause-empty : goal.step_on-requires-clause-empty
 step_on-requires-clause-empty c =
-    is_empty Continue c.args.debuggee.now c.runs.debuggee c.runs.outputs c.runs.invariant.0
+    is_empty c.args.mode c.args.debuggee.now c.runs.debuggee c.runs.outputs c.runs.invariant.0
 
 pub run_on-requires-clause-room : goal.run_on-requires-clause-room
 run_on-requires-clause-room c =
-    has_room Continue c.args.debuggee.now c.runs.debuggee c.runs.outputs c.runs.invariant.0
+    has_room c.args.mode c.args.debuggee.now c.runs.debuggee c.runs.outputs c.runs.invariant.0
     (below (goal.at.run_on-requires-clause-room c).In-runs)
 
 pub run_on-requires-clause-empty : goal.run_on-requires-clause-empty
 run_on-requires-clause-empty c =
-    is_empty Continue c.args.debuggee.now c.runs.debuggee c.runs.outputs c.runs.invariant.0
+    is_empty c.args.mode c.args.debuggee.now c.runs.debuggee c.runs.outputs c.runs.invariant.0
 
 -- the run, in terms of where the slice began
-ran : (limit begin : ℕ) → limit ≡ begin + slice_limit → (old new : Debugged) (room more : Room)
-    (result : Option SliceOutcome) → RanFurther limit old room result new more
-    → RanFurther (begin + slice_limit) old room result new more
-ran limit begin is old new room more result = subst (λ n. RanFurther n old room result new more) is
+ran : (outer : ℕ) (mode : Mode) (limit begin : ℕ) → limit ≡ begin + slice_limit → (old new : Debugged)
+    (room more : Room) (result : Option SliceOutcome) → RanFurther limit outer mode old room result new more
+    → RanFurther (begin + slice_limit) outer mode old room result new more
+ran outer mode limit begin is old new room more result =
+    subst (λ n. RanFurther n outer mode old room result new more) is
 
 pub returns-in-Some : goal.returns-in-Some
 returns-in-Some c =
-    took Continue refl c.args.debuggee.now c.runs.debuggee c.runs.outputs c.runs.invariant.0
+    took c.args.mode c.requires.forward c.args.debuggee.now c.runs.debuggee c.runs.outputs c.runs.invariant.0
     (below (goal.at.returns-in-Some c).In-runs) _ _ c.in-Some.ensures.written c.in-Some.ensures.advance
     c.in-Some.ensures.led c.in-Some.outcome (sym c.in-Some.ensures.ends)
 
 pub returns-in-Some-run_on : goal.returns-in-Some-run_on
 returns-in-Some-run_on c =
-    ran_took c.args.debuggee.now c.runs.debuggee c.runs.outputs c.runs.invariant.0
+    ran_took c.args.mode c.requires.forward c.args.outer c.requires.undue c.args.debuggee.now c.runs.debuggee
+    c.runs.outputs c.runs.invariant.0
     (below (goal.at.returns-in-Some-run_on c).In-runs) (Some c.in-Some-run_on.outcome) _ _
-    (ran _ _ c.runs.invariant.1 _ _ _ _ _ c.in-Some-run_on.ensures) c.in-Some-run_on.outcome refl
+    (ran _ _ _ _ c.runs.invariant.1 _ _ _ _ _ c.in-Some-run_on.ensures) c.in-Some-run_on.outcome refl
 
 pub runs-preserved-in-None : goal.runs-preserved-in-None
 runs-preserved-in-None c = (
-  goes Continue refl c.args.debuggee.now c.runs.debuggee c.runs.outputs c.runs.invariant.0
+  goes c.args.mode c.requires.forward c.args.debuggee.now c.runs.debuggee c.runs.outputs c.runs.invariant.0
       (below (goal.at.runs-preserved-in-None c).In-runs) _ _ _ c.in-None.ensures.written c.in-None.ensures.advance
       c.in-None.ensures.led (sym c.in-None.ensures.ends),
   c.runs.invariant.1,
@@ -72,9 +73,10 @@ runs-preserved-in-None c = (
 
 pub runs-preserved : goal.runs-preserved
 runs-preserved c = (
-  on_its_way c.args.debuggee.now c.runs.debuggee c.runs.outputs c.runs.invariant.0
+  on_its_way c.args.mode c.requires.forward c.args.outer c.requires.undue c.args.debuggee.now c.runs.debuggee
+      c.runs.outputs c.runs.invariant.0
       (below (goal.at.runs-preserved c).In-runs) None _ _
-      (ran _ _ c.runs.invariant.1 _ _ _ _ _ c.in-None-run_on.ensures) refl,
+      (ran _ _ _ _ c.runs.invariant.1 _ _ _ _ _ c.in-None-run_on.ensures) refl,
   c.runs.invariant.1,
 )
 
@@ -83,8 +85,9 @@ runs-smaller c =
     let here = below (goal.at.runs-smaller c).In-runs in
     let limit_is = c.runs.invariant.1 in
     let there =
-    came_further c.args.debuggee.now c.runs.debuggee c.runs.outputs c.runs.invariant.0 here None _ _
-    (ran _ _ c.runs.invariant.1 _ _ _ _ _ c.in-None-run_on.ensures) refl in
+    came_further c.args.mode c.requires.forward c.args.outer c.requires.undue c.args.debuggee.now c.runs.debuggee
+    c.runs.outputs c.runs.invariant.0 here None _ _
+    (ran _ _ _ _ c.runs.invariant.1 _ _ _ _ _ c.in-None-run_on.ensures) refl in
     omega (arith, here, limit_is, there)
 
 pub returns : goal.returns
@@ -93,5 +96,5 @@ returns c =
     let at = ap (λ (m : Standing). m.position) c.machine.ensures in
     let test = c.runs-test.false in
     let limit_is = c.runs.invariant.1 in
-    all_taken Continue refl c.args.debuggee.now c.runs.debuggee c.runs.outputs c.runs.invariant.0
+    all_taken c.args.mode c.requires.forward c.args.debuggee.now c.runs.debuggee c.runs.outputs c.runs.invariant.0
     (omega (arith, there, at, test, limit_is))

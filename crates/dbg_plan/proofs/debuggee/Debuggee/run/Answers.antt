@@ -10,7 +10,9 @@ returns-in-Fault-clause-ran c =
     let old = c.args.self.now in
     let new = c.run_quietly.new.self in
     let numbers = c.args.numbers.now.items in
-    subst (λ l. RanFrom c.args.limit old numbers (Some (advance.Fault c.in-Fault.fault)) new numbers l)
+    subst (λ l. RanFrom c.args.limit c.args.outer c.args.mode old numbers (Some (advance.Fault c.in-Fault.fault)) new
+    numbers l)
     (sym c.requires.empty)
-    (faulted c.args.limit old new numbers c.in-Fault.fault
-    (subst (λ outcome. RanTo c.args.limit old (Some outcome) new) c.in-Fault.is c.in_ok-written.ensures.ran))
+    (faulted c.args.limit c.args.outer c.args.mode old new numbers c.in-Fault.fault
+    (subst (λ outcome. RanTo c.args.limit c.args.outer old (Some outcome) new) c.in-Fault.is
+    c.in_ok-written.ensures.ran))
