@@ -2,8 +2,9 @@
 //! memory. Or drives a session over memory, beside which `checks/beside.py` plays it to the program in threads.
 //!
 //! - `speed machine FILE` takes the machine's steps alone.
-//! - `speed slices FILE [FIRST COUNT [CONDITION]]` runs a debuggee in slices, under breakpoints at COUNT lines from
-//!   FIRST on.
+//! - `speed slices FILE [FIRST COUNT [CONDITION [HIT]]]` runs a debuggee in slices, under breakpoints at COUNT lines from
+//!   FIRST on; `speed next FILE ..` runs it up to the next position of the main block, and `speed out FILE ..` as long as
+//!   there is a frame above that one's.
 //! - `speed work FILE` hands a debuggee to the runner, over a queue of orders, a gate and reports in memory.
 //! - `speed session FILE` drives a session by the bytes in the file, and prints the frames that it puts.
 #![tactic(auto)]
@@ -14,6 +15,7 @@ mod slices;
 mod worker;
 
 use anyhow::{Context, Result, anyhow};
+use dbg_plan::Mode;
 use pl0_code::compile;
 use pl0_syntax::parse;
 use pl0_unit::Unit;
@@ -23,7 +25,8 @@ use std::rt::Files;
 use std::sync::Wait;
 use std::{env, fs, io};
 
-const USAGE: &str = "usage: speed machine|slices|work|session FILE [FIRST COUNT [CONDITION]]";
+const USAGE: &str =
+    "usage: speed machine|slices|next|out|work|session FILE [FIRST COUNT [CONDITION [HIT]]]";
 
 fn main(rt: HostRuntime) -> Result<()> {
     let arguments = env::args(&rt)
@@ -76,7 +79,9 @@ fn line_of_run<R: Wait + AllocGlobal>(
     let unit = compiled(alloc, text)?;
     match mode {
         "machine" => machine::run(alloc, unit),
-        "slices" => slices::run(alloc, unit, rest),
+        "slices" => slices::run(alloc, unit, Mode::Continue, rest),
+        "next" => slices::run(alloc, unit, Mode::Over(1), rest),
+        "out" => slices::run(alloc, unit, Mode::Out(2), rest),
         "work" => worker::run(rt, alloc, unit),
         _ => Err(anyhow!("{USAGE}")),
     }
