@@ -58,7 +58,26 @@ fn variable(machine: &Machine, frame: usize, level: usize, index: usize) -> i64
     machine.value(found, index)
 }
 
+/// The same as `value_of`, at once for a number or a variable of the frame itself.
+#[inline(always)]
+#[cycle(value)]
+fn operand_value(
+    machine: &Machine,
+    frame: usize,
+    operand: &LocatedExpression,
+) -> Result<i64, EvalFault>
+    requires { CanRead (frames machine.now) frame operand.now }
+    ensures { bound_value (frames machine.now) frame operand.now ≡ answered result }
+{
+    match operand {
+        LocatedExpression::Number(number) => Ok(*number),
+        LocatedExpression::Variable { level: 0, index } => Ok(machine.value(frame, *index)),
+        _ => value_of(machine, frame, operand),
+    }
+}
+
 /// The value of a bound expression in a frame of its block, the left operand first.
+#[cycle(value)]
 pub fn value_of(
     machine: &Machine,
     frame: usize,
@@ -72,10 +91,12 @@ pub fn value_of(
         LocatedExpression::Variable { level, index } => Ok(variable(
             machine, frame, *level, *index,
         )),
-        LocatedExpression::Negate(inner) => evaluated(negate(value_of(machine, frame, inner)?)),
+        LocatedExpression::Negate(inner) => evaluated(negate(operand_value(
+            machine, frame, inner,
+        )?)),
         LocatedExpression::Binary(operator, left, right) => {
-            let x = value_of(machine, frame, left)?;
-            let y = value_of(machine, frame, right)?;
+            let x = operand_value(machine, frame, left)?;
+            let y = operand_value(machine, frame, right)?;
             evaluated(apply(*operator, x, y))
         }
     }
@@ -92,10 +113,10 @@ fn truth_of(
     ensures { bound_truth (frames machine.now) frame condition.now ≡ answered result }
 {
     match condition {
-        LocatedCondition::Odd(expression) => Ok(is_odd(value_of(machine, frame, expression)?)),
+        LocatedCondition::Odd(expression) => Ok(is_odd(operand_value(machine, frame, expression)?)),
         LocatedCondition::Compare(relation, left, right) => {
-            let x = value_of(machine, frame, left)?;
-            let y = value_of(machine, frame, right)?;
+            let x = operand_value(machine, frame, left)?;
+            let y = operand_value(machine, frame, right)?;
             Ok(compare(*relation, x, y))
         }
     }
