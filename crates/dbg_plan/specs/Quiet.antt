@@ -8,7 +8,7 @@ use Rattle.dbg_plan.specs.Breakpoints.{Breakpoint}
 use Rattle.dbg_plan.specs.Plans.{Listed, listed_of, breakpoints_of}
 use Rattle.dbg_plan.specs.Table.{AreMarksOf}
 use Rattle.dbg_plan.specs.Debugged.{Debugged, machine_of}
-use Rattle.pl0_machine.specs.Stretches.{ahead}
+use Rattle.pl0_machine.specs.Stretches.{ahead, Stretches}
 use Rattle.dbg_plan.specs.Advances.{considered_at}
 use Rattle.dbg_plan.specs.Running.{IsQuiet, RanQuietly}
 
@@ -16,6 +16,13 @@ use Rattle.dbg_plan.specs.Running.{IsQuiet, RanQuietly}
 abbrev pub Watches : Option Listed → Option Marks → Type 0
 Watches plan None = listed_of plan ≡ []
 Watches plan (Some marks) = (asked : Listed) × (plan ≡ Some asked) × AreMarksOf asked marks
+
+-- Steps that a run of the machine passes lead to the limit, or before it to one more.
+abbrev pub WentOn : ℕ → ℕ → Option Marks → Standing → Option StepOutcome → Standing → Type 0
+WentOn limit outer marks old None new = Stretches outer marks old new × (new.position ≡ limit)
+WentOn limit outer marks old (Some outcome) new =
+    (last : Standing) × Stretches outer marks old last × (last.position < limit)
+    × Stepped (outcome_of last) last outcome new
 
 -- nothing more at the limit, or the first step that isn't quiet
 abbrev pub Ends : ℕ → ℕ → List Breakpoint → Standing → Option StepOutcome → Standing → Type 0

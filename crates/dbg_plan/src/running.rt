@@ -3,13 +3,15 @@
 ghost use Rattle.std.specs.Prelude.{◌≡◌, ◌<◌, ◌≤◌, All, Decides, IsTrue, false, Some, None, option_map};
 ghost use Rattle.std.specs.Arc.{arc_value};
 ghost use Rattle.pl0_machine.specs.declared.outcome.StepOutcome.TheVariants.{Went};
+ghost use Rattle.pl0_meaning.specs.Runs.{last_position};
 ghost use Rattle.pl0_machine.specs.Machine.{depth_of};
+ghost use Rattle.pl0_machine.specs.Stretches.{IsTable};
 ghost use Rattle.std.specs.List.{list_any};
 ghost use Rattle.dbg_plan.specs.Debugged.{IsRunning};
 ghost use Rattle.dbg_plan.specs.Counting.{holds_now, IsMetHere, MayBePlanOf};
 ghost use Rattle.dbg_plan.specs.Plans.{breakpoints_of};
 ghost use Rattle.dbg_plan.specs.Running.{has_arrival};
-ghost use Rattle.dbg_plan.specs.Quiet.{Watches, RanByMachine, considered_after};
+ghost use Rattle.dbg_plan.specs.Quiet.{Watches, WentOn, RanByMachine, considered_after};
 
 use crate::breakpoint::Breakpoint;
 use crate::evaluation::is_met;
@@ -17,6 +19,12 @@ use crate::plan::Plan;
 use pl0_machine::{Machine, Marks, StepOutcome};
 use pl0_meaning::configuration_laws;
 use std::sync::Arc;
+
+// To begin a run of the machine takes as many instructions as it saves in some six steps. So after a run of fewer steps than
+// these, to a condition that doesn't hold, a short loop is stepped through for a while.
+const SHORT_RUN: u64 = 6;
+
+const SINGLE_STEPS: u64 = 32;
 
 /// Whether the condition of one of these breakpoints holds, which are those of the machine's step.
 fn any_met(machine: &Machine, breakpoints: &[Breakpoint]) -> bool
@@ -37,7 +45,12 @@ fn has_arrival(machine: &Machine, plan: &Option<Arc<Plan>>) -> bool
 {
     match plan {
         None => false,
-        Some(plan) => any_met(machine, plan.entry(machine.next_step())),
+        Some(plan) => {
+            if !plan.has_breakpoint(machine.address()) {
+                return false;
+            }
+            any_met(machine, plan.entry(machine.next_step()))
+        }
     }
 }
 
@@ -65,6 +78,42 @@ fn marks_of(plan: &Option<Arc<Plan>>) -> Option<&Marks>
     }
 }
 
+/// Takes a step, if the machine stands before the position `near`; else steps up to where the machine ends a run. Returns what
+/// the last step did; `None` at the position `limit`.
+#[inline(always)]
+fn go_on(
+    machine: &mut Machine,
+    limit: u64,
+    outer: usize,
+    marks: Option<&Marks>,
+    near: u64,
+) -> Option<StepOutcome>
+    requires alive { outer < depth_of machine.old }
+    requires below { machine.old.position < limit }
+    requires table { IsTable machine.old.unit (option_map (λ table. table.now) marks) }
+    ensures { WentOn limit outer (option_map (λ table. table.now) marks.entry) machine.old result machine.new }
+{
+    if machine.position() < near {
+        return Some(machine.step());
+    }
+    machine.run(limit, outer, marks)
+}
+
+/// Returns the position before which single steps are taken, after those from `begin` to `end`. Before them it was `near`.
+#[inline(always)]
+fn next_near(near: u64, begin: u64, end: u64) -> u64
+    requires begin { begin ≤ last_position }
+    requires end { end ≤ last_position }
+{
+    if begin < near {
+        near
+    } else if end < begin + SHORT_RUN {
+        end + SINGLE_STEPS
+    } else {
+        end
+    }
+}
+
 /// Takes steps up to the position `limit`, or up to the first that isn't quiet: what that one did. A step that leaves no more
 /// than `outer` frames isn't. The machine asks the conditions that it can; the others are asked where it stops for them.
 pub fn run_quietly(
@@ -80,14 +129,17 @@ pub fn run_quietly(
 {
     configuration_laws();
     let marks = marks_of(plan);
+    let mut near = 0;
     'steps: while machine.position() < limit {
-        let outcome = machine.run(limit, outer, marks)?;
+        let begin = machine.position();
+        let outcome = go_on(machine, limit, outer, marks, near)?;
         if machine.depth() <= outer {
             return Some(outcome);
         }
         if !is_quiet(outcome, machine, plan) {
             return Some(outcome);
         }
+        near = next_near(near, begin, machine.position());
     }
     None
 }
