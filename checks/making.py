@@ -86,8 +86,25 @@ b := b + 2; c := c + a / 7;
 if x / {rare} * {rare} = x then
 ! x + c; call p
 end."""
-PATHS = {"p.pl0": 20, "deep.pl0": 3, "bad.pl0": 6, "worse.pl0": 6, "missing.pl0": 1, ".": 1, "p.pl0/": 1,
+# A step over its calls takes some slices at times, writes, stops at breakpoints, and at times faults.
+CALLS = """var n, x;
+procedure p; var i;
+begin i := 0;
+while i < {turns} do
+begin x := x + i;
+if i / {rare} * {rare} = i then
+! x; i := i + 1 end
+end;
+procedure q;
+begin call p;
+if n = {last} then x := n / (n - {last});
+call p end;
+while n < {rounds} do
+begin call q;
+n := n + 1 end."""
+PATHS = {"p.pl0": 20, "calls.pl0": 5, "deep.pl0": 3, "bad.pl0": 6, "worse.pl0": 6, "missing.pl0": 1, ".": 1, "p.pl0/": 1,
          "./p.pl0": 1, "x" * 255: 1}
+FILES = ("p.pl0", "calls.pl0", "deep.pl0", "bad.pl0", "worse.pl0", "long.pl0")
 COMMANDS = [*FITTING, "attach", "restart", "terminate", "cancel", "source", "completions", "stepback", "setVariable", "goto"]
 # What is asked in a situation, and how often.
 LIKELY = {
@@ -333,7 +350,7 @@ class Maker:
         self.chance = chance
         self.crosses = crosses
         self.texts = Texts(chance)
-        self.files = {name: self.text(name).encode() for name in ("p.pl0", "deep.pl0", "bad.pl0", "worse.pl0", "long.pl0")}
+        self.files = {name: self.text(name).encode() for name in FILES}
         self.model = Session(folder)
         self.seq = chance.choice([0, 0, 0, 100, 2**53 - 200])
         self.favourite = chance.choice(["continue", "continue", "next", "stepIn", "stepOut"])
@@ -346,6 +363,9 @@ class Maker:
             return self.texts.program()
         if name == "deep.pl0":
             return self.chance.choice(["procedure p; call p;\ncall p.", "var x; while x < 700 do\nx := x + 1.", "."])
+        if name == "calls.pl0":
+            chosen = {"turns": [3, 40, 100], "rare": [7, 30, 200], "last": [1, 2, 9], "rounds": [2, 4]}
+            return CALLS.format(**{word: self.chance.choice(numbers) for word, numbers in chosen.items()})
         if name == "long.pl0":
             return LONG.format(turns=self.chance.choice([1000, 4000, 16000]), rare=self.chance.choice([50, 200, 1000]))
         if name == "worse.pl0" and self.chance.random() < 0.1:
@@ -450,10 +470,19 @@ class Maker:
             arguments[self.chance.choice([name, "noDebug", "startFrame"])] = self.chance.choice(STRANGE_VALUES)
         return arguments
 
+    def step_over_frames(self) -> str | None:
+        """A step that passes over what is done in other frames: over the call that comes next, or out of a procedure."""
+        if self.model.machine.top().kind == "call":
+            return "next"
+        return "stepOut" if self.model.machine.depth() > 1 else None
+
     def command(self) -> str:
         if self.chance.random() < 0.06:
             return self.chance.choice([command for command in COMMANDS if command != "disconnect"])
         likely = LIKELY[self.model.situation]
+        over = self.step_over_frames() if self.model.situation == "Stopped" else None
+        if over and self.chance.random() < 0.3:
+            return over
         if self.model.situation == "Stopped" and self.chance.random() < 0.25:
             long = [command for command in RESUMING if lasts(self.model, command)]
             if long:
