@@ -62,6 +62,21 @@ def loop(turns: int) -> str:
     return f"var x;\nprocedure idle;\nbegin\n{idle}end;\nwhile x < {turns} do\nx := x + 1.\n"
 
 
+def called(text):
+    """The same in a procedure, which the program calls first."""
+    return lambda turns: f"procedure p;\n{text(turns).strip().removesuffix('.')};\ncall p.\n"
+
+
+def writing(turns: int) -> str:
+    """A loop of ten steps, of which one writes."""
+    return "var x;\nwhile x < %d do begin\n%s! x\nend.\n" % (turns, "x := x + 1;\n" * 8)
+
+
+def in_the_loop(*conditions: str) -> tuple[str, ...]:
+    """A breakpoint in the loop, with a condition and a hit condition."""
+    return (str(ELSEWHERE + 6), "1", *conditions)
+
+
 def runs() -> list[Run]:
     many, few = (100_000, 300_000), (20_000, 60_000)
     count, links, divide = scaled("count", "100000000"), scaled("links", "30000000"), scaled("divide", "50000000")
@@ -76,7 +91,13 @@ def runs() -> list[Run]:
         Run("a step of `count`, by the runner", "work", count, many),
         Run("a step of `links`, in slices", "slices", links, few),
         Run("a step in slices, 256 breakpoints elsewhere", "slices", loop, many, ("4", str(ELSEWHERE))),
-        Run("a step in slices, a false condition in the loop", "slices", loop, few, (str(ELSEWHERE + 6), "1", "x < 0")),
+        Run("a step in slices, a false condition in the loop", "slices", loop, few, in_the_loop("x < 0")),
+        Run("a step in slices, a false condition of another form", "slices", loop, few, in_the_loop("x + 1 < 0")),
+        Run("a step in slices, a hit condition in the loop", "slices", loop, few, in_the_loop("", "1000000")),
+        Run("a step in slices, each tenth writes", "slices", writing, few),
+        Run("a step of `primes`, in slices", "slices", primes, (1_000, 3_000)),
+        Run("a step of `primes`, in a call that `next` passes over", "next", called(primes), (1_000, 3_000)),
+        Run("a step of `count`, in a procedure that `stepOut` leaves", "out", called(count), many),
     ]
 
 

@@ -28,7 +28,8 @@ import tempfile
 import threading
 import time
 
-HERE = os.path.dirname(os.path.abspath(__file__))
+from machine import HERE, interpreter
+
 sys.path.insert(0, os.path.join(HERE, "..", "checks"))
 import client as protocol  # noqa: E402
 
@@ -480,9 +481,7 @@ def commands(program: str, speed: str | None, folder: str) -> dict[str, list[str
         file.write(loop())
     with open(os.path.join(folder, "listing"), "w", encoding="ascii") as file:
         subprocess.run([program, "--check", "loop"], stdout=file, check=True, cwd=folder)
-    interpreter = os.path.join(folder, "interpreter")
-    subprocess.run(["clang", "-O2", "-o", interpreter, os.path.join(HERE, "interpreter.c")], check=True)
-    given = {"interpreter in C": [interpreter, "listing"]}
+    given = {"interpreter in C": [interpreter(folder), "listing"]}
     if speed:
         given["`speed`, the machine alone"] = [speed, "machine", "loop"]
         given["`speed`, slices, no breakpoint"] = [speed, "slices", "loop"]
