@@ -107,13 +107,13 @@ def session_goals(log: Log) -> list[Goal]:
     ]
 
 
-# What is counted beside `continue`: its label, how the page names it, its name in a goal, and the most instructions a step.
+# What is counted beside `continue`: its label, its name in a goal, and the most instructions a step.
 STEPPING = [
-    ("a step of `primes`, in a call that `next` passes over", "`next` over a call that runs `primes`", "`next`", 65),
-    ("a step of `count`, in a procedure that `stepOut` leaves", "`stepOut` of a procedure that runs `count`", "`stepOut`", 28),
-    ("a step in slices, a hit condition in the loop", "a hit condition in a loop of two steps", "a hit condition", 110),
-    ("a step in slices, a false condition of another form", "the condition `x + 1 < 0` there", "`x + 1 < 0`", 160),
-    ("a step in slices, each tenth writes", "a loop of which each tenth step writes", "writing", 70),
+    ("a step of `primes`, in a call that `next` passes over", "`next`", 65),
+    ("a step of `count`, in a procedure that `stepOut` leaves", "`stepOut`", 28),
+    ("a step in slices, a hit condition in the loop", "a hit condition", 110),
+    ("a step in slices, a false condition of another form", "`x + 1 < 0`", 160),
+    ("a step in slices, each tenth writes", "`writing`", 70),
 ]
 
 
@@ -139,9 +139,9 @@ def machine_goals(log: Log) -> list[Goal]:
         Goal("instructions a step: `count` 23, `links` 29, `divide` 47, `primes` 55, `nested` 46, a false condition 46",
              "{:.1f}, {:.1f}, {:.1f}, {:.1f}, {:.1f}, {:.1f}", [*counts, false], [23, 29, 47, 55, 46, 46], (*names, "the condition"),
              least=False),
-        Goal("instructions a step: " + ", ".join(f"{short} {most}" for _, _, short, most in STEPPING),
+        Goal("instructions a step: " + ", ".join(f"{name} {most}" for _, name, most in STEPPING),
              ", ".join(["{:.1f}"] * len(STEPPING)), [log.figures("instructions", label)[0] for label, *_ in STEPPING],
-             [most for *_, most in STEPPING], tuple(short for _, _, short, _ in STEPPING), least=False),
+             [most for *_, most in STEPPING], tuple(name for _, name, _ in STEPPING), least=False),
         Goal("million instructions of `stackTrace`, `variables` of 1,024: 0.6, 0.42", "{:.2f}, {:.2f}", answers, [0.6, 0.42],
              ("`stackTrace`", "`variables`"), least=False),
     ]
@@ -243,11 +243,6 @@ def slices(log: Log) -> str:
     return table(["Run", "Million steps a second", "Share", "Instructions"], rows)
 
 
-def stepping(log: Log) -> str:
-    rows = [[shown, f"{log.figures('instructions', label)[0]:.1f}"] for label, shown, *_ in STEPPING]
-    return table(["Run", "Instructions a step"], rows)
-
-
 def back(log: Log) -> str:
     forward, memory = log.figures("back", "100,000,002 steps forward")
     best, median, worst = log.figures("back", "`stepBack` from there, 20 times")
@@ -284,7 +279,7 @@ def build(log: Log) -> str:
 
 BLOCKS: dict[str, Callable[[Log], str]] = {
     "build": build, "goals": goals, "throughput": throughput, "answers": answers, "runs": runs, "debugged": debugged, "machine": machine,
-    "slices": slices, "stepping": stepping, "back": back, "checking": checking, "many": many,
+    "slices": slices, "back": back, "checking": checking, "many": many,
 }
 
 
