@@ -1,12 +1,12 @@
 -- What a request asks is what its content says.
-use Rattle.dap_msg.proofs.Common.{[], All, and_from, and_parts, ap, ArgumentsAreMembers, arith, array, as_array, as_bool, as_str, AsksBreakpoint, AsksEvaluate, AsksInitialize, AsksLaunch, AsksScopes, AsksSetBreakpoints, AsksStackTrace, AsksThread, AsksVariables, Bool, boolean, breakpoint_limit, breakpoint_of_object, codes, Command, command_of, command_text, Data, false, fitted_or_bad, from_four, from_three, from_two, get, is_some, IsAsked, IsCalled, IsGiven, IsPrintable, IsReadAs, item, Items, last_line, last_whole, le-leb, leb-true, length, List, Members, nat_le, no_items, no_members, None, not, not-true, number, object, object_or_empty, only_object, Option, option_and_then, option_map, optional, or_default, read_each, refl, required, scopes_arguments, set_breakpoints_arguments, Some, some_text, source_breakpoint, source_breakpoints, source_path, stack_trace_arguments, string, subst, supported_command, sym, text_limit, text_to, true, true≢false, unsigned, unwrap_or, variables_arguments, whole, whole_to, ℕ, ◌∙◌, ◌∷◌, ◌≡◌, ◌≤◌}
+use Rattle.dap_msg.proofs.Common.{[], AsksQuestion, IsQuestionCalled, All, and_from, and_parts, ap, ArgumentsAreMembers, arith, array, as_array, as_bool, as_str, AsksBreakpoint, AsksEvaluate, AsksInitialize, AsksLaunch, AsksScopes, AsksSetBreakpoints, AsksStackTrace, AsksThread, AsksVariables, Bool, boolean, breakpoint_limit, breakpoint_of_object, codes, Command, command_of, command_text, Data, false, fitted_or_bad, from_four, from_three, from_two, get, is_some, IsAsked, IsCalled, IsGiven, IsPrintable, IsReadAs, item, Items, last_line, last_whole, le-leb, leb-true, length, List, Members, nat_le, no_items, no_members, None, not, not-true, number, object, object_or_empty, only_object, Option, option_and_then, option_map, optional, or_default, read_each, refl, required, scopes_arguments, set_breakpoints_arguments, Some, some_text, source_breakpoint, source_breakpoints, source_path, stack_trace_arguments, string, subst, supported_command, sym, text_limit, text_to, true, true≢false, unsigned, unwrap_or, variables_arguments, whole, whole_to, ℕ, ◌∙◌, ◌∷◌, ◌≡◌, ◌≤◌}
 use Rattle.std.specs.Option.{option_map_or}
 use Rattle.std.proofs.lemmas.Slice.Eq.{bytes_eq-Decides}
 use Rattle.dap_msg.specs.Evaluate.{evaluate_arguments, expression_limit}
 use Rattle.dap_msg.specs.Initialize.{initialize_arguments}
 use Rattle.dap_msg.specs.Launch.{is_path, path, debugs, launch_arguments}
 use Rattle.dap_msg.specs.Members.{Has, HasOr, IsObjectOrAbsent, SayEach}
-use Rattle.dap_msg.specs.Questions.{question_text, question_kind, question_of}
+use Rattle.dap_msg.specs.Questions.{kind_of, question_text, question_kind, question_of}
 use Rattle.dap_msg.specs.Resume.{resume_text, retreat_text, thread_arguments}
 use Rattle.dap_msg.specs.declared.command.Command.TheVariants as command
 use Rattle.dap_msg.specs.declared.command.Supported.{Supported}
@@ -553,6 +553,25 @@ retreat_called : (kind : RetreatKind) (x : ThreadArguments) (name : List ℕ) �
 retreat_called retreat.StepBack x name is = is
 retreat_called _ x name is = is
 
+question_named : (q : Question) (name : List ℕ) → IsQuestionCalled q name → name ≡ question_text (kind_of q)
+question_named (question.StackTrace x) name called = called
+question_named _ name called = called
+
+question_well : (q : Question) (given : Option Data) → AsksQuestion q given → IsObjectOrAbsent given
+question_well (question.StackTrace x) given asks = asks.given_well
+question_well (question.Scopes x) given asks = asks.given_well
+question_well (question.Variables x) given asks = asks.given_well
+question_well (question.Evaluate x) given asks = asks.given_well
+
+question_read : (q : Question) (given : Option Data) (d : Data) → IsObjectOf given d → AsksQuestion q given
+    → question_of (kind_of q) d ≡ Some q
+question_read (question.StackTrace x) given d o asks =
+    ap (option_map question.StackTrace) (stack_trace_read given d x o asks)
+question_read (question.Scopes x) given d o asks = ap (option_map question.Scopes) (scopes_read given d x o asks)
+question_read (question.Variables x) given d o asks =
+    ap (option_map question.Variables) (variables_read given d x o asks)
+question_read (question.Evaluate x) given d o asks = ap (option_map question.Evaluate) (evaluate_read given d x o asks)
+
 -- a command that is asked is read
 asked_is_read : (c : Command) (name : List ℕ) (given : Option Data) → IsCalled c name → IsGiven c given
     → command_of name given ≡ c
@@ -578,28 +597,16 @@ asked_is_read (command.Retreat kind x) name given called asks =
 asked_is_read (command.Pause x) name given called asks =
     by_name supported.Pause name given called ∙ made command.Pause supported.Pause _ x
     (read_of given x asks.given_well (λ d o. thread_read given d x o asks))
-asked_is_read (command.Inspect (question.StackTrace x)) name given called asks =
-    by_name (supported.Inspect kind.StackTrace) name given called
-    ∙ made command.Inspect (supported.Inspect kind.StackTrace) _ (question.StackTrace x)
-    (read_of given (question.StackTrace x) asks.given_well
-    (λ d o. ap (option_map question.StackTrace) (stack_trace_read given d x o asks)))
-asked_is_read (command.Inspect (question.Scopes x)) name given called asks =
-    by_name (supported.Inspect kind.Scopes) name given called
-    ∙ made command.Inspect (supported.Inspect kind.Scopes) _ (question.Scopes x)
-    (read_of given (question.Scopes x) asks.given_well
-    (λ d o. ap (option_map question.Scopes) (scopes_read given d x o asks)))
-asked_is_read (command.Inspect (question.Variables x)) name given called asks =
-    by_name (supported.Inspect kind.Variables) name given called
-    ∙ made command.Inspect (supported.Inspect kind.Variables) _ (question.Variables x)
-    (read_of given (question.Variables x) asks.given_well
-    (λ d o. ap (option_map question.Variables) (variables_read given d x o asks)))
-asked_is_read (command.Inspect (question.Evaluate x)) name given called asks =
-    by_name (supported.Inspect kind.Evaluate) name given called
-    ∙ made command.Inspect (supported.Inspect kind.Evaluate) _ (question.Evaluate x)
-    (read_of given (question.Evaluate x) asks.given_well
-    (λ d o. ap (option_map question.Evaluate) (evaluate_read given d x o asks)))
+asked_is_read (command.Inspect q) name given called asks =
+    by_name (supported.Inspect (kind_of q)) name given (question_named q name called)
+    ∙ made command.Inspect (supported.Inspect (kind_of q)) _ q
+    (read_of given q (question_well q given asks) (λ d o. question_read q given d o asks))
 asked_is_read command.Disconnect name given called asks = by_name supported.Disconnect name given called
 asked_is_read _ name given called asks = absurd called
+
+kind_supported : (k : QuestionKind) → is_some (supported_command (question_text k)) ≡ true
+kind_supported kind.StackTrace = refl
+kind_supported _ = refl
 
 -- the name of a command is that of a supported one
 called_supported : (c : Command) (name : List ℕ) → IsCalled c name → is_some (supported_command name) ≡ true
@@ -607,7 +614,8 @@ called_supported (command.Unsupported text) name called = absurd called
 called_supported (command.BadArguments k) name called = absurd called
 called_supported (command.Resume resume.Continue x) name called = ap (λ t. is_some (supported_command t)) called
 called_supported (command.Retreat retreat.StepBack x) name called = ap (λ t. is_some (supported_command t)) called
-called_supported (command.Inspect (question.StackTrace x)) name called = ap (λ t. is_some (supported_command t)) called
+called_supported (command.Inspect q) name called =
+    ap (λ t. is_some (supported_command t)) (question_named q name called) ∙ kind_supported (kind_of q)
 called_supported _ name called = ap (λ t. is_some (supported_command t)) called
 
 not_called : (c : Command) (name : List ℕ) → supported_command name ≡ None → IsCalled c name → ⊥

@@ -1,5 +1,5 @@
 -- The text of a message is read back as its value.
-use Rattle.dap_msg.proofs.Common.{[], All, and_parts, ap, append-nil, arith, array, Bool, breakpoint, compact_text, Data, depth, Err, false, Fits, float, FrameFits, Greater, IsContent, item, Items, items_depth, items_of, items_outline, ItemsFit, LineFits, List, lit≤, map, member, Members, members_depth, members_outline, MembersFit, MessagesAreReadBack, NamesItself, negative, no_items, no_members, number, NumbersFit, object, Ok, Option, option_and_then, option_map, Ordering, outline, put, ReferenceFits, refl, rules, scope, Some, stack_frame, StackFrame, suc, sym, text_of, true, unsigned, value_of, variable, ℕ, ◌&&◌, ◌<◌, ◌^◌, ◌∙◌, ◌∷◌, ◌≡◌, ◌≤◌}
+use Rattle.dap_msg.proofs.Common.{ShownFits, shown_data, [], All, and_parts, ap, append-nil, arith, array, Bool, breakpoint, compact_text, Data, depth, Err, false, Fits, float, FrameFits, Greater, IsContent, item, Items, items_depth, items_of, items_outline, ItemsFit, LineFits, List, lit≤, map, member, Members, members_depth, members_outline, MembersFit, MessagesAreReadBack, NamesItself, negative, no_items, no_members, number, NumbersFit, object, Ok, Option, option_and_then, option_map, Ordering, outline, put, ReferenceFits, refl, rules, scope, Some, stack_frame, StackFrame, suc, sym, text_of, true, unsigned, value_of, variable, ℕ, ◌&&◌, ◌<◌, ◌^◌, ◌∙◌, ◌∷◌, ◌≡◌, ◌≤◌}
 use Rattle.std.specs.Ordering.{nat_cmp, match_ordering}
 use Rattle.std.specs.Cmp.Lexicographic.{slice_cmp}
 use Rattle.json.specs.Token.{Token}
@@ -17,6 +17,8 @@ use Rattle.dap_msg.specs.declared.outgoing.BreakpointAnswer.TheVariants.{At, Unv
 use Rattle.dap_msg.specs.declared.outgoing.Outgoing.{Outgoing}
 use Rattle.dap_msg.specs.declared.outgoing.Outgoing.TheVariants.{Answer, Event}
 use Rattle.dap_msg.specs.declared.outgoing.Body.TheVariants as body
+use Rattle.dap_msg.specs.declared.question.Shown.{Shown}
+use Rattle.dap_msg.specs.declared.question.Shown.TheVariants as shown
 use Rattle.dap_msg.specs.declared.outgoing.EventBody.TheVariants as event
 use Rattle.dap_msg.specs.declared.outgoing.Scope.{Scope}
 use Rattle.dap_msg.specs.declared.outgoing.StopReason.TheVariants as reason
@@ -180,13 +182,13 @@ regular : (message : Outgoing) (seq : ℕ) → (is_sorted (value_of message seq)
 regular (Answer request_seq command (Ok (body.Breakpoints answers))) seq =
     let flat = each_flat breakpoint 2 breakpoint_flat answers in
     (rw (each_sorted breakpoint breakpoint_sorted answers) refl, omega (arith, flat))
-regular (Answer request_seq command (Ok (body.StackTrace path frames total))) seq = (
+regular (Answer request_seq command (Ok (body.Shown (shown.StackTrace path frames total)))) seq = (
   rw (each_sorted (stack_frame path) (λ f. refl) frames) refl,
   omega (arith, each_flat (stack_frame path) 2 (λ f. lit≤ tt) frames),
 )
-regular (Answer request_seq command (Ok (body.Scopes scopes))) seq =
+regular (Answer request_seq command (Ok (body.Shown (shown.Scopes scopes)))) seq =
     (rw (each_sorted scope (λ s. refl) scopes) refl, omega (arith, each_flat scope 2 (λ s. lit≤ tt) scopes))
-regular (Answer request_seq command (Ok (body.Variables variables))) seq =
+regular (Answer request_seq command (Ok (body.Shown (shown.Variables variables)))) seq =
     (rw (each_sorted variable (λ v. refl) variables) refl, omega (arith, each_flat variable 2 (λ v. lit≤ tt) variables))
 regular (Event (event.Stopped reason.Step)) seq = (refl, lit≤ tt)
 regular _ seq = (refl, lit≤ tt)
@@ -214,6 +216,14 @@ scope_fits s fits = (tt, (tt, (fits, tt)))
 small : (n : ℕ) → n ≤ 9 → n < 2 ^ 64
 small n is = omega arith
 
+shown_fits : (b : Shown) → ShownFits b → Fits (shown_data b)
+shown_fits (shown.StackTrace path frames total) fits =
+    (each_fits (stack_frame path) FrameFits (frame_fits path) frames fits.0, (fits.1, tt))
+shown_fits (shown.Scopes scopes) fits = (each_fits scope ReferenceFits scope_fits scopes fits, tt)
+shown_fits (shown.Variables variables) fits =
+    (each_fits variable (λ v. Unit {0}) (λ v is. (tt, (tt, (small _ (lit≤ tt), tt)))) variables (λ k d lt. tt), tt)
+shown_fits (shown.Value v) fits = (tt, (small _ (lit≤ tt), tt))
+
 message_fits : (message : Outgoing) (seq : ℕ) → NumbersFit message → seq < 2 ^ 64 → Fits (value_of message seq)
 message_fits (Answer request_seq command (Ok body.None)) seq fits below = (tt, (fits.0, (below, (tt, (tt, tt)))))
 message_fits (Answer request_seq command (Ok body.Capabilities)) seq fits below =
@@ -224,18 +234,8 @@ message_fits (Answer request_seq command (Ok body.Threads)) seq fits below =
     ((((small _ (lit≤ tt), (tt, tt)), tt), tt), (tt, (fits.0, (below, (tt, (tt, tt))))))
 message_fits (Answer request_seq command (Ok body.Continued)) seq fits below =
     ((tt, tt), (tt, (fits.0, (below, (tt, (tt, tt))))))
-message_fits (Answer request_seq command (Ok (body.StackTrace path frames total))) seq fits below = (
-  (each_fits (stack_frame path) FrameFits (frame_fits path) frames fits.1.0, (fits.1.1, tt)),
-  (tt, (fits.0, (below, (tt, (tt, tt))))),
-)
-message_fits (Answer request_seq command (Ok (body.Scopes scopes))) seq fits below =
-    ((each_fits scope ReferenceFits scope_fits scopes fits.1, tt), (tt, (fits.0, (below, (tt, (tt, tt))))))
-message_fits (Answer request_seq command (Ok (body.Variables variables))) seq fits below = (
-  (each_fits variable (λ v. Unit {0}) (λ v is. (tt, (tt, (small _ (lit≤ tt), tt)))) variables (λ k d lt. tt), tt),
-  (tt, (fits.0, (below, (tt, (tt, tt))))),
-)
-message_fits (Answer request_seq command (Ok (body.Value v))) seq fits below =
-    ((tt, (small _ (lit≤ tt), tt)), (tt, (fits.0, (below, (tt, (tt, tt))))))
+message_fits (Answer request_seq command (Ok (body.Shown b))) seq fits below =
+    (shown_fits b fits.1, (tt, (fits.0, (below, (tt, (tt, tt))))))
 message_fits (Answer request_seq command (Err r)) seq fits below = (tt, (tt, (tt, (fits.0, (below, (tt, (tt, tt)))))))
 message_fits (Event event.Initialized) seq fits below = (tt, (below, (tt, tt)))
 message_fits (Event (event.Stopped reason.Breakpoint)) seq fits below =

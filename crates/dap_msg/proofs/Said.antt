@@ -1,7 +1,7 @@
 -- A message's value says what it is.
-use Rattle.dap_msg.proofs.Common.{[], append_assoc, body_data, breakpoint, breakpoint_refusal_text, Data, Err, items_of, List, map, name_text, None, Ok, Option, refl, refusal_text, scope, Some, stack_frame, StackFrame, success_value, value_of, Variable, variable, ℕ, ◌∷◌}
+use Rattle.dap_msg.proofs.Common.{[], SaysFrame, SaysScope, SaysShown, SaysVariable, shown_data, append_assoc, body_data, breakpoint, breakpoint_refusal_text, Data, Err, items_of, List, map, name_text, None, Ok, Option, refl, refusal_text, scope, Some, stack_frame, StackFrame, success_value, value_of, Variable, variable, ℕ, ◌∷◌}
 use Rattle.dap_msg.specs.Members.{SayEach}
-use Rattle.dap_msg.specs.Said.{SaysRefusal, SaysUnset, SaysBreakpoint, SaysFrame, SaysScope, SaysVariable, SaysBody, Says}
+use Rattle.dap_msg.specs.Said.{SaysRefusal, SaysUnset, SaysBreakpoint, SaysBody, Says}
 use Rattle.dap_msg.specs.declared.command.CommandName.{CommandName}
 use Rattle.dap_msg.specs.declared.outgoing.Outgoing.{Outgoing}
 use Rattle.dap_msg.specs.declared.outgoing.Outgoing.TheVariants.{Answer, Event}
@@ -17,6 +17,8 @@ use Rattle.dap_msg.specs.declared.outgoing.Refusal.{Refusal}
 use Rattle.dap_msg.specs.declared.outgoing.Refusal.TheVariants as refusal
 use Rattle.dap_msg.specs.declared.outgoing.Scope.{Scope}
 use Rattle.dap_msg.specs.declared.outgoing.StopReason.TheVariants as reason
+use Rattle.dap_msg.specs.declared.question.Shown.{Shown}
+use Rattle.dap_msg.specs.declared.question.Shown.TheVariants as shown
 
 -- ---- texts and lists
 
@@ -57,6 +59,23 @@ says_scope s = record { name = refl; reference = refl; cheap = refl; no_more = r
 says_variable : (v : Variable) → SaysVariable v (variable v)
 says_variable v = record { name = refl; value = refl; no_parts = refl; no_more = refl }
 
+says_shown : (b : Shown) → SaysShown b (Some (shown_data b))
+says_shown (shown.StackTrace path frames total) = (
+  (
+    items_of (map (stack_frame path) frames),
+    refl,
+    say_each (stack_frame path) (SaysFrame path) (says_frame path)
+        frames,
+  ),
+  refl,
+  refl,
+)
+says_shown (shown.Scopes scopes) =
+    ((items_of (map scope scopes), refl, say_each scope SaysScope says_scope scopes), refl)
+says_shown (shown.Variables variables) =
+    ((items_of (map variable variables), refl, say_each variable SaysVariable says_variable variables), refl)
+says_shown (shown.Value v) = (refl, refl, refl)
+
 says_body : (b : Body) → SaysBody b (body_data b)
 says_body body.None = refl
 says_body body.Capabilities = record {
@@ -71,20 +90,7 @@ says_body (body.Breakpoints answers) =
     ((items_of (map breakpoint answers), refl, say_each breakpoint SaysBreakpoint says_breakpoint answers), refl)
 says_body body.Threads = ((_, refl, (refl, refl, refl)), refl)
 says_body body.Continued = (refl, refl)
-says_body (body.StackTrace path frames total) = (
-  (
-    items_of (map (stack_frame path) frames),
-    refl,
-    say_each (stack_frame path) (SaysFrame path) (says_frame path)
-        frames,
-  ),
-  refl,
-  refl,
-)
-says_body (body.Scopes scopes) = ((items_of (map scope scopes), refl, say_each scope SaysScope says_scope scopes), refl)
-says_body (body.Variables variables) =
-    ((items_of (map variable variables), refl, say_each variable SaysVariable says_variable variables), refl)
-says_body (body.Value v) = (refl, refl, refl)
+says_body (body.Shown b) = says_shown b
 
 -- with a body or without one
 says_success : (b : Body) (o : Option Data) (request_seq : ℕ) (command : CommandName) (seq : ℕ) → SaysBody b o

@@ -3,21 +3,17 @@
 use Rattle.std.specs.Prelude.{◌≡◌, ◌≤◌, ◌^◌, ◌-◌, ℕ, true, false, List, [], All, length, codes, Option, Some, option_map}
 use Rattle.serde_json.specs.Data.{Data, boolean, number, unsigned, string, array, object, Items, no_items, Members}
 use Rattle.serde_json.specs.Find.{get}
-use Rattle.dap_msg.specs.Members.{Has, HasOr, IsObjectOrAbsent, SayEach}
+use Rattle.dap_msg.specs.Members.{Has, HasOr, IsObjectOrAbsent, IsSmall, SayEach}
+use Rattle.dap_msg.specs.Questions.{IsQuestionCalled, AsksQuestion}
 use Rattle.dap_msg.specs.declared.command.Command.{Command}
 use Rattle.dap_msg.specs.declared.command.Command.TheVariants as command
-use Rattle.dap_msg.specs.declared.question.Question.TheVariants as question
-use Rattle.dap_msg.specs.declared.requests.evaluate.EvaluateArguments.{EvaluateArguments}
 use Rattle.dap_msg.specs.declared.requests.initialize.InitializeArguments.{InitializeArguments}
 use Rattle.dap_msg.specs.declared.requests.launch.LaunchArguments.{LaunchArguments}
 use Rattle.dap_msg.specs.declared.requests.resume.ResumeKind.TheVariants as resume
 use Rattle.dap_msg.specs.declared.requests.resume.RetreatKind.TheVariants as retreat
 use Rattle.dap_msg.specs.declared.requests.resume.ThreadArguments.{ThreadArguments}
-use Rattle.dap_msg.specs.declared.requests.scopes.ScopesArguments.{ScopesArguments}
 use Rattle.dap_msg.specs.declared.requests.set_breakpoints.SetBreakpointsArguments.{SetBreakpointsArguments}
 use Rattle.dap_msg.specs.declared.requests.set_breakpoints.SourceBreakpoint.{SourceBreakpoint}
-use Rattle.dap_msg.specs.declared.requests.stack_trace.StackTraceArguments.{StackTraceArguments}
-use Rattle.dap_msg.specs.declared.requests.variables.VariablesArguments.{VariablesArguments}
 
 -- ---- names
 
@@ -35,19 +31,12 @@ IsCalled (command.Resume resume.StepOut asked) name = name ≡ codes "stepOut"
 IsCalled (command.Retreat retreat.StepBack asked) name = name ≡ codes "stepBack"
 IsCalled (command.Retreat retreat.ReverseContinue asked) name = name ≡ codes "reverseContinue"
 IsCalled (command.Pause asked) name = name ≡ codes "pause"
-IsCalled (command.Inspect (question.StackTrace asked)) name = name ≡ codes "stackTrace"
-IsCalled (command.Inspect (question.Scopes asked)) name = name ≡ codes "scopes"
-IsCalled (command.Inspect (question.Variables asked)) name = name ≡ codes "variables"
-IsCalled (command.Inspect (question.Evaluate asked)) name = name ≡ codes "evaluate"
+IsCalled (command.Inspect asked) name = IsQuestionCalled asked name
 IsCalled command.Disconnect name = name ≡ codes "disconnect"
 IsCalled (command.Unsupported text) name = ⊥
 IsCalled (command.BadArguments k) name = ⊥
 
 -- ---- arguments
-
--- a whole number that a member may be, unless another range is said for it
-abbrev pub IsSmall : ℕ → Type 0
-IsSmall n = n ≤ 2 ^ 53 - 1
 
 -- a byte from 0x20 to 0x7E
 abbrev pub IsPrintable : ℕ → Type 0
@@ -93,33 +82,8 @@ pub record AsksThread (asked : ThreadArguments) (given : Option Data) : Type 0 w
   pub thread : Has (codes "threadId") (number (unsigned asked.thread_id)) given
   pub small : IsSmall asked.thread_id
 
-pub record AsksStackTrace (asked : StackTraceArguments) (given : Option Data) : Type 0 where
-  pub given_well : IsObjectOrAbsent given
-  pub thread : Has (codes "threadId") (number (unsigned asked.thread_id)) given
-  pub small : IsSmall asked.thread_id
-  pub start : HasOr (number (unsigned 0)) (codes "startFrame") (number (unsigned asked.start_frame)) given
-  pub start_small : IsSmall asked.start_frame
-  pub levels : HasOr (number (unsigned 0)) (codes "levels") (number (unsigned asked.levels)) given
-  pub levels_small : IsSmall asked.levels
-
-pub record AsksScopes (asked : ScopesArguments) (given : Option Data) : Type 0 where
-  pub given_well : IsObjectOrAbsent given
-  pub frame : Has (codes "frameId") (number (unsigned asked.frame_id)) given
-  pub small : IsSmall asked.frame_id
-
-pub record AsksVariables (asked : VariablesArguments) (given : Option Data) : Type 0 where
-  pub given_well : IsObjectOrAbsent given
-  pub reference : Has (codes "variablesReference") (number (unsigned asked.variables_reference)) given
-  pub small : IsSmall asked.variables_reference
-
-pub record AsksEvaluate (asked : EvaluateArguments) (given : Option Data) : Type 0 where
-  pub given_well : IsObjectOrAbsent given
-  pub expression : Has (codes "expression") (string asked.expression) given
-  pub expression_fits : length asked.expression ≤ 1024
-  pub frame : HasOr (number (unsigned 1)) (codes "frameId") (number (unsigned asked.frame_id)) given
-  pub small : IsSmall asked.frame_id
-
--- the member `arguments`, or its absence, gives the command these arguments; three commands ignore it
+-- The member `arguments`, or its absence, gives the command these arguments; three commands ignore it. What a question
+-- asks stands in the file of that question: `StackTrace`, `Scopes`, `Variables` or `Evaluate`.
 abbrev pub IsGiven : Command → Option Data → Type 0
 IsGiven (command.Initialize asked) given = AsksInitialize asked given
 IsGiven (command.Launch asked) given = AsksLaunch asked given
@@ -129,10 +93,7 @@ IsGiven command.Threads given = Unit {0}
 IsGiven (command.Resume kind asked) given = AsksThread asked given
 IsGiven (command.Retreat kind asked) given = AsksThread asked given
 IsGiven (command.Pause asked) given = AsksThread asked given
-IsGiven (command.Inspect (question.StackTrace asked)) given = AsksStackTrace asked given
-IsGiven (command.Inspect (question.Scopes asked)) given = AsksScopes asked given
-IsGiven (command.Inspect (question.Variables asked)) given = AsksVariables asked given
-IsGiven (command.Inspect (question.Evaluate asked)) given = AsksEvaluate asked given
+IsGiven (command.Inspect asked) given = AsksQuestion asked given
 IsGiven command.Disconnect given = Unit {0}
 IsGiven (command.Unsupported text) given = ⊥
 IsGiven (command.BadArguments k) given = ⊥

@@ -1,5 +1,5 @@
 -- States, for the laws, which members an object has.
-use Rattle.std.specs.Prelude.{◌≡◌, ℕ, zero, suc, List, [], ◌∷◌, Option, None, Some, unwrap_or, option_and_then}
+use Rattle.std.specs.Prelude.{◌≡◌, ◌≤◌, ◌^◌, ◌-◌, ℕ, zero, suc, List, [], ◌∷◌, Option, None, Some, unwrap_or, option_and_then}
 use Rattle.serde_json.specs.Data.{Data, array, object, Items, no_items, item, Members, no_members, member}
 use Rattle.serde_json.specs.Find.{get}
 
@@ -36,3 +36,7 @@ length_of (member key value ms) = suc (length_of ms)
 abbrev pub HasOnly : ℕ → Option Data → Type 0
 HasOnly n (Some (object ms)) = length_of ms ≡ n
 HasOnly n _ = ⊥
+
+-- a whole number that a member may be, unless another range is said for it
+abbrev pub IsSmall : ℕ → Type 0
+IsSmall n = n ≤ 2 ^ 53 - 1

@@ -8,6 +8,7 @@ use Rattle.dap_msg.specs.Writing.{Fits, ItemsFit, MembersFit}
 use Rattle.dap_msg.specs.declared.outgoing.Body.{Body}
 use Rattle.dap_msg.specs.declared.outgoing.Body.TheVariants as body
 use Rattle.dap_msg.specs.declared.outgoing.StackFrame.{StackFrame}
+use Rattle.dap_msg.specs.declared.question.Shown.TheVariants as shown
 use Rattle.dap_msg.specs.declared.outgoing.Variable.{Variable}
 
 -- a byte that stands in a string as it is: no control character, no quote and no backslash
@@ -28,8 +29,8 @@ are_plain_variables variables = list_all (λ (variable : Variable). is_plain var
 
 -- whether a body has frames or variables, and all its texts are plain
 abbrev pub is_plain_body : Body → Bool
-is_plain_body (body.StackTrace path frames total) = is_plain path && are_plain_frames frames
-is_plain_body (body.Variables variables) = are_plain_variables variables
+is_plain_body (body.Shown (shown.StackTrace path frames total)) = is_plain path && are_plain_frames frames
+is_plain_body (body.Shown (shown.Variables variables)) = are_plain_variables variables
 is_plain_body _ = false
 
 -- the text of the value was appended

@@ -6,6 +6,7 @@ use Rattle.serde_json.specs.Data.{Data, boolean, number, unsigned, string, array
 use Rattle.serde_json.specs.Find.{get}
 use Rattle.dap_msg.specs.Commands.{name_text}
 use Rattle.dap_msg.specs.Members.{Has, HasEach, HasOnly}
+use Rattle.dap_msg.specs.Questions.{SaysShown}
 use Rattle.dap_msg.specs.declared.outgoing.Outgoing.{Outgoing}
 use Rattle.dap_msg.specs.declared.outgoing.Outgoing.TheVariants.{Answer, Event}
 use Rattle.dap_msg.specs.declared.outgoing.Body.{Body}
@@ -20,11 +21,8 @@ use Rattle.dap_msg.specs.declared.outgoing.Exception.{Exception}
 use Rattle.dap_msg.specs.declared.outgoing.Exception.TheVariants as exception
 use Rattle.dap_msg.specs.declared.outgoing.Refusal.{Refusal}
 use Rattle.dap_msg.specs.declared.outgoing.Refusal.TheVariants as refusal
-use Rattle.dap_msg.specs.declared.outgoing.Scope.{Scope}
-use Rattle.dap_msg.specs.declared.outgoing.StackFrame.{StackFrame}
 use Rattle.dap_msg.specs.declared.outgoing.StopReason.{StopReason}
 use Rattle.dap_msg.specs.declared.outgoing.StopReason.TheVariants as reason
-use Rattle.dap_msg.specs.declared.outgoing.Variable.{Variable}
 
 -- ---- responses
 
@@ -77,31 +75,8 @@ SaysThread d =
     Has (codes "id") (number (unsigned 1)) (Some d) × Has (codes "name") (string (codes "main")) (Some d)
     × HasOnly 2 (Some d)
 
--- the protocol's StackFrame
-pub record SaysFrame (path : List ℕ) (frame : StackFrame) (d : Data) : Type 0 where
-  pub id : Has (codes "id") (number (unsigned frame.id)) (Some d)
-  pub name : Has (codes "name") (string frame.name) (Some d)
-  pub line : Has (codes "line") (number (unsigned frame.line)) (Some d)
-  pub column : Has (codes "column") (number (unsigned frame.column)) (Some d)
-  pub source : Has (codes "path") (string path) (get (codes "source") d)
-  pub source_only : HasOnly 1 (get (codes "source") d)
-  pub no_more : HasOnly 5 (Some d)
-
--- the protocol's Scope
-pub record SaysScope (scope : Scope) (d : Data) : Type 0 where
-  pub name : Has (codes "name") (string scope.name) (Some d)
-  pub reference : Has (codes "variablesReference") (number (unsigned scope.reference)) (Some d)
-  pub cheap : Has (codes "expensive") (boolean false) (Some d)
-  pub no_more : HasOnly 3 (Some d)
-
--- the protocol's Variable, which has no parts
-pub record SaysVariable (variable : Variable) (d : Data) : Type 0 where
-  pub name : Has (codes "name") (string variable.name) (Some d)
-  pub value : Has (codes "value") (string (signed_decimal variable.value)) (Some d)
-  pub no_parts : Has (codes "variablesReference") (number (unsigned 0)) (Some d)
-  pub no_more : HasOnly 3 (Some d)
-
--- the body of a response says this
+-- The body of a response says this. What an answer to a question says stands in the file of that question:
+-- `StackTrace`, `Scopes`, `Variables` or `Evaluate`.
 abbrev pub SaysBody : Body → Option Data → Type 0
 SaysBody body.None said = said ≡ None
 SaysBody body.Capabilities said = SaysCapabilities said
@@ -109,14 +84,7 @@ SaysBody (body.Breakpoints answers) said = HasEach SaysBreakpoint (codes "breakp
 SaysBody body.Threads said =
     ((thread : Data) × Has (codes "threads") (array (item thread no_items)) said × SaysThread thread) × HasOnly 1 said
 SaysBody body.Continued said = Has (codes "allThreadsContinued") (boolean true) said × HasOnly 1 said
-SaysBody (body.StackTrace path frames total) said =
-    HasEach (SaysFrame path) (codes "stackFrames") frames said
-    × Has (codes "totalFrames") (number (unsigned total)) said × HasOnly 2 said
-SaysBody (body.Scopes scopes) said = HasEach SaysScope (codes "scopes") scopes said × HasOnly 1 said
-SaysBody (body.Variables variables) said = HasEach SaysVariable (codes "variables") variables said × HasOnly 1 said
-SaysBody (body.Value v) said =
-    Has (codes "result") (string (signed_decimal v)) said
-    × Has (codes "variablesReference") (number (unsigned 0)) said × HasOnly 2 said
+SaysBody (body.Shown shown) said = SaysShown shown said
 
 -- the response says what came of the request: its body, and no message; or why it is refused, with an empty body
 abbrev pub SaysResult : Result Body Refusal → Data → Type 0

@@ -37,12 +37,12 @@
 //! `specs` that defines them; `Request` in `specs` says which request a content is, and `Outgoing`
 //! what the content of a message is. A further command needs a variant of [`Supported`], of
 //! [`Command`] and of [`Body`], and such a pair of files; one that asks about the program where it stands
-//! needs a variant of [`Question`] and of [`QuestionKind`] in place of the first two, and one that resumes or goes
+//! needs a variant of [`Question`], of [`QuestionKind`] and of [`Shown`] in place of these, and one that resumes or goes
 //! back a variant of [`ResumeKind`] or [`RetreatKind`].
 //!
 //! [`message_laws`] is the check on these definitions: a content is one request or none (`proofs/Once`), with its
 //! `seq` and `command` (`proofs/WellFormed`); what a request asks is said member by member in `Asked` of `specs`,
-//! and what a message says in `Said`, in the protocol's words and without the other files.
+//! and what a message says in `Said`, in the protocol's words and without the other files but those of the questions.
 #![tactic(auto)]
 
 mod arguments;
@@ -70,7 +70,7 @@ pub use outgoing::{
     Body, BreakpointAnswer, BreakpointRefusal, EventBody, Exception, Outgoing, Refusal, Scope,
     StackFrame, StopReason, Variable,
 };
-pub use question::{Question, QuestionKind};
+pub use question::{Question, QuestionKind, Shown};
 pub use reading::{read, read_from};
 pub use request::{FirstSeq, Request};
 pub use requests::evaluate::EvaluateArguments;

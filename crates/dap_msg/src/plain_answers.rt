@@ -11,6 +11,7 @@ ghost use Rattle.dap_msg.specs.Writing.{IsContent};
 
 use crate::draft::Draft;
 use crate::outgoing::{Body, StackFrame, Variable};
+use crate::question::Shown;
 use std::alloc::AllocError;
 
 /// Whether a text stands between quotes as it is: it has no control character, no quote and no backslash.
@@ -43,10 +44,10 @@ pub(crate) fn is_plain_body(body: &Body) -> bool
     ensures { result ≡ is_plain_body body.now }
 {
     match body {
-        Body::StackTrace { path, frames, .. } => {
+        Body::Shown(Shown::StackTrace { path, frames, .. }) => {
             is_plain(path.as_str()) && are_plain_frames(frames.as_slice())
         }
-        Body::Variables(found) => are_plain_variables(found.as_slice()),
+        Body::Shown(Shown::Variables(found)) => are_plain_variables(found.as_slice()),
         _ => false,
     }
 }
@@ -78,12 +79,14 @@ fn put_body(text: &mut Draft, body: &Body) -> Result<(), AllocError>
     ensures { OnOk result (PutsSome (body_data body.now) text.old text.new) }
 {
     match body {
-        Body::StackTrace {
-            path,
-            frames,
-            total,
-        } => put_stack_trace_body(text, path.as_str(), frames.as_slice(), *total),
-        Body::Variables(found) => put_variables_body(text, found.as_slice()),
+        Body::Shown(
+            Shown::StackTrace {
+                path,
+                frames,
+                total,
+            },
+        ) => put_stack_trace_body(text, path.as_str(), frames.as_slice(), *total),
+        Body::Shown(Shown::Variables(found)) => put_variables_body(text, found.as_slice()),
         _ => unreachable!(),
     }
 }
