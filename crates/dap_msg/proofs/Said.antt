@@ -95,24 +95,24 @@ says_body (body.Shown b) = says_shown b
 -- with a body or without one
 says_success : (b : Body) (o : Option Data) (request_seq : ℕ) (command : CommandName) (seq : ℕ) → SaysBody b o
     → Says (Answer request_seq command (Ok b)) seq (success_value o request_seq (name_text command) seq)
-says_success b None request_seq command seq said = (refl, refl, refl, refl, (refl, said, refl))
-says_success b (Some d) request_seq command seq said = (refl, refl, refl, refl, (refl, said, refl))
+says_success b None request_seq command seq said = (refl, refl, refl, refl, (refl, said, refl, refl))
+says_success b (Some d) request_seq command seq said = (refl, refl, refl, refl, (refl, said, refl, refl))
 
 -- ---- messages
 
 pub says : (message : Outgoing) (seq : ℕ) → Says message seq (value_of message seq)
 says (Answer request_seq command (Ok b)) seq = says_success b (body_data b) request_seq command seq (says_body b)
 says (Answer request_seq command (Err r)) seq =
-    (refl, refl, refl, refl, (refl, refl, (refusal_text r, refl, says_refusal r)))
-says (Event event.Initialized) seq = (refl, refl, (refl, refl))
-says (Event (event.Stopped reason.Breakpoint)) seq = (refl, refl, (refl, ((refl, refl), refl, refl)))
-says (Event (event.Stopped reason.Step)) seq = (refl, refl, (refl, ((refl, refl), refl, refl)))
-says (Event (event.Stopped reason.Entry)) seq = (refl, refl, (refl, ((refl, refl), refl, refl)))
-says (Event (event.Stopped reason.Pause)) seq = (refl, refl, (refl, ((refl, refl), refl, refl)))
-says (Event (event.Output v)) seq = (refl, refl, (refl, (refl, refl, refl)))
-says (Event (event.Log text)) seq = (refl, refl, (refl, (refl, refl, refl)))
-says (Event (event.Exited code)) seq = (refl, refl, (refl, refl, refl))
-says (Event event.Terminated) seq = (refl, refl, (refl, refl))
+    (refl, refl, refl, refl, (refl, refl, (refusal_text r, refl, says_refusal r), refl))
+says (Event event.Initialized) seq = (refl, refl, (refl, refl), refl)
+says (Event (event.Stopped reason.Breakpoint)) seq = (refl, refl, (refl, ((refl, refl), refl, refl)), refl)
+says (Event (event.Stopped reason.Step)) seq = (refl, refl, (refl, ((refl, refl), refl, refl)), refl)
+says (Event (event.Stopped reason.Entry)) seq = (refl, refl, (refl, ((refl, refl), refl, refl)), refl)
+says (Event (event.Stopped reason.Pause)) seq = (refl, refl, (refl, ((refl, refl), refl, refl)), refl)
+says (Event (event.Output v)) seq = (refl, refl, (refl, (refl, refl, refl)), refl)
+says (Event (event.Log text)) seq = (refl, refl, (refl, (refl, refl, refl)), refl)
+says (Event (event.Exited code)) seq = (refl, refl, (refl, refl, refl), refl)
+says (Event event.Terminated) seq = (refl, refl, (refl, refl), refl)
 says (Event (event.Stopped (reason.Exception exception.Overflow))) seq =
-    (refl, refl, (refl, ((refl, refl, refl), refl, refl)))
-says (Event (event.Stopped (reason.Exception _))) seq = (refl, refl, (refl, ((refl, refl, refl), refl, refl)))
+    (refl, refl, (refl, ((refl, refl, refl), refl, refl)), refl)
+says (Event (event.Stopped (reason.Exception _))) seq = (refl, refl, (refl, ((refl, refl, refl), refl, refl)), refl)

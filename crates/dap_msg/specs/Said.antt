@@ -1,6 +1,6 @@
 -- States what a message's value says, member by member, in the words of the Debug Adapter Protocol. Profile: the one
 -- thread, the texts of refusals, and the category of what is shown.
-use Rattle.std.specs.Prelude.{◌≡◌, ◌++◌, ℕ, true, false, List, codes, Option, None, Some, Result, Ok, Err}
+use Rattle.std.specs.Prelude.{◌≡◌, ◌++◌, ℕ, suc, true, false, List, codes, Option, None, Some, Result, Ok, Err}
 use Rattle.std.specs.Fmt.{decimal, signed_decimal}
 use Rattle.serde_json.specs.Data.{Data, boolean, number, unsigned, string, array, object, no_items, item, no_members}
 use Rattle.serde_json.specs.Find.{get}
@@ -86,14 +86,20 @@ SaysBody body.Threads said =
 SaysBody body.Continued said = Has (codes "allThreadsContinued") (boolean true) said × HasOnly 1 said
 SaysBody (body.Shown shown) said = SaysShown shown said
 
+-- the message has this many members, a body where there is one, and no others
+abbrev pub HasNoMore : ℕ → Data → Option Data → Type 0
+HasNoMore n d None = HasOnly n (Some d)
+HasNoMore n d (Some body) = HasOnly (suc n) (Some d)
+
 -- the response says what came of the request: its body, and no message; or why it is refused, with an empty body
 abbrev pub SaysResult : Result Body Refusal → Data → Type 0
 SaysResult (Ok b) d =
     (get (codes "success") d ≡ Some (boolean true)) × SaysBody b (get (codes "body") d)
-    × (get (codes "message") d ≡ None)
+    × (get (codes "message") d ≡ None) × HasNoMore 5 d (get (codes "body") d)
 SaysResult (Err why) d =
     (get (codes "success") d ≡ Some (boolean false)) × (get (codes "body") d ≡ Some (object no_members))
     × ((message : List ℕ) × (get (codes "message") d ≡ Some (string message)) × SaysRefusal why message)
+    × HasOnly 7 (Some d)
 
 -- ---- events
 
@@ -145,7 +151,7 @@ SaysEvent event.Terminated d = IsNamed (codes "terminated") d × (get (codes "bo
 -- ---- messages
 
 -- The value says its type and its seq. For an answer it also says the request's seq and command and what came of the
--- request, and for an event what the event reports.
+-- request, and for an event what the event reports. It says nothing else.
 abbrev pub Says : Outgoing → ℕ → Data → Type 0
 Says (Answer request_seq command result) seq d =
     (get (codes "type") d ≡ Some (string (codes "response")))
@@ -155,4 +161,4 @@ Says (Answer request_seq command result) seq d =
     × SaysResult result d
 Says (Event e) seq d =
     (get (codes "type") d ≡ Some (string (codes "event"))) × (get (codes "seq") d ≡ Some (number (unsigned seq)))
-    × SaysEvent e d
+    × SaysEvent e d × HasNoMore 3 d (get (codes "body") d)
