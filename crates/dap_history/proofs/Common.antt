@@ -9,7 +9,7 @@ pub use Rattle.dap_history.specs.Frames.{Counting, at_most, frame_by_id, frame_n
 pub use Rattle.dap_history.specs.GoingBack.{back_by, back_in, back_of, held_by}
 pub use Rattle.dap_history.specs.History.{Accepted, Content, Effect, Fault, History, InputEnd, Item, Launched, Loaded, MemoryFailure, ReadFailure, Step, messages, messages_of, orders_of, with_answer}
 pub use Rattle.dap_history.specs.Initialized.{less_by}
-pub use Rattle.dap_history.specs.Inspection.{EvaluatesIn, RepliesAt, RepliesFrom, Subject, result_reply, scopes, subject_in}
+pub use Rattle.dap_history.specs.Inspection.{EvaluatesIn, RepliesAt, RepliesFrom, Subject, result_answer, scopes, subject_in}
 pub use Rattle.dap_history.specs.Last.{last_such, or_else}
 pub use Rattle.dap_history.specs.Launching.{Launches, launches, wanted_in}
 pub use Rattle.dap_history.specs.Laws.{AreReadAs, ContentsAreOfTheStream, launch_request, log_of, log_texts, read_as, waiting}

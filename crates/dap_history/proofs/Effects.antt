@@ -1,7 +1,9 @@
 -- No item leads nowhere: what its texts read as, or that they don't, gives it an answer.
-use Rattle.dap_history.proofs.Common.{Accepted, AreResolved, At, BadCondition, Block, Breakpoint, Command, Configuration, Configuring, Content, Ended, Err, EvalFault, EvaluatesIn, Expression, Fault, Faulted, Frame, Fresh, HasConditionAt, HasRule, History, InputEnd, Inspects, IsResolvedTo, IsSome, Item, Launch, Launched, Loaded, MemoryFailure, NoStep, None, OfProgram, Ok, Option, Reaction, Reacts, ReadFailure, Refuse, Ready, RepliesAt, Reply, Request, Resolution, RunFault, Running, SetBreakpoints, SetsOf, Situation, Some, Stopped, WrittenJoins, [], at, causing, frame_by_id, inl, inr, is_same_path, launched, launches, line_offset, name_of, refl, refused, reply_of, situation, step_from, string_bytes, subject_in, subst, sym, value, ℕ, ◌++◌, ◌-◌, ◌∷◌, ◌≡◌}
+use Rattle.dap_history.proofs.Common.{Accepted, AreResolved, At, BadCondition, Block, Breakpoint, Command, Configuration, Configuring, Content, Ended, Err, EvalFault, EvaluatesIn, Expression, Fault, Faulted, Frame, Fresh, HasConditionAt, HasRule, History, InputEnd, Inspects, IsResolvedTo, IsSome, Item, Launch, Launched, Loaded, MemoryFailure, NoStep, None, OfProgram, Ok, Option, Reaction, Reacts, ReadFailure, Refuse, Ready, RepliesAt, Request, Resolution, RunFault, Running, SetsOf, Situation, Some, Stopped, WrittenJoins, [], at, causing, frame_by_id, inl, inr, is_same_path, launched, launches, line_offset, name_of, refl, refused, reply_of, situation, step_from, string_bytes, subject_in, subst, sym, value, ℕ, ◌++◌, ◌-◌, ◌∷◌, ◌≡◌}
 use Rattle.std.proofs.Common.{List, Bool, true, false, ℤ, Result}
 use Rattle.dap_msg.specs.declared.question.Question.TheVariants as question
+use Rattle.dap_msg.specs.declared.question.Shown.{Shown}
+use Rattle.dap_msg.specs.declared.outgoing.Refusal.{Refusal}
 use Rattle.dap_msg.specs.declared.requests.evaluate.EvaluateArguments.{EvaluateArguments}
 use Rattle.dap_msg.specs.declared.requests.set_breakpoints.SetBreakpointsArguments.{SetBreakpointsArguments}
 use Rattle.dap_msg.specs.declared.command.Command.TheVariants as command
@@ -22,13 +24,13 @@ use Rattle.dbg_plan.specs.declared.evaluation.EvalFault.TheVariants.{Overflow, D
 use Rattle.dbg_plan.specs.declared.resolving.Resolution.TheVariants.{BadHitCondition, BadLogMessage}
 use Rattle.dbg_plan.specs.declared.resolving.SourceBreakpoint.{SourceBreakpoint as AskedLine}
 use Rattle.dap_history.specs.Readings.{position}
-use Rattle.dap_history.specs.Inspection.{result_reply}
+use Rattle.dap_history.specs.Inspection.{result_answer}
 use Rattle.dap_history.specs.Launching.{syntax}
 use Rattle.dap_history.specs.Laws.{IsPlain, AreStrings, HasStrings, NoItemLeadsNowhere}
 use Rattle.dap_history.proofs.Texts.{OneProgram}
 use Rattle.dap_history.proofs.Along.{IsLawfulEvent, lawful_events, along}
 use Rattle.dap_history.proofs.Early.{IsEarly}
-use Rattle.dap_history.proofs.Questions.{reaction_there}
+use Rattle.dap_history.proofs.Questions.{reaction_there, reaction_with}
 use Rattle.dap_history.proofs.Leading.{IsLaunched, Leading, leading_kept, leading_first, of_program, is_late, LeadsOn, by_step, leads_on}
 
 -- ---- lines
@@ -92,16 +94,16 @@ evaluated_so (Err run_fault.Depth) is = absurd is
 evaluated_so (Err run_fault.StepLimit) is = absurd is
 
 evaluates : ValuesAreArithmetic → (main : Block) (c : Configuration) (id : ℕ) (o : Option Frame) (text : List ℕ)
-    → ¬ ((reply : Reply) → ¬ EvaluatesIn main c id o text reply)
-evaluates arithmetic main c id None text none = none (refused refusal.UnknownFrame) refl
+    → ¬ ((answer : Result Shown Refusal) → ¬ EvaluatesIn main c id o text answer)
+evaluates arithmetic main c id None text none = none (Err refusal.UnknownFrame) refl
 evaluates arithmetic main c id (Some f) text none =
-    none (refused refusal.BadExpression) (inr (record { none = no_expression; reply_is = refl }))
+    none (Err refusal.BadExpression) (inr (record { none = no_expression; answer_is = refl }))
   where
     no_expression : (e : Expression) → ¬ IsExpressionOf main f.block text e
     no_expression e reads =
         let result = evaluated_so (value main c (id - 1) e) (arithmetic main c (id - 1) e) in
-        none (result_reply result.0)
-        (inl (record { expression = e; reads = reads; result = result.0; result_is = result.1; reply_is = refl }))
+        none (result_answer result.0)
+        (inl (record { expression = e; reads = reads; result = result.0; result_is = result.1; answer_is = refl }))
 
 module _ (one : OneProgram) (joins : WrittenJoins) (no_gaps : RunsHaveNoGaps) (texts : TextsHaveOne)
     (arithmetic : ValuesAreArithmetic) (past : History) (here : Leading one joins no_gaps past) where
@@ -185,20 +187,21 @@ module _ (one : OneProgram) (joins : WrittenJoins) (no_gaps : RunsHaveNoGaps) (t
       there : IsLaunched past
       there = late s is not
 
-      with_reply : (reply : Reply) → RepliesAt (subject_in past there.0) (at there.0.program (position past))
-          (question.Evaluate q) reply → ⊥
-      with_reply reply replies =
-          let made = reaction_there past (question.Evaluate q) reply
+      with_answer : (answer : Result Shown Refusal) → RepliesAt (subject_in past there.0)
+          (at there.0.program (position past)) (question.Evaluate q) answer → ⊥
+      with_answer answer replies =
+          let inspects = reaction_there past (question.Evaluate q) answer
           (of_program one joins no_gaps past here there.0 there.1
-          (λ l. RepliesAt (subject_in past l) (at l.program (position past)) (question.Evaluate q) reply) replies) in
-          none (by_reacting request s is made.0 (subst (λ c. Reacts s past c made.0) (sym asks) (row made.0 made.1)))
+          (λ l. RepliesAt (subject_in past l) (at l.program (position past)) (question.Evaluate q) answer) replies) in
+          let made = reaction_with answer in
+          none (by_reacting request s is made (subst (λ c. Reacts s past c made) (sym asks) (row made inspects)))
 
       at_some : (o : Option Configuration) → at there.0.program (position past) ≡ o
           → IsSome (at there.0.program (position past)) → ⊥
       at_some (Some c) c_is some =
           evaluates arithmetic there.0.program c q.frame_id (frame_by_id c q.frame_id) q.expression
-          (λ reply evaluates_so. with_reply reply (subst
-          (λ o. RepliesAt (subject_in past there.0) o (question.Evaluate q) reply) (sym c_is) evaluates_so))
+          (λ answer evaluates_so. with_answer answer (subst
+          (λ o. RepliesAt (subject_in past there.0) o (question.Evaluate q) answer) (sym c_is) evaluates_so))
       at_some None c_is some = let e = subst IsSome c_is some in absurd cc
 
   request_leads : (request : Request) (asked : Command) → request.body ≡ asked → AreStrings (line_offset past) asked

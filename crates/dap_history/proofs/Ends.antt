@@ -1,5 +1,5 @@
 -- A program is told to have exited where it has ended, and only there.
-use Rattle.dap_history.proofs.Common.{Accepted, Accepts, All, Causes, Command, Content, EndsBy, Event, EventBody, Fault, Faulted, GoesBackBy, Heading, History, Incoming, InputEnd, IsHistoryOf, IsLawfulReport, IsOutput, Item, Launched, Loaded, MemoryFailure, None, Ok, Option, Outgoing, PlainReport, ReadFailure, Rest, Running, Situation, SliceOutcome, Some, Step, StopReason, Went, WentOn, WrittenJoins, [], ap, arith, at, back_if, depth_at, end_of, faults, filter_map, filter_map-append, goes_back, inl, inr, is_due, item_leads, lacks_memory, launched, mode_by, or_else, refl, situation, stop_in, subst, sym, takes_all, unwrap_or, ℕ, ◌++◌, ◌+◌, ◌<◌, ◌∙◌, ◌∷◌, ◌≡◌, AreLawful, Block, Effect, Launch, Launches, Reply, option_map_or, Stopped, Ready, Configuring, Fresh, Err}
+use Rattle.dap_history.proofs.Common.{Accepted, Accepts, All, Causes, Command, Content, EndsBy, Event, EventBody, Fault, Faulted, GoesBackBy, Heading, History, Incoming, InputEnd, IsHistoryOf, IsLawfulReport, IsOutput, Item, Launched, Loaded, MemoryFailure, None, Ok, Option, Outgoing, PlainReport, ReadFailure, Rest, Running, Situation, SliceOutcome, Some, Step, StopReason, Went, WentOn, WrittenJoins, [], ap, arith, at, back_if, depth_at, end_of, faults, filter_map, filter_map-append, goes_back, inl, inr, is_due, item_leads, lacks_memory, launched, mode_by, or_else, refl, situation, stop_in, subst, sym, takes_all, unwrap_or, ℕ, ◌++◌, ◌<◌, ◌∙◌, ◌∷◌, ◌≡◌, AreLawful, Block, Effect, Launch, Launches, Reply, option_map_or, Stopped, Ready, Configuring, Fresh, Err}
 use Rattle.std.proofs.Common.{List, Bool, true, false}
 use Rattle.std.proofs.lemmas.List.Elements.{All-head, All-tail}
 use Rattle.dap_msg.specs.declared.command.Command.TheVariants as command

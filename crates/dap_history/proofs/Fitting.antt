@@ -1,5 +1,5 @@
 -- The numbers of a history's messages fit in 64 bits.
-use Rattle.dap_history.proofs.Common.{Accepted, All, All-cons, All-nil, Answers, At, Block, Body, Breakpoint, Causes, Command, CommandName, Configuration, Configuring, Content, Counting, DivideByZero, Effect, Err, EvalFault, EvaluatesIn, Event, EventBody, Frame, FramesAreFew, HasEffect, History, Incoming, InputEnd, IsHistoryOf, Item, LaunchArguments, Launched, Launches, Loaded, Log, None, OfProgram, Ok, Option, Outgoing, Overflow, PlainReport, Question, Reaction, ReadFailure, Reason, Refusal, RepliesAt, RepliesFrom, RepliesIn, Reply, Resolution, Rest, ResumeKind, Scope, Situation, SliceOutcome, Some, Step, StepAt, Subject, [], answer_to_line, answered, ap, arith, at, at_most, body_of, cond, due_first, effect_in, enters, eqb-true, exited_events, first_logs, frame_by_id, frame_limit, frame_name, held_effect, inl, inr, launched, length, line_offset, log_events, messages, messages_of, next_step, nothing, option_map_or, or_else, ordering, other_source, outputs, refl, refused, reply_of, report_effect, result_reply, scopes, scopes_from, shown_column, shown_frame, shown_frames, shown_line, situation, slice_get, stopped_events, subject_in, subst, suc, sym, waiting_pause, with_answer, zero, ℕ, ◌++◌, ◌+◌, ◌-◌, ◌<◌, ◌^◌, ◌∙◌, ◌∷◌, ◌≡◌, ◌≤◌}
+use Rattle.dap_history.proofs.Common.{Accepted, All, All-cons, All-nil, Answers, At, Block, Body, Breakpoint, Causes, Command, CommandName, Configuration, Configuring, Content, Counting, DivideByZero, Effect, Err, EvalFault, EvaluatesIn, Event, EventBody, Frame, FramesAreFew, HasEffect, History, Incoming, InputEnd, IsHistoryOf, Item, LaunchArguments, Launched, Launches, Loaded, Log, None, OfProgram, Ok, Option, Outgoing, Overflow, PlainReport, Question, Reaction, ReadFailure, Reason, Refusal, RepliesAt, RepliesFrom, RepliesIn, Reply, Resolution, Rest, ResumeKind, Scope, Situation, SliceOutcome, Some, Step, StepAt, Subject, [], answer_to_line, answered, ap, arith, at, at_most, body_of, cond, due_first, effect_in, enters, eqb-true, exited_events, first_logs, frame_by_id, frame_limit, frame_name, held_effect, inl, inr, launched, length, line_offset, log_events, messages, messages_of, next_step, nothing, option_map_or, or_else, ordering, other_source, outputs, refl, refused, reply_of, report_effect, result_answer, scopes, scopes_from, shown_column, shown_frame, shown_frames, shown_line, situation, slice_get, stopped_events, subject_in, subst, suc, sym, waiting_pause, with_answer, zero, ℕ, ◌++◌, ◌+◌, ◌-◌, ◌<◌, ◌^◌, ◌∙◌, ◌∷◌, ◌≡◌, ◌≤◌}
 use Rattle.std.proofs.Common.{Bool, true, false, nat_eq, List, map, option_map, Result, ℤ, lit≤}
 use Rattle.std.proofs.lemmas.List.Elements.{All-take, All-drop, All-map}
 use Rattle.dap_msg.specs.declared.question.Question.TheVariants as question
@@ -9,10 +9,14 @@ use Rattle.dap_msg.specs.declared.outgoing.Body.TheVariants as body
 use Rattle.dap_msg.specs.declared.outgoing.EventBody.TheVariants as event
 use Rattle.dap_msg.specs.declared.outgoing.StackFrame.{StackFrame}
 use Rattle.dap_msg.specs.declared.requests.stack_trace.StackTraceArguments.{StackTraceArguments}
-use Rattle.dap_msg.specs.Laws.{LineFits, FrameFits, ReferenceFits, BodyFits, ResultFits, NumbersFit}
+use Rattle.dap_msg.specs.Laws.{LineFits, BodyFits, ResultFits, NumbersFit}
+use Rattle.dap_msg.specs.Questions.{ShownFits}
+use Rattle.dap_msg.specs.Scopes.{ReferenceFits}
+use Rattle.dap_msg.specs.StackTrace.{FrameFits}
+use Rattle.dap_msg.specs.declared.question.Shown.{Shown}
+use Rattle.std.specs.Prelude.{if◌then◌else◌}
 use Rattle.dbg_runner.specs.declared.outcome.SliceOutcome.TheVariants as slice
 use Rattle.dap_history.specs.Readings.{position}
-use Rattle.dap_history.specs.Replies.{on_thread}
 use Rattle.dap_history.specs.Inspection.{stack_trace, variables}
 use Rattle.dap_history.proofs.Readings.{launched-snoc, messages_of-snoc}
 use Rattle.dap_history.proofs.Along.{IsKept, any_events, along}
@@ -58,12 +62,14 @@ fits_if reply other fits is = subst ReplyFits (sym is) fits
 refused_fits : (why : Refusal) → ReplyFits (refused why)
 refused_fits why = record { result = tt; events = tt }
 
-if_fits : (b : Bool) (some other : Reply) → ReplyFits some → ReplyFits other → ReplyFits (cond b some other)
-if_fits true some other a b = a
-if_fits false some other a b = b
+-- what the answer to a question says fits
+abbrev AnswerFits : Result Shown Refusal → Type 0
+AnswerFits (Ok b) = ShownFits b
+AnswerFits (Err why) = Unit {0}
 
-thread_fits : (thread : ℕ) (reply : Reply) → ReplyFits reply → ReplyFits (on_thread thread reply)
-thread_fits thread reply fits = if_fits (nat_eq thread 1) reply (refused _) fits (refused_fits _)
+thread_fits : (known : Bool) (b : Shown) (why : Refusal) → ShownFits b → AnswerFits (if known then Ok b else Err why)
+thread_fits true b why fits = fits
+thread_fits false b why fits = tt
 
 -- ---- lines, frames and scopes
 
@@ -144,60 +150,61 @@ ItemsFit (step ∷ past) = ItemFits step.item × ItemsFit past
 
 module _ (few : FramesAreFew) where
   stack_fits : (of : Subject) (asked : StackTraceArguments) (n : ℕ) (c : Configuration) → BlockNear of.program
-      → at of.program n ≡ Some c → ReplyFits (stack_trace of asked c)
+      → at of.program n ≡ Some c → AnswerFits (stack_trace of asked c)
   stack_fits of asked n c near is =
       let less = few of.program n c is in
       let shown = shown_fit of.program near of.counting c (frames_near of.program near n c is) less in
-      thread_fits asked.thread_id _ (record {
-        result = (at_most_fit asked.levels _ (All-drop FrameFits asked.start_frame _ shown), omega (arith, less));
-        events = tt;
-      })
+      thread_fits (nat_eq asked.thread_id 1) _ _
+      (at_most_fit asked.levels _ (All-drop FrameFits asked.start_frame _ shown), omega (arith, less))
 
-  scopes_reply_fits : (of : Subject) (id n : ℕ) (c : Configuration) (f : Option Frame) → at of.program n ≡ Some c
-      → ReplyFits (scopes of id c f)
-  scopes_reply_fits of id n c None is = refused_fits _
-  scopes_reply_fits of id n c (Some f) is =
-      record { result = scopes_fit of.program c (id - 1) (few of.program n c is); events = tt }
+  scopes_answer_fits : (of : Subject) (id n : ℕ) (c : Configuration) (f : Option Frame) → at of.program n ≡ Some c
+      → AnswerFits (scopes of id c f)
+  scopes_answer_fits of id n c None is = tt
+  scopes_answer_fits of id n c (Some f) is = scopes_fit of.program c (id - 1) (few of.program n c is)
 
-  variables_fit : (of : Subject) (f : Option Frame) → ReplyFits (variables of f)
-  variables_fit of None = refused_fits _
-  variables_fit of (Some f) = record { result = tt; events = tt }
+  variables_fit : (of : Subject) (f : Option Frame) → AnswerFits (variables of f)
+  variables_fit of None = tt
+  variables_fit of (Some f) = tt
 
-  result_fits : (r : Result ℤ EvalFault) → ReplyFits (result_reply r)
-  result_fits (Ok v) = record { result = tt; events = tt }
-  result_fits (Err Overflow) = refused_fits _
-  result_fits (Err DivideByZero) = refused_fits _
+  result_fits : (r : Result ℤ EvalFault) → AnswerFits (result_answer r)
+  result_fits (Ok v) = tt
+  result_fits (Err Overflow) = tt
+  result_fits (Err DivideByZero) = tt
 
-  evaluates_fit : (main : Block) (c : Configuration) (id : ℕ) (f : Option Frame) (text : List ℕ) (reply : Reply)
-      → EvaluatesIn main c id f text reply → ReplyFits reply
-  evaluates_fit main c id None text reply is = fits_if reply _ (refused_fits _) is
-  evaluates_fit main c id (Some f) text reply (inl is) = fits_if reply _ (result_fits is.result) is.reply_is
-  evaluates_fit main c id (Some f) text reply (inr is) = fits_if reply _ (refused_fits _) is.reply_is
+  answer_if : (b other : Result Shown Refusal) → AnswerFits other → b ≡ other → AnswerFits b
+  answer_if b other fits is = subst AnswerFits (sym is) fits
 
-  replies_fit : (of : Subject) (n : ℕ) (c : Configuration) (question : Question) (reply : Reply) → BlockNear of.program
-      → at of.program n ≡ Some c → RepliesFrom of c question reply → ReplyFits reply
-  replies_fit of n c (question.StackTrace a) reply near is says = fits_if reply _ (stack_fits of a n c near is) says
-  replies_fit of n c (question.Scopes a) reply near is says =
-      fits_if reply _ (scopes_reply_fits of a.frame_id n c (frame_by_id c a.frame_id) is) says
-  replies_fit of n c (question.Variables a) reply near is says =
-      fits_if reply _ (variables_fit of (frame_by_id c a.variables_reference)) says
-  replies_fit of n c (question.Evaluate a) reply near is says =
-      evaluates_fit of.program c a.frame_id (frame_by_id c a.frame_id) a.expression reply says
+  evaluates_fit : (main : Block) (c : Configuration) (id : ℕ) (f : Option Frame) (text : List ℕ)
+      (b : Result Shown Refusal) → EvaluatesIn main c id f text b → AnswerFits b
+  evaluates_fit main c id None text b is = answer_if b _ tt is
+  evaluates_fit main c id (Some f) text b (inl is) = answer_if b _ (result_fits is.result) is.answer_is
+  evaluates_fit main c id (Some f) text b (inr is) = answer_if b _ tt is.answer_is
 
-  replies_at_fit : (of : Subject) (n : ℕ) (o : Option Configuration) (question : Question) (reply : Reply)
-      → BlockNear of.program → at of.program n ≡ o → RepliesAt of o question reply → ReplyFits reply
-  replies_at_fit of n None question reply near is says = absurd says
-  replies_at_fit of n (Some c) question reply near is says = replies_fit of n c question reply near is says
+  answers_fit_at : (of : Subject) (n : ℕ) (c : Configuration) (question : Question) (b : Result Shown Refusal)
+      → BlockNear of.program → at of.program n ≡ Some c → RepliesFrom of c question b → AnswerFits b
+  answers_fit_at of n c (question.StackTrace a) b near is says = answer_if b _ (stack_fits of a n c near is) says
+  answers_fit_at of n c (question.Scopes a) b near is says =
+      answer_if b _ (scopes_answer_fits of a.frame_id n c (frame_by_id c a.frame_id) is) says
+  answers_fit_at of n c (question.Variables a) b near is says =
+      answer_if b _ (variables_fit of (frame_by_id c a.variables_reference)) says
+  answers_fit_at of n c (question.Evaluate a) b near is says =
+      evaluates_fit of.program c a.frame_id (frame_by_id c a.frame_id) a.expression b says
+
+  replies_at_fit : (of : Subject) (n : ℕ) (o : Option Configuration) (question : Question) (b : Result Shown Refusal)
+      → BlockNear of.program → at of.program n ≡ o → RepliesAt of o question b → AnswerFits b
+  replies_at_fit of n None question b near is says = absurd says
+  replies_at_fit of n (Some c) question b near is says = answers_fit_at of n c question b near is says
 
   abbrev LaunchedNear : Option Launched → Type 0
   LaunchedNear None = Unit {0}
   LaunchedNear (Some l) = BlockNear l.program
 
-  inspects_fit : (l : Option Launched) (past : History) (question : Question) (reply : Reply) → LaunchedNear l
-      → OfProgram l (λ l. RepliesAt (subject_in past l) (at l.program (position past)) question reply) → ReplyFits reply
-  inspects_fit None past question reply near says = absurd says
-  inspects_fit (Some l) past question reply near says =
-      replies_at_fit (subject_in past l) (position past) (at l.program (position past)) question reply near refl says
+  inspects_fit : (l : Option Launched) (past : History) (question : Question) (b : Result Shown Refusal)
+      → LaunchedNear l → OfProgram l (λ l. RepliesAt (subject_in past l) (at l.program (position past)) question b)
+      → AnswerFits b
+  inspects_fit None past question b near says = absurd says
+  inspects_fit (Some l) past question b near says =
+      replies_at_fit (subject_in past l) (position past) (at l.program (position past)) question b near refl says
 
   effect_fits : (s : Situation) (past : History) (bs : List Breakpoint) → EventsFit (effect_in s past bs).events
   effect_fits Configuring past bs = tt
@@ -228,7 +235,8 @@ module _ (few : FramesAreFew) where
       fits_if (answered b) (answered body.Threads) (record { result = tt; events = tt }) (ap answered calm)
   calm_fits past s (command.Pause a) b near calm =
       fits_if (answered b) (answered body.None) (record { result = tt; events = tt }) (ap answered calm.1)
-  calm_fits past s (command.Inspect q) b near calm = inspects_fit (launched past) past q (answered b) near calm.1
+  calm_fits past s (command.Inspect q) (body.Shown b) near calm =
+      record { result = inspects_fit (launched past) past q (Ok b) near calm.1; events = tt }
   calm_fits past s _ b near calm = absurd calm
 
   reaction_fits : (past : History) {s : Situation} {asked : Command} {reaction : Reaction}

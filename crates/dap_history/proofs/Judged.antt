@@ -1,7 +1,7 @@
 -- Each request is judged as the table says, a refusal changes nothing, and other items tell nothing.
-use Rattle.dap_history.proofs.Common.{Accepted, Causes, Command, CommandName, Configuration, Configuring, Content, DivideByZero, Effect, Err, EvalFault, EvaluatesIn, Event, Faulted, Frame, Fresh, History, Incoming, Inspects, Interrupt, IsHistoryOf, Item, Launch, Launched, Launches, Loaded, None, Ok, Option, Overflow, Question, Reaction, Reacts, Ready, Refusal, Refuse, RepliesAt, RepliesFrom, Reply, Rest, Resume, ResumeKind, Retreat, RetreatKind, Running, SetBreakpointsArguments, SetsOf, Situation, Some, Start, Step, Stopped, Subject, ThreadArguments, [], ap, at, body_of, frame_by_id, if◌then◌else◌, inl, inr, is_same_path, launched, nothing, refl, refused, refused_by, refused_thread, reply_of, result_reply, scopes, situation, subject_in, subst, sym, wanted_in, with_answer, ℕ, ◌++◌, ◌∙◌, ◌∷◌, ◌≡◌, ◌⊎◌}
+use Rattle.dap_history.proofs.Common.{Accepted, InspectsAs, Causes, Command, CommandName, Configuration, Configuring, Content, Effect, Err, Event, Faulted, Fresh, History, Incoming, Inspects, Interrupt, IsHistoryOf, Item, Launch, Launched, Launches, Loaded, None, Ok, Option, Question, Reaction, Reacts, Ready, Refusal, Refuse, RepliesAt, Reply, Rest, Resume, ResumeKind, Retreat, RetreatKind, Running, SetBreakpointsArguments, SetsOf, Situation, Some, Start, Step, Stopped, ThreadArguments, [], ap, at, body_of, if◌then◌else◌, inl, inr, is_same_path, launched, nothing, refl, refused_by, refused_thread, reply_of, situation, subject_in, subst, sym, wanted_in, with_answer, ℕ, ◌++◌, ◌∙◌, ◌∷◌, ◌≡◌}
 use Rattle.std.proofs.Common.{List, Bool, true, false, Result}
-use Rattle.std.specs.Prelude.{nat_eq, ℤ, map}
+use Rattle.std.specs.Prelude.{nat_eq, map}
 use Rattle.dap_msg.specs.declared.command.Command.TheVariants as command
 use Rattle.dap_msg.specs.declared.requests.resume.ResumeKind.TheVariants as resume
 use Rattle.dap_msg.specs.declared.question.Question.TheVariants as question
@@ -11,25 +11,18 @@ use Rattle.dap_msg.specs.declared.outgoing.Refusal.TheVariants as refusal
 use Rattle.dap_history.specs.Readings.{position}
 use Rattle.dap_history.specs.Reactions as reaction_is
 use Rattle.dap_history.specs.Reactions.{End, Retreats}
-use Rattle.dap_history.specs.Inspection.{variables}
+use Rattle.dap_history.specs.Replies.{in_body}
+use Rattle.dap_msg.specs.declared.requests.stack_trace.StackTraceArguments.{StackTraceArguments}
+use Rattle.dap_msg.specs.declared.question.Shown.{Shown}
 use Rattle.dap_history.specs.Verdicts.{IsGranted, IsVerdict, EachIsJudged, IsNothing, RefusalsChangeNothing, SpeaksUp, OthersTellNothing, AnswersComeFirst}
 use Rattle.dap_history.proofs.Along.{IsTaken, any_events, along}
 use Rattle.dap_history.proofs.Each.{WasTaken, EachTaken, each_kept, each_first}
 use Rattle.dap_history.proofs.GoingBack.{Anything, anything_kept}
 use Rattle.dap_history.proofs.Reacted.{of_program, Reacted, by_refusing, by_reaction}
-use Rattle.dap_history.proofs.Questions.{inspects_there}
+use Rattle.dap_history.proofs.Questions.{inspects_there, result_with}
 
 result_is : (reply other : Reply) → reply ≡ other → reply.result ≡ other.result
 result_is reply other is = ap (λ (r : Reply). r.result) is
-
--- ---- by thread and program
-
--- a reply on a thread that isn't refused is granted
-on_one_thread : (asked : Command) (same : Bool) (other reply : Reply)
-    → reply ≡ (if same then other else refused refusal.UnknownThread) → (reply ≡ other → IsGranted asked reply.result)
-    → IsVerdict (if same then None else Some refusal.UnknownThread) asked reply.result
-on_one_thread asked true other reply is grants = grants is
-on_one_thread asked false other reply is grants = result_is reply _ is
 
 -- ---- by command
 
@@ -68,70 +61,34 @@ module _ (past : History) where
 
   -- ---- questions
 
-  -- what refuses a question for its thread, if anything does
-  abbrev thread_refused : Question → Option Refusal
-  thread_refused (question.StackTrace a) = refused_thread (Some a.thread_id)
-  thread_refused _ = None
-
-  abbrev QuestionJudged : Question → Reply → Type 0
-  QuestionJudged q reply = IsVerdict (thread_refused q) (command.Inspect q) reply.result
-
-  scopes_judged : (of : Subject) (id : ℕ) (c : Configuration) (f : Option Frame) (reply : Reply)
-      → reply ≡ scopes of id c f
-      → ((ss : _) × (reply.result ≡ Ok (body.Scopes ss))) ⊎ (reply.result ≡ Err refusal.UnknownFrame)
-  scopes_judged of id c None reply is = inr (result_is reply _ is)
-  scopes_judged of id c (Some f) reply is = inl (_, result_is reply _ is)
-
-  variables_judged : (of : Subject) (f : Option Frame) (reply : Reply) → reply ≡ variables of f
-      → ((vs : _) × (reply.result ≡ Ok (body.Variables vs))) ⊎ (reply.result ≡ Err refusal.UnknownReference)
-  variables_judged of None reply is = inr (result_is reply _ is)
-  variables_judged of (Some f) reply is = inl (_, result_is reply _ is)
-
-  abbrev Evaluated : Reply → Type 0
-  Evaluated reply =
-      ((value : ℤ) × (reply.result ≡ Ok (body.Value value))) ⊎ (reply.result ≡ Err refusal.UnknownFrame)
-      ⊎ (reply.result ≡ Err refusal.BadExpression) ⊎ (reply.result ≡ Err refusal.Overflow)
-      ⊎ (reply.result ≡ Err refusal.DivideByZero)
-
-  value_judged : (r : Result ℤ EvalFault) (reply : Reply) → reply ≡ result_reply r → Evaluated reply
-  value_judged (Ok v) reply is = inl (v, result_is reply _ is)
-  value_judged (Err Overflow) reply is = inr (inr (inr (inl (result_is reply _ is))))
-  value_judged (Err DivideByZero) reply is = inr (inr (inr (inr (result_is reply _ is))))
-
-  evaluate_judged : (of : Subject) (c : Configuration) (id : ℕ) (f : Option Frame) (text : List ℕ) (reply : Reply)
-      → EvaluatesIn of.program c id f text reply → Evaluated reply
-  evaluate_judged of c id None text reply is = inr (inl (result_is reply _ is))
-  evaluate_judged of c id (Some f) text reply (inl is) = value_judged is.result reply is.reply_is
-  evaluate_judged of c id (Some f) text reply (inr is) = inr (inr (inl (result_is reply _ is.reply_is)))
-
-  question_judged : (of : Subject) (c : Configuration) (q : Question) (reply : Reply) → RepliesFrom of c q reply
-      → QuestionJudged q reply
-  question_judged of c (question.StackTrace a) reply is =
-      on_one_thread (command.Inspect (question.StackTrace a)) (nat_eq a.thread_id 1) _ reply is
-      (λ goes. (_, _, _, result_is reply _ goes))
-  question_judged of c (question.Scopes a) reply is = scopes_judged of a.frame_id c (frame_by_id c a.frame_id) reply is
-  question_judged of c (question.Variables a) reply is =
-      variables_judged of (frame_by_id c a.variables_reference) reply is
-  question_judged of c (question.Evaluate a) reply is =
-      evaluate_judged of c a.frame_id (frame_by_id c a.frame_id) a.expression reply is
-
-  asked_judged : (q : Question) (reaction : Reaction) → Inspects past q reaction
-      → IsVerdict (thread_refused q) (command.Inspect q) (reply_of past reaction).result
-  asked_judged q reaction is =
-      of_program past (launched past) refl (λ l. RepliesAt (subject_in past l) (at l.program (position past)) q
-      (reply_of past reaction)) (QuestionJudged q (reply_of past reaction))
-      (λ l there says. by_place l (at l.program (position past)) says) (inspects_there past q reaction is)
-    where
-      by_place : (l : Launched) (c : Option Configuration)
-          → RepliesAt (subject_in past l) c q (reply_of past reaction) → QuestionJudged q (reply_of past reaction)
-      by_place l None is = absurd is
-      by_place l (Some c) is = question_judged (subject_in past l) c q (reply_of past reaction) is
-
   -- where the program stands, only the thread may refuse it
+  stack_judged : (a : StackTraceArguments) (b other : Result Shown Refusal) (known : Bool)
+      → b ≡ (if known then other else Err refusal.UnknownThread)
+      → IsVerdict (if known then None else Some refusal.UnknownThread) (command.Inspect (question.StackTrace a))
+      (in_body b)
+  stack_judged a b other true is = (b, refl)
+  stack_judged a b other false is = ap in_body is
+
   standing : (q : Question) (reaction : Reaction) → Inspects past q reaction
       → Judges (refused_by Stopped (command.Inspect q)) (command.Inspect q) reaction
-  standing (question.StackTrace a) reaction is = asked_judged (question.StackTrace a) reaction is
-  standing q reaction is = asked_judged q reaction is
+  standing q reaction is =
+      let there = inspects_there past q reaction is in
+      subst (Judges (refused_by Stopped (command.Inspect q)) (command.Inspect q)) (sym there.2)
+      (subst (IsVerdict (refused_by Stopped (command.Inspect q)) (command.Inspect q))
+      (sym (result_with past there.0)) (by_question q there.0 there.1))
+    where
+      by_place : (a : StackTraceArguments) (l : Launched) (c : Option Configuration) (b : Result Shown Refusal)
+          → RepliesAt (subject_in past l) c (question.StackTrace a) b
+          → IsVerdict (refused_thread (Some a.thread_id)) (command.Inspect (question.StackTrace a)) (in_body b)
+      by_place a l None b is = absurd is
+      by_place a l (Some c) b is = stack_judged a b _ (nat_eq a.thread_id 1) is
+
+      by_question : (q : Question) (b : Result Shown Refusal) → InspectsAs past q b
+          → IsVerdict (refused_by Stopped (command.Inspect q)) (command.Inspect q) (in_body b)
+      by_question (question.StackTrace a) b is =
+          of_program past (launched past) refl (λ l. RepliesAt (subject_in past l) (at l.program (position past))
+          (question.StackTrace a) b) _ (λ l there says. by_place a l (at l.program (position past)) b says) is
+      by_question _ b is = (b, refl)
 
   -- ---- any
 

@@ -1,7 +1,10 @@
 -- Each item that reads no text leads from a history to another.
 use Rattle.dap_history.proofs.Common.{Accepted, Block, Body, Breakpoint, Causes, Command, Configuration, Configuring, Content, Effect, EndsBy, Err, Fault, Faulted, Fresh, GoesBackBy, History, InputEnd, Inspects, IsAfter, IsSome, IsStopped, Item, Launch, Launched, Launches, Loaded, MemoryFailure, Mode, None, OfProgram, Ok, Option, Outgoing, PlainReport, Question, Quit, Reaction, Reacts, ReadFailure, Ready, Reason, RepliesAt, RepliesFrom, RepliesIn, Reply, Resume, Retreat, Situation, SliceOutcome, Some, Start, Step, Stop, Stopped, Went, WrittenJoins, [], ap, arith, at, due, end_of, faults, for_thread, goal_of, goes_back, has_come, has_no_memory, if◌then◌else◌, inl, inr, is_due, is_some, is_spent, lacks_memory, last_due, launched, length, name_of, nothing, option_map_or, or_else, ordering, refl, refused, reply_of, report_effect, situation, step_mark, stop_at, subject_in, subst, suc, sym, takes_all, unwrap_or, zero, ℕ, ◌++◌, ◌-◌, ◌<◌, ◌∙◌, ◌∷◌, ◌≡◌, ◌≤◌, ◌⊎◌, back_if}
 use Rattle.std.proofs.Common.{List, Bool, true, false}
+use Rattle.std.specs.Prelude.{Result}
 use Rattle.dap_msg.specs.declared.question.Question.TheVariants as question
+use Rattle.dap_msg.specs.declared.question.Shown.{Shown}
+use Rattle.dap_msg.specs.declared.outgoing.Refusal.{Refusal}
 use Rattle.dap_msg.specs.declared.command.Command.TheVariants as command
 use Rattle.dap_msg.specs.declared.command.CommandName.TheVariants as name
 use Rattle.dap_msg.specs.declared.command.Supported.TheVariants as supported
@@ -19,7 +22,7 @@ use Rattle.dap_history.proofs.Texts.{OneProgram}
 use Rattle.dap_history.proofs.Along.{IsTaken, IsKept, IsLawfulEvent, lawful_events, along}
 use Rattle.dap_history.proofs.Early.{IsEarly}
 use Rattle.dap_history.proofs.Silent.{all_silent}
-use Rattle.dap_history.proofs.Questions.{reaction_there}
+use Rattle.dap_history.proofs.Questions.{reaction_there, reaction_with}
 use Rattle.dap_history.proofs.Reacted.{IsCalm, Reacted, by_refusing, by_answering, by_setting, by_retreating, by_closing, by_reaction}
 use Rattle.dap_history.proofs.Outputs.{report_launches}
 use Rattle.dap_history.proofs.Progress.{report_program}
@@ -260,19 +263,20 @@ module _ (one : OneProgram) (joins : WrittenJoins) (no_gaps : RunsHaveNoGaps) wh
 
     -- a question that every configuration answers
     module _ (asked : Question) (answers : (l : Launched) (c : Configuration)
-        → Answered (RepliesFrom (subject_in past l) c asked)) where
-      at_some : (l : Launched) (o : Option Configuration) → IsSome o → Answered (RepliesAt (subject_in past l) o asked)
+        → (b : Result Shown Refusal) × RepliesFrom (subject_in past l) c asked b) where
+      at_some : (l : Launched) (o : Option Configuration) → IsSome o
+          → (b : Result Shown Refusal) × RepliesAt (subject_in past l) o asked b
       at_some l (Some c) is = answers l c
       at_some l None is = absurd cc
 
       at_program : IsLaunched past → (reaction : Reaction) × Inspects past asked reaction
       at_program there =
-          let a = at_some there.0 (at there.0.program (position past)) (here.alive there.0 there.1) in
-          let made =
-          reaction_there past asked a.0
-          (of_program there.0 there.1 (λ l. RepliesAt (subject_in past l) (at l.program (position past)) asked a.0) a.1)
-          in
-          (made.0, made.1)
+          let a = at_some there.0 (at there.0.program (position past)) (here.alive there.0 there.1) in (
+            reaction_with a.0,
+            reaction_there past asked a.0
+                (of_program there.0 there.1 (λ l. RepliesAt (subject_in past l) (at l.program
+                (position past)) asked a.0) a.1),
+          )
 
     asked_there : (q : Question) → IsPlain (command.Inspect q) → IsLaunched past
         → (reaction : Reaction) × Inspects past q reaction

@@ -1,10 +1,12 @@
 -- A command and a launch each have at most one reply, and so an item has at most one step.
-use Rattle.dap_history.proofs.Common.{Accepted, Answers, AreAskedAs, AreResolved, At, AtMostOne, BadCondition, BadHitCondition, BadLogMessage, Block, Breakpoint, Causes, Command, CommandName, Configuration, Configuring, Content, DivideByZero, Effect, Err, EvalFault, EvaluatesIn, Faulted, Frame, Fresh, HasConditionAt, HasEffect, HasRule, History, Inspects, InspectsAs, IsAfter, IsAskedAs, IsResolvedTo, IsTreeOf, Item, LaunchArguments, Launched, Launches, Loaded, NoStep, None, OfProgram, Ok, Option, Overflow, Path, Question, Reaction, Reacts, ReadsConditionAt, ReadsMessageAt, ReadsRule, Ready, RepliesAt, RepliesFrom, RepliesIn, Reply, Resolution, Resume, Retreat, SetBreakpoints, SetBreakpointsArguments, SetsOf, Situation, Some, SourceBreakpoint, Start, Step, Stopped, Subject, [], answer_to_line, ap, arith, at, causing, for_thread, frame_by_id, get_or, inl, inr, is_same_path, launched, launches, line_offset, refl, refused, reply_of, result_reply, situation, step_from, string_bytes, subject_in, subst, sym, value, ℕ, ∥∥₁_elim, ◌++◌, ◌<◌, ◌^◌, ◌∙◌, ◌∷◌, ◌≡◌}
+use Rattle.dap_history.proofs.Common.{Accepted, Answers, AreAskedAs, AreResolved, At, AtMostOne, BadCondition, BadHitCondition, BadLogMessage, Block, Breakpoint, Causes, Command, CommandName, Configuration, Configuring, Content, DivideByZero, Effect, Err, EvalFault, EvaluatesIn, Faulted, Frame, Fresh, HasConditionAt, HasEffect, HasRule, History, Inspects, InspectsAs, IsAfter, IsAskedAs, IsResolvedTo, IsTreeOf, Item, LaunchArguments, Launched, Launches, Loaded, NoStep, None, OfProgram, Ok, Option, Overflow, Path, Question, Reaction, Reacts, ReadsConditionAt, ReadsMessageAt, ReadsRule, Ready, RepliesAt, RepliesFrom, RepliesIn, Reply, Resolution, Resume, Retreat, SetBreakpoints, SetBreakpointsArguments, SetsOf, Situation, Some, SourceBreakpoint, Start, Step, Stopped, Subject, [], answer_to_line, ap, arith, at, causing, for_thread, frame_by_id, get_or, inl, inr, is_same_path, launched, launches, line_offset, refl, refused, reply_of, result_answer, situation, step_from, string_bytes, subject_in, subst, sym, value, ℕ, ∥∥₁_elim, ◌++◌, ◌<◌, ◌^◌, ◌∙◌, ◌∷◌, ◌≡◌}
 use Rattle.std.proofs.Common.{Bool, true, false, ℤ, List, Result}
 use Rattle.std.specs.Prelude.{map}
 use Rattle.std.specs.Fmt.{decimal}
 use Rattle.std.proofs.lemmas.Fmt.{decimal_injective, first_decimal}
 use Rattle.dap_msg.specs.declared.question.Question.TheVariants as question
+use Rattle.dap_msg.specs.declared.question.Shown.{Shown}
+use Rattle.dap_msg.specs.declared.outgoing.Refusal.{Refusal}
 use Rattle.dap_msg.specs.declared.command.Command.TheVariants as command
 use Rattle.dap_msg.specs.declared.outgoing.Body.TheVariants as body
 use Rattle.dap_msg.specs.declared.outgoing.Outgoing.TheVariants.{Answer}
@@ -23,7 +25,7 @@ use Rattle.dap_history.specs.Launching.{syntax}
 use Rattle.dap_history.specs.Reactions.{Resolves, Sets}
 use Rattle.dap_history.proofs.Texts.{one_program}
 use Rattle.dap_history.proofs.MessageParts.{one_parts}
-use Rattle.dap_history.proofs.Questions.{inspects_there}
+use Rattle.dap_history.proofs.Questions.{inspects_there, reaction_with}
 
 -- a text reads in one way, or has one first fault; so does an editor's
 pub record IsTextOnce : Type 0 where
@@ -325,29 +327,29 @@ module _ (once : IsTextOnce) where
   evaluated_once (Err DivideByZero) (Err Overflow) is = absurd cc
   evaluated_once (Err DivideByZero) (Err DivideByZero) is = refl
 
-  one_evaluates : (main : Block) (c : Configuration) (id : ℕ) (f : Option Frame) (text : List ℕ) (r s : Reply)
-      → EvaluatesIn main c id f text r → EvaluatesIn main c id f text s → r ≡ s
+  one_evaluates : (main : Block) (c : Configuration) (id : ℕ) (f : Option Frame) (text : List ℕ)
+      (r s : Result Shown Refusal) → EvaluatesIn main c id f text r → EvaluatesIn main c id f text s → r ≡ s
   one_evaluates main c id None text r s a b = a ∙ sym b
   one_evaluates main c id (Some f) text r s (inl a) (inl b) =
       let read = once.one_expression main f.block text a.expression b.expression a.reads b.reads in
-      a.reply_is ∙ ap result_reply (evaluated_once a.result b.result
-      (sym a.result_is ∙ ap (value main c _) read ∙ b.result_is)) ∙ sym b.reply_is
+      a.answer_is ∙ ap result_answer (evaluated_once a.result b.result
+      (sym a.result_is ∙ ap (value main c _) read ∙ b.result_is)) ∙ sym b.answer_is
   one_evaluates main c id (Some f) text r s (inl a) (inr b) = absurd (b.none a.expression a.reads)
   one_evaluates main c id (Some f) text r s (inr a) (inl b) = absurd (a.none b.expression b.reads)
-  one_evaluates main c id (Some f) text r s (inr a) (inr b) = a.reply_is ∙ sym b.reply_is
+  one_evaluates main c id (Some f) text r s (inr a) (inr b) = a.answer_is ∙ sym b.answer_is
 
-  one_from : (of : Subject) (c : Configuration) (question : Question) (r s : Reply) → RepliesFrom of c question r
-      → RepliesFrom of c question s → r ≡ s
+  one_from : (of : Subject) (c : Configuration) (question : Question) (r s : Result Shown Refusal)
+      → RepliesFrom of c question r → RepliesFrom of c question s → r ≡ s
   one_from of c (question.Evaluate asked) r s a b =
       one_evaluates of.program c asked.frame_id (frame_by_id c asked.frame_id) asked.expression r s a b
   one_from of c _ r s a b = a ∙ sym b
 
-  one_at : (of : Subject) (c : Option Configuration) (question : Question) (r s : Reply) → RepliesAt of c question r
-      → RepliesAt of c question s → r ≡ s
+  one_at : (of : Subject) (c : Option Configuration) (question : Question) (r s : Result Shown Refusal)
+      → RepliesAt of c question r → RepliesAt of c question s → r ≡ s
   one_at of None question r s a b = absurd a
   one_at of (Some c) question r s a b = one_from of c question r s a b
 
-  one_inspects : (past : History) (question : Question) (r s : Reply) → InspectsAs past question r
+  one_inspects : (past : History) (question : Question) (r s : Result Shown Refusal) → InspectsAs past question r
       → InspectsAs past question s → r ≡ s
   one_inspects past question r s a b =
       one_of_program (launched past) (λ l reply. RepliesAt (subject_in past l) (at l.program (position past)) question
@@ -359,7 +361,9 @@ module _ (once : IsTextOnce) where
   one_answer : (past : History) (q : Question) (a b : Reaction) → Inspects past q a → Inspects past q b
       → reply_of past a ≡ reply_of past b
   one_answer past q a b x y =
-      one_inspects past q (reply_of past a) (reply_of past b) (inspects_there past q a x) (inspects_there past q b y)
+      let here = inspects_there past q a x in
+      let there = inspects_there past q b y in
+      ap (reply_of past) (here.2 ∙ ap reaction_with (one_inspects past q here.0 there.0 here.1 there.1) ∙ sym there.2)
 
   -- the table has one reaction, or those that it has have one reply
   one_reaction : (past : History) (s : Situation) (asked : Command) (a b : Reaction) → Reacts s past asked a

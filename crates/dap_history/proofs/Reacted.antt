@@ -1,7 +1,7 @@
 -- The table read by reactions: which command has each of them, in which situation, and of which program.
-use Rattle.dap_history.proofs.Common.{Body, Breakpoint, Close, Command, Configuring, Faulted, Fresh, History, Inspects, InspectsAs, Interrupt, IsResolved, IsStopped, Launched, None, OfProgram, Option, Question, Reaction, Reacts, Ready, Refusal, Refuse, RepliesIn, Reply, Resolution, Resume, ResumeKind, Retreat, RetreatKind, Running, SetBreakpoints, SetBreakpointsArguments, SetsOf, Situation, Some, Start, Stopped, ThreadArguments, answer_to_line, answered, ap, if◌then◌else◌, is_same_path, launched, line_offset, other_source, refl, reply_of, subst, sym, ◌∙◌, ◌≡◌}
+use Rattle.dap_history.proofs.Common.{Body, Breakpoint, Close, Command, Configuring, Faulted, Fresh, History, Inspects, InspectsAs, Interrupt, IsResolved, IsStopped, Launched, None, OfProgram, Option, Question, Reaction, Reacts, Ready, Refusal, Refuse, RepliesIn, Reply, Resolution, Resume, ResumeKind, Retreat, RetreatKind, Running, SetBreakpoints, SetBreakpointsArguments, SetsOf, Situation, Some, Start, Stopped, ThreadArguments, answer_to_line, ap, if◌then◌else◌, is_same_path, launched, line_offset, other_source, refl, reply_of, subst, sym, ◌∙◌, ◌≡◌}
 use Rattle.std.proofs.Common.{Bool, true, false}
-use Rattle.std.specs.Prelude.{List, map}
+use Rattle.std.specs.Prelude.{List, map, Ok}
 use Rattle.dap_msg.specs.declared.command.Command.TheVariants as command
 use Rattle.dap_msg.specs.declared.outgoing.Body.TheVariants as body
 use Rattle.dap_msg.specs.declared.outgoing.Refusal.TheVariants as refusal
@@ -17,7 +17,7 @@ IsCalm past s (command.SetBreakpoints a) b =
     × (b ≡ body.Breakpoints (other_source a.breakpoints))
 IsCalm past s (command.Initialize a) b = (s ≡ Fresh) × (b ≡ body.Capabilities)
 IsCalm past s command.Threads b = b ≡ body.Threads
-IsCalm past s (command.Inspect q) b = IsStopped s × InspectsAs past q (answered b)
+IsCalm past s (command.Inspect q) (body.Shown b) = IsStopped s × InspectsAs past q (Ok b)
 IsCalm past s _ b = ⊥
 
 pub data Reacted (past : History) : Situation → Command → Reaction → Type 0 where
@@ -65,7 +65,7 @@ module _ (past : History) where
   inspects : (s : Situation) (q : Question) (reaction : Reaction) → IsStopped s → Inspects past q reaction
       → Reacted past s (command.Inspect q) reaction
   inspects s q (Refuse why) stands is = by_refusing s (command.Inspect q) why
-  inspects s q (Answer b) stands is = by_answering s (command.Inspect q) b (stands, is)
+  inspects s q (Answer (body.Shown b)) stands is = by_answering s (command.Inspect q) (body.Shown b) (stands, is)
   inspects s q _ stands is = absurd is
 
   retreats_there : (s : Situation) (kind : RetreatKind) (a : ThreadArguments) (reaction : Reaction) → IsStopped s

@@ -1,10 +1,11 @@
 -- What the four questions show is what the program is where it stands.
-use Rattle.dap_history.proofs.Common.{AnswersFrom, Block, Body, Configuration, Counting, DivideByZero, Err, EvalFault, EvaluatesIn, Faulted, Frame, Fresh, InitializeArguments, IsStopped, Launched, Name, None, Ok, Option, Overflow, Path, Question, Refusal, RepliesAt, RepliesFrom, Reply, RunFault, Scope, Situation, Some, StepAt, Stopped, StoppedLastAt, Subject, [], ap, arith, at, at_most, eqb-true, frame_by_id, frame_name, if◌then◌else◌, inl, inr, launched, length, less_by, option_map_or, refl, refused, refused_by, refused_thread, result_reply, scopes, scopes_from, settings, shown_column, shown_frame, shown_frames, shown_line, situation, subject_in, subst, suc, sym, value, zero, ℕ, ◌+◌, ◌-◌, ◌<◌, ◌∙◌, ◌∷◌, ◌≡◌}
+use Rattle.dap_history.proofs.Common.{AnswersFrom, Block, Configuration, Counting, DivideByZero, Err, EvalFault, EvaluatesIn, Faulted, Frame, Fresh, InitializeArguments, IsStopped, Launched, Name, None, Ok, Option, Overflow, Path, Question, Refusal, RepliesAt, RepliesFrom, RunFault, Scope, Situation, Some, StepAt, Stopped, StoppedLastAt, Subject, [], ap, arith, at, at_most, eqb-true, frame_by_id, frame_name, if◌then◌else◌, inl, inr, launched, length, less_by, option_map_or, refl, refused_by, refused_thread, result_answer, scopes, scopes_from, settings, shown_column, shown_frame, shown_frames, shown_line, situation, subject_in, subst, suc, sym, value, zero, ℕ, ◌+◌, ◌-◌, ◌<◌, ◌∙◌, ◌∷◌, ◌≡◌}
 use Rattle.std.proofs.Common.{List, Bool, true, false, Result}
 use Rattle.std.specs.Prelude.{nat_eq, ℤ, option_map, drop, codes}
 use Rattle.dap_msg.specs.declared.command.Command.TheVariants as command
 use Rattle.dap_msg.specs.declared.question.Question.TheVariants as question
-use Rattle.dap_msg.specs.declared.outgoing.Body.TheVariants as body
+use Rattle.dap_msg.specs.declared.question.Shown.{Shown as WhatIsShown}
+use Rattle.dap_msg.specs.declared.question.Shown.TheVariants as shown_as
 use Rattle.dap_msg.specs.declared.outgoing.Refusal.TheVariants as refusal
 use Rattle.pl0_tree.specs.Tree.{variables as declared}
 use Rattle.pl0_meaning.specs.Values.{frame_at}
@@ -18,9 +19,6 @@ use Rattle.dap_history.proofs.Along.{any_events, along}
 use Rattle.dap_history.proofs.Each.{WasTaken, EachTaken, each_kept, each_first}
 use Rattle.dap_history.proofs.Standing.{questions_answered}
 use Rattle.dap_history.proofs.LineAnswers.{Any, IsCounted, counted_kept, offset_is, counts_so}
-
-result_is : (reply other : Reply) → reply ≡ other → reply.result ≡ other.result
-result_is reply other is = ap (λ (r : Reply). r.result) is
 
 -- ---- frames
 
@@ -60,7 +58,7 @@ none_so : (c : Configuration) (id : ℕ) → frame_by_id c id ≡ None → HasNo
 none_so c zero none f has = has
 none_so c (suc i) none f has = let e = sym none ∙ has in absurd cc
 
-of_frame : (c : Configuration) (id : ℕ) (why : Refusal) (result : Result Body Refusal) (says : Frame → Type 0)
+of_frame : (c : Configuration) (id : ℕ) (why : Refusal) (result : Result WhatIsShown Refusal) (says : Frame → Type 0)
     (o : Option Frame) → frame_by_id c id ≡ o → (o ≡ None → result ≡ Err why)
     → ((f : Frame) → o ≡ Some f → HasId c id f → says f) → OfFrame c id why result says
 of_frame c id why result says None is refused_ shown = inr (none_so c id is, refused_ refl)
@@ -152,32 +150,32 @@ numbers_so (x ∷ xs) [] same = absurd (omega (arith, same))
 
 -- ---- `evaluate`
 
-value_so : (r : Result ℤ EvalFault) (v : Result ℤ RunFault) (reply : Reply) → v ≡ evaluated r → reply ≡ result_reply r
-    → GivesValue v reply.result
-value_so (Ok n) v reply same is = subst (λ x. GivesValue x reply.result) (sym same) (result_is reply _ is)
-value_so (Err Overflow) v reply same is = subst (λ x. GivesValue x reply.result) (sym same) (result_is reply _ is)
-value_so (Err DivideByZero) v reply same is = subst (λ x. GivesValue x reply.result) (sym same) (result_is reply _ is)
+value_so : (r : Result ℤ EvalFault) (v : Result ℤ RunFault) (reply : Result WhatIsShown Refusal)
+    → v ≡ evaluated r → reply ≡ result_answer r → GivesValue v reply
+value_so (Ok n) v reply same is = subst (λ x. GivesValue x reply) (sym same) is
+value_so (Err Overflow) v reply same is = subst (λ x. GivesValue x reply) (sym same) is
+value_so (Err DivideByZero) v reply same is = subst (λ x. GivesValue x reply) (sym same) is
 
-evaluates_so : (main : Block) (c : Configuration) (id : ℕ) (f : Frame) (text : List ℕ) (reply : Reply)
-    → EvaluatesIn main c id (Some f) text reply → ShowsValue main c id f text reply.result
+evaluates_so : (main : Block) (c : Configuration) (id : ℕ) (f : Frame) (text : List ℕ)
+    (reply : Result WhatIsShown Refusal) → EvaluatesIn main c id (Some f) text reply → ShowsValue main c id f text reply
 evaluates_so main c id f text reply (inl is) =
     inl (
       is.expression,
       is.reads,
       value_so is.result (value main c
-          (id - 1) is.expression) reply is.result_is is.reply_is,
+          (id - 1) is.expression) reply is.result_is is.answer_is,
     )
-evaluates_so main c id f text reply (inr is) = inr (is.none, result_is reply _ is.reply_is)
+evaluates_so main c id f text reply (inr is) = inr (is.none, is.answer_is)
 
 -- ---- questions
 
 -- what the thread allows
-on_one : (thread : ℕ) (reply other : Reply) → refused_thread (Some thread) ≡ None
-    → reply ≡ (if nat_eq thread 1 then other else refused refusal.UnknownThread) → reply ≡ other
+on_one : (thread : ℕ) (reply other : Result WhatIsShown Refusal) → refused_thread (Some thread) ≡ None
+    → reply ≡ (if nat_eq thread 1 then other else Err refusal.UnknownThread) → reply ≡ other
 on_one thread reply other allowed is = by_test (nat_eq thread 1) allowed is
   where
     by_test : (b : Bool) → (if b then None else Some refusal.UnknownThread) ≡ None
-        → reply ≡ (if b then other else refused refusal.UnknownThread) → reply ≡ other
+        → reply ≡ (if b then other else Err refusal.UnknownThread) → reply ≡ other
     by_test true allowed is = is
     by_test false allowed is = absurd cc
 
@@ -186,8 +184,8 @@ module _ (linked : FramesAreLinked) (fit : FramesFit) (l : Launched) (n : ℕ) (
   abbrev of : Subject
   of = record { program = l.program; path = l.path; counting = counting_of counting }
 
-  locals_so : (id : ℕ) (f : Frame) (reply : Reply) → HasId c id f → reply ≡ variables of (Some f)
-      → ShowsLocals l.program f reply.result
+  locals_so : (id : ℕ) (f : Frame) (reply : Result WhatIsShown Refusal) → HasId c id f → reply ≡ variables of (Some f)
+      → ShowsLocals l.program f reply
   locals_so zero f reply has is = absurd has
   locals_so (suc i) f reply has is =
       let fits = fit l.program n i c f there has in record {
@@ -195,8 +193,8 @@ module _ (linked : FramesAreLinked) (fit : FramesFit) (l : Launched) (n : ℕ) (
         block_is = fits.found;
         all = named (declared fits.block) f.numbers;
         shown = numbers_so (declared fits.block) f.numbers fits.count;
-        result_is = result_is reply _ is
-            ∙ ap (λ b. Ok (body.Variables (named (names_of b) f.numbers))) fits.found;
+        result_is = is
+            ∙ ap (λ b. Ok (shown_as.Variables (named (names_of b) f.numbers))) fits.found;
       }
 
   chain_so : (id : ℕ) (f : Frame) → HasId c id f → ShowsScopes l.program c f id (scopes_from l.program c (id - 1))
@@ -209,30 +207,30 @@ module _ (linked : FramesAreLinked) (fit : FramesFit) (l : Launched) (n : ℕ) (
       subst (λ j. ShowsScopes l.program c f (suc i) (scopes_from l.program c j)) b
       (subst (λ k. ShowsScopes l.program c f k (scopes_from l.program c i)) a here)
 
-  shows_so : (q : Question) (reply : Reply) → refused_by Stopped (command.Inspect q) ≡ None → RepliesFrom of c q reply
-      → Shows l counting c q reply.result
+  shows_so : (q : Question) (reply : Result WhatIsShown Refusal) → refused_by Stopped (command.Inspect q) ≡ None
+      → RepliesFrom of c q reply → Shows l counting c q reply
   shows_so (question.StackTrace a) reply allowed is = record {
     all = shown_frames l.program (counting_of counting) c;
     shown = frames_so l.program counting c;
-    result_is = result_is reply _ (on_one a.thread_id reply _ allowed is)
-        ∙ ap (λ frames. Ok (body.StackTrace l.path frames (length c)))
+    result_is = on_one a.thread_id reply _ allowed is
+        ∙ ap (λ frames. Ok (shown_as.StackTrace l.path frames (length c)))
         (page_is a.start_frame a.levels (shown_frames l.program (counting_of counting) c));
   }
   shows_so (question.Scopes a) reply allowed is =
-      of_frame c a.frame_id refusal.UnknownFrame reply.result _ (frame_by_id c a.frame_id) refl
-      (λ none. result_is reply _ (is ∙ ap (scopes of a.frame_id c) none))
+      of_frame c a.frame_id refusal.UnknownFrame reply _ (frame_by_id c a.frame_id) refl
+      (λ none. is ∙ ap (scopes of a.frame_id c) none)
       (λ f some has. (
         scopes_from l.program c (a.frame_id - 1),
         chain_so a.frame_id f has,
-        result_is reply _ (is ∙ ap (scopes of a.frame_id c) some),
+        is ∙ ap (scopes of a.frame_id c) some,
       ))
   shows_so (question.Variables a) reply allowed is =
-      of_frame c a.variables_reference refusal.UnknownReference reply.result _ (frame_by_id c a.variables_reference)
-      refl (λ none. result_is reply _ (is ∙ ap (variables of) none))
+      of_frame c a.variables_reference refusal.UnknownReference reply _ (frame_by_id c a.variables_reference)
+      refl (λ none. is ∙ ap (variables of) none)
       (λ f some has. locals_so a.variables_reference f reply has (is ∙ ap (variables of) some))
   shows_so (question.Evaluate a) reply allowed is =
-      of_frame c a.frame_id refusal.UnknownFrame reply.result _ (frame_by_id c a.frame_id) refl
-      (λ none. result_is reply _ (subst (λ o. EvaluatesIn l.program c a.frame_id o a.expression reply) none is))
+      of_frame c a.frame_id refusal.UnknownFrame reply _ (frame_by_id c a.frame_id) refl
+      (λ none. subst (λ o. EvaluatesIn l.program c a.frame_id o a.expression reply) none is)
       (λ f some has. evaluates_so l.program c a.frame_id f a.expression reply
       (subst (λ o. EvaluatesIn l.program c a.frame_id o a.expression reply) some is))
 
@@ -251,10 +249,11 @@ not_fresh Faulted stands is = absurd cc
 not_fresh _ stands is = stands
 
 -- the configuration of which a reply is
-record HasShown (l : Launched) (m : ℕ) (counting : InitializeArguments) (q : Question) (reply : Reply) : Type 0 where
+record HasShown (l : Launched) (m : ℕ) (counting : InitializeArguments) (q : Question)
+    (reply : Result WhatIsShown Refusal) : Type 0 where
   c : Configuration
   there : at l.program m ≡ Some c
-  shows : Shows l counting c q reply.result
+  shows : Shows l counting c q reply
 
 abbrev counted : ℕ → ℕ → Counting
 counted lines columns = record { lines = lines; columns = columns }
@@ -268,7 +267,7 @@ answers_show linked fit events past rest history before request q step asks allo
   from.1,
   has.c,
   settings before,
-  from.4.reply.result,
+  from.4.result,
   from.2,
   from.3,
   has.there,
@@ -298,15 +297,15 @@ answers_show linked fit events past rest history before request q step asks allo
         (offset_is (settings before).columns_start_at_1)
 
     by_place : (o : Option Configuration) → at from.0.program from.1 ≡ o
-        → RepliesAt (subject_in before from.0) o q from.4.reply
-        → HasShown from.0 from.1 (settings before) q from.4.reply
+        → RepliesAt (subject_in before from.0) o q from.4.result
+        → HasShown from.0 from.1 (settings before) q from.4.result
     by_place None none replies = absurd replies
     by_place (Some c) there replies = record {
       c = c;
       there = there;
-      shows = shows_so linked fit from.0 from.1 c there (settings before) q from.4.reply standing.1
-          (subst (λ (k : Counting). RepliesFrom (asking from.0 k) c q from.4.reply) counting_is replies);
+      shows = shows_so linked fit from.0 from.1 c there (settings before) q from.4.result standing.1
+          (subst (λ (k : Counting). RepliesFrom (asking from.0 k) c q from.4.result) counting_is replies);
     }
 
-    has : HasShown from.0 from.1 (settings before) q from.4.reply
+    has : HasShown from.0 from.1 (settings before) q from.4.result
     has = by_place (at from.0.program from.1) refl from.4.shown

@@ -1,18 +1,21 @@
 -- Where the program stands it is where it stopped last, and what is asked there is answered from there.
-use Rattle.dap_history.proofs.Common.{Accepted, All-append, All-cons, All-nil, Answers, AnswersFrom, Body, Causes, Command, CommandName, Content, Err, Event, EventBody, Faulted, Go, History, Hold, Incoming, InspectsAs, IsStopped, Item, Launched, Loaded, None, OfProgram, Ok, Option, Outgoing, PlainOrder, Question, Quit, Reaction, Refusal, RepliesAt, RepliesIn, Reply, Request, Situation, Some, Step, StopReason, Stopped, StoppedLastAt, [], answer_mark, ap, at, command_mark, end_of, event_mark, inl, inr, last_such, launched, message_mark, messages, name_of, or_else, order_mark, refl, reply_of, situation, step_mark, stop_in, stop_of_event, subject_in, subst, sym, unwrap_or, with_answer, ℕ, ◌++◌, ◌∙◌, ◌∷◌, ◌≡◌, ◌⊎◌}
+use Rattle.dap_history.proofs.Common.{Inspects, Reacts, Accepted, All-append, All-cons, All-nil, Answers, AnswersFrom, Body, Causes, Command, CommandName, Content, Err, Event, EventBody, Faulted, Go, History, Hold, Incoming, InspectsAs, IsStopped, Item, Launched, Loaded, None, OfProgram, Ok, Option, Outgoing, PlainOrder, Question, Quit, Reaction, Refusal, RepliesAt, RepliesIn, Reply, Request, Situation, Some, Step, StopReason, Stopped, StoppedLastAt, [], answer_mark, ap, at, command_mark, end_of, event_mark, inl, inr, last_such, launched, message_mark, messages, name_of, or_else, order_mark, refl, reply_of, situation, step_mark, stop_in, stop_of_event, subject_in, subst, sym, unwrap_or, with_answer, ℕ, ◌++◌, ◌∙◌, ◌∷◌, ◌≡◌, ◌⊎◌}
 use Rattle.std.proofs.Common.{List}
 use Rattle.std.specs.Prelude.{map, Result}
+use Rattle.dap_msg.specs.declared.question.Shown.{Shown}
+use Rattle.dap_history.specs.Replies.{in_body}
 use Rattle.std.proofs.lemmas.List.{append_assoc}
 use Rattle.dap_msg.specs.declared.command.CommandName.TheVariants as name
 use Rattle.dap_msg.specs.declared.command.Supported.TheVariants as supported
 use Rattle.dap_msg.specs.declared.outgoing.Outgoing.TheVariants.{Answer}
+use Rattle.dap_msg.specs.declared.outgoing.Body.TheVariants as body
 use Rattle.dap_msg.specs.declared.outgoing.EventBody.TheVariants as event
 use Rattle.dap_history.specs.Readings.{position}
 use Rattle.dap_history.specs.Stops.{QuestionsAreAnsweredThere}
 use Rattle.dap_history.proofs.Readings.{situation-snoc, position-snoc}
 use Rattle.dap_history.proofs.Along.{IsTaken, IsKept, any_events, along}
 use Rattle.dap_history.proofs.Each.{WasTaken, EachTaken, each_kept, each_first}
-use Rattle.dap_history.proofs.Questions.{inspects_there}
+use Rattle.dap_history.proofs.Questions.{inspects_there, result_with}
 use Rattle.dap_history.proofs.Reacted.{IsCalm, Reacted, by_answering, by_reaction}
 use Rattle.dap_msg.specs.declared.command.Command.TheVariants as command
 
@@ -201,45 +204,66 @@ stood_kept Q = record {
 -- ---- questions
 
 -- a question is answered as it is where the program stands; elsewhere it is refused
+abbrev AsShown : History → Question → Reply → Type 0
+AsShown past q reply =
+    (b : Result Shown Refusal) × InspectsAs past q b × (reply.result ≡ in_body b)
+
 inspects_here : (s : Situation) (past : History) (q : Question) (reply : Reply) → IsStopped s
-    → RepliesIn s past (command.Inspect q) reply → InspectsAs past q reply
-inspects_here Stopped past q reply stands is =
-    subst (InspectsAs past q) (sym is.reply_is) (inspects_there past q is.reaction is.reacts)
-inspects_here Faulted past q reply stands is =
-    subst (InspectsAs past q) (sym is.reply_is) (inspects_there past q is.reaction is.reacts)
-inspects_here _ past q reply stands is = absurd stands
+    → RepliesIn s past (command.Inspect q) reply → AsShown past q reply
+inspects_here s past q reply stands is = by_reacts s stands is.reacts
+  where
+    as_shown : Inspects past q is.reaction → AsShown past q reply
+    as_shown inspects =
+        let there = inspects_there past q is.reaction inspects in (
+          there.0,
+          there.1,
+          ap (λ (r : Reply). r.result) (is.reply_is ∙ ap (reply_of past) there.2) ∙ result_with past there.0,
+        )
+
+    by_reacts : (s : Situation) → IsStopped s → Reacts s past (command.Inspect q) is.reaction → AsShown past q reply
+    by_reacts Stopped stands reacts = as_shown reacts
+    by_reacts Faulted stands reacts = as_shown reacts
+    by_reacts _ stands reacts = absurd stands
+
+calm_stands : (past : History) (s : Situation) (q : Question) (b : Body) → IsCalm past s (command.Inspect q) b
+    → IsStopped s
+calm_stands past s q (body.Shown b) calm = calm.0
+calm_stands past s q _ calm = absurd calm
 
 reaction_stands : (past : History) {s : Situation} {asked : Command} {reaction : Reaction}
     → Reacted past s asked reaction
     → (q : Question) (b : Body) → asked ≡ command.Inspect q → (reply_of past reaction).result ≡ Ok b → IsStopped s
 reaction_stands past (by_answering s asked body calm) q b asks granted =
-    (subst (λ c. IsCalm past s c body) asks calm).0
+    calm_stands past s q body (subst (λ c. IsCalm past s c body) asks calm)
 reaction_stands past _ q b asks granted = absurd cc
 
 -- the program that is inspected, shown where it stopped last
-shown : (before : History) (request : Request) (question : Question) (step : Step) (reply : Reply) (l : Option Launched)
-    → launched before ≡ l
-    → OfProgram l (λ l. RepliesAt (subject_in before l) (at l.program (position before)) question reply)
+shown : (before : History) (request : Request) (question : Question) (step : Step) (reply : Reply)
+    (b : Result Shown Refusal) → reply.result ≡ in_body b → (l : Option Launched) → launched before ≡ l
+    → OfProgram l (λ l. RepliesAt (subject_in before l) (at l.program (position before)) question b)
     → Answers request.seq (name_of request.body) reply step → (m : ℕ) × StoppedLastAt before m × (m ≡ position before)
     → (l : Launched) × (m : ℕ) × (launched before ≡ Some l) × StoppedLastAt before m
     × AnswersFrom l before m request question step
-shown before request question step reply None is inspects answers stood = absurd inspects
-shown before request question step reply (Some l) is inspects answers stood = (
+shown before request question step reply b so None is inspects answers stood = absurd inspects
+shown before request question step reply b so (Some l) is inspects answers stood = (
   l,
   stood.0,
   is,
   stood.1,
   record {
-    reply = reply;
-    shown = subst (λ n. RepliesAt (subject_in before l) (at l.program n) question reply) (sym stood.2) inspects;
-    answer_is = answers.answer_is;
+    result = b;
+    shown = subst (λ n. RepliesAt (subject_in before l) (at l.program n) question b) (sym stood.2) inspects;
+    answer_is = answers.answer_is
+        ∙ ap (λ r. Some (Answer request.seq (name_of request.body) r)) so;
   },
 )
 
 pub questions_answered : QuestionsAreAnsweredThere
 questions_answered events past rest history before request question step asks = (
-  λ standing. shown before request question step causes.0 (launched before) refl
-      (inspects_here (situation before) before question causes.0 standing inspects) causes.2 (was.held standing),
+  λ standing.
+      let there = inspects_here (situation before) before question causes.0 standing inspects in
+      shown before request question step causes.0 there.0 there.2 (launched before) refl there.1 causes.2
+      (was.held standing),
   λ b answer. by_reaction (λ (r : Reply). r.result ≡ Ok b → IsStopped (situation before))
       (λ reaction reacted granted. reaction_stands before reacted question b asks.question_is granted) causes.1
       (let e = sym causes.2.answer_is ∙ answer in cc),

@@ -1,9 +1,10 @@
 -- Defines what a session does about a command: one of nine reactions, chosen by the table of the protocol's page, and
 -- the reply of each.
-use Rattle.std.specs.Prelude.{◌≡◌, Bool, true, false, if◌then◌else◌, List, [], ◌∷◌, map}
+use Rattle.std.specs.Prelude.{◌≡◌, Bool, true, false, if◌then◌else◌, List, [], ◌∷◌, map, Result, Ok, Err}
 use Rattle.dap_msg.specs.declared.command.Command.{Command}
 use Rattle.dap_msg.specs.declared.command.Command.TheVariants as command
 use Rattle.dap_msg.specs.declared.question.Question.{Question}
+use Rattle.dap_msg.specs.declared.question.Shown.{Shown}
 use Rattle.dap_msg.specs.declared.requests.resume.ResumeKind.{ResumeKind}
 use Rattle.dap_msg.specs.declared.requests.resume.RetreatKind.{RetreatKind}
 use Rattle.dap_msg.specs.declared.requests.resume.ThreadArguments.{ThreadArguments}
@@ -123,15 +124,15 @@ Interrupts asked = Only (for_thread asked Interrupt)
 abbrev pub Stays : ThreadArguments → Reaction → Type 0
 Stays asked = Only (for_thread asked (Answer body.None))
 
--- the reply to a question is what the program shows where it stands
-abbrev pub InspectsAs : History → Question → Reply → Type 0
-InspectsAs past question reply =
-    OfProgram (launched past) (λ l. RepliesAt (subject_in past l) (at l.program (position past)) question reply)
+-- the answer to a question is what the program shows where it stands
+abbrev pub InspectsAs : History → Question → Result Shown Refusal → Type 0
+InspectsAs past question answer =
+    OfProgram (launched past) (λ l. RepliesAt (subject_in past l) (at l.program (position past)) question answer)
 
 -- it is inspected there: a question is answered or refused
 abbrev pub Inspects : History → Question → Reaction → Type 0
-Inspects past question (Answer body) = InspectsAs past question (answered body)
-Inspects past question (Refuse why) = InspectsAs past question (refused why)
+Inspects past question (Answer (body.Shown b)) = InspectsAs past question (Ok b)
+Inspects past question (Refuse why) = InspectsAs past question (Err why)
 Inspects past question _ = ⊥
 
 -- ---- the table

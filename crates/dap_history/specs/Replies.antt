@@ -1,8 +1,9 @@
 -- Defines what a command is answered with, and what it causes after the answer.
-use Rattle.std.specs.Prelude.{ℕ, Bool, nat_eq, if◌then◌else◌, List, [], ◌∷◌, map, Option, None, Some, Result, Ok, Err}
+use Rattle.std.specs.Prelude.{ℕ, Bool, nat_eq, List, [], ◌∷◌, map, Option, None, Some, Result, Ok, Err}
+use Rattle.dap_msg.specs.declared.question.Shown.{Shown}
 use Rattle.dap_msg.specs.declared.outgoing.Body.{Body}
+use Rattle.dap_msg.specs.declared.outgoing.Body.TheVariants as body
 use Rattle.dap_msg.specs.declared.outgoing.Refusal.{Refusal}
-use Rattle.dap_msg.specs.declared.outgoing.Refusal.TheVariants as refusal
 use Rattle.dap_msg.specs.declared.outgoing.EventBody.{EventBody}
 use Rattle.dap_msg.specs.declared.outgoing.EventBody.TheVariants as event
 use Rattle.dap_msg.specs.declared.outgoing.StopReason.{StopReason}
@@ -43,6 +44,11 @@ answered body = record { result = Ok body; effect = nothing }
 -- a refusal causes nothing
 abbrev pub refused : Refusal → Reply
 refused why = record { result = Err why; effect = nothing }
+
+-- what a question shows is the body of its answer
+abbrev pub in_body : Result Shown Refusal → Result Body Refusal
+in_body (Ok shown) = Ok (body.Shown shown)
+in_body (Err why) = Err why
 
 -- an answer, and what it causes
 abbrev pub causing : Body → Effect → Reply
@@ -91,7 +97,3 @@ log_events breakpoints logs = map (λ log. event.Log (text_of_log breakpoints lo
 -- the thread is 1, the only one
 abbrev pub is_main_thread : ℕ → Bool
 is_main_thread thread = nat_eq thread 1
-
--- the reply, if the thread is the only one; otherwise a refusal
-abbrev pub on_thread : ℕ → Reply → Reply
-on_thread thread reply = if is_main_thread thread then reply else refused refusal.UnknownThread

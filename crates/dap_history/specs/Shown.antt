@@ -8,8 +8,8 @@ use Rattle.dap_msg.specs.declared.requests.stack_trace.StackTraceArguments.{Stac
 use Rattle.dap_msg.specs.declared.question.Question.{Question}
 use Rattle.dap_msg.specs.declared.question.Question.TheVariants as question
 use Rattle.dap_msg.specs.declared.outgoing.Outgoing.TheVariants.{Answer}
-use Rattle.dap_msg.specs.declared.outgoing.Body.{Body}
-use Rattle.dap_msg.specs.declared.outgoing.Body.TheVariants as body
+use Rattle.dap_msg.specs.declared.question.Shown.{Shown}
+use Rattle.dap_msg.specs.declared.question.Shown.TheVariants as shown_as
 use Rattle.dap_msg.specs.declared.outgoing.StackFrame.{StackFrame}
 use Rattle.dap_msg.specs.declared.outgoing.Scope.{Scope}
 use Rattle.dap_msg.specs.declared.outgoing.Variable.{Variable}
@@ -28,6 +28,7 @@ use Rattle.dap_history.specs.History.{Launched, Step, History}
 use Rattle.dap_history.specs.Readings.{situation, launched}
 use Rattle.dap_history.specs.Events.{Incoming, Rest, IsHistoryOf}
 use Rattle.dap_history.specs.Stops.{StoppedLastAt, Asks}
+use Rattle.dap_history.specs.Replies.{in_body}
 use Rattle.dap_history.specs.Verdicts.{refused_by}
 use Rattle.dap_history.specs.Initialized.{IsInitializedBy, less_by}
 
@@ -71,10 +72,10 @@ page start (suc n) xs = take (suc n) (drop start xs)
 
 -- `stackTrace`: the page that is asked for of all frames, each of the launched source, and how many there are in all
 pub record ShowsStack (l : Launched) (counting : InitializeArguments) (c : Configuration) (asked : StackTraceArguments)
-    (result : Result Body Refusal) : Type 0 where
+    (result : Result Shown Refusal) : Type 0 where
   pub all : List StackFrame
   pub shown : ShowsFrames l.program counting c all
-  pub result_is : result ≡ Ok (body.StackTrace l.path (page asked.start_frame asked.levels all) (length c))
+  pub result_is : result ≡ Ok (shown_as.StackTrace l.path (page asked.start_frame asked.levels all) (length c))
 
 -- ---- scopes
 
@@ -97,24 +98,24 @@ ShowsVariables (x ∷ xs) (v ∷ numbers) (shown ∷ more) =
 ShowsVariables _ _ _ = ⊥
 
 -- the variables of the frame's block, with the frame's numbers
-pub record ShowsLocals (main : Block) (f : Frame) (result : Result Body Refusal) : Type 0 where
+pub record ShowsLocals (main : Block) (f : Frame) (result : Result Shown Refusal) : Type 0 where
   pub block : Block
   pub block_is : block_at main f.block ≡ Some block
   pub all : List Variable
   pub shown : ShowsVariables (variables block) f.numbers all
-  pub result_is : result ≡ Ok (body.Variables all)
+  pub result_is : result ≡ Ok (shown_as.Variables all)
 
 -- ---- `evaluate`
 
 -- the value of an expression, or its fault
-abbrev pub GivesValue : Result ℤ RunFault → Result Body Refusal → Type 0
-GivesValue (Ok v) result = result ≡ Ok (body.Value v)
+abbrev pub GivesValue : Result ℤ RunFault → Result Shown Refusal → Type 0
+GivesValue (Ok v) result = result ≡ Ok (shown_as.Value v)
 GivesValue (Err run_fault.Overflow) result = result ≡ Err refusal.Overflow
 GivesValue (Err run_fault.DivideByZero) result = result ≡ Err refusal.DivideByZero
 GivesValue _ result = ⊥
 
 -- the text reads as an expression in the scope of the frame with this id, and its value there is given; or it doesn't
-abbrev pub ShowsValue : Block → Configuration → ℕ → Frame → List ℕ → Result Body Refusal → Type 0
+abbrev pub ShowsValue : Block → Configuration → ℕ → Frame → List ℕ → Result Shown Refusal → Type 0
 ShowsValue main c id f text result =
     ((e : Expression) × IsExpressionOf main f.block text e × GivesValue (value main c (id - 1) e) result)
     ⊎ (((e : Expression) → ¬ IsExpressionOf main f.block text e) × (result ≡ Err refusal.BadExpression))
@@ -122,15 +123,15 @@ ShowsValue main c id f text result =
 -- ---- the law
 
 -- what is answered of the frame with this id, or the refusal where there is none
-abbrev pub OfFrame : Configuration → ℕ → Refusal → Result Body Refusal → (Frame → Type 0) → Type 0
+abbrev pub OfFrame : Configuration → ℕ → Refusal → Result Shown Refusal → (Frame → Type 0) → Type 0
 OfFrame c id why result says = ((f : Frame) × HasId c id f × says f) ⊎ (HasNone c id × (result ≡ Err why))
 
 -- what a question is answered with, where the program is in this configuration
-abbrev pub Shows : Launched → InitializeArguments → Configuration → Question → Result Body Refusal → Type 0
+abbrev pub Shows : Launched → InitializeArguments → Configuration → Question → Result Shown Refusal → Type 0
 Shows l counting c (question.StackTrace asked) result = ShowsStack l counting c asked result
 Shows l counting c (question.Scopes asked) result =
     OfFrame c asked.frame_id refusal.UnknownFrame result (λ f.
-    (all : List Scope) × ShowsScopes l.program c f asked.frame_id all × (result ≡ Ok (body.Scopes all)))
+    (all : List Scope) × ShowsScopes l.program c f asked.frame_id all × (result ≡ Ok (shown_as.Scopes all)))
 Shows l counting c (question.Variables asked) result =
     OfFrame c asked.variables_reference refusal.UnknownReference result (λ f. ShowsLocals l.program f result)
 Shows l counting c (question.Evaluate asked) result =
@@ -145,6 +146,7 @@ AnswersShowTheProgram =
     → (before : History) (request : Request) (question : Question) (step : Step)
     → Asks past before request question step → refused_by (situation before) request.body ≡ None
     → (l : Launched) × (m : ℕ) × (c : Configuration) × (counting : InitializeArguments)
-    × (result : Result Body Refusal) × (launched before ≡ Some l) × StoppedLastAt before m
+    × (result : Result Shown Refusal) × (launched before ≡ Some l) × StoppedLastAt before m
     × (at l.program m ≡ Some c) × IsInitializedBy before counting
-    × (step.answer ≡ Some (Answer request.seq (name_of request.body) result)) × Shows l counting c question result
+    × (step.answer ≡ Some (Answer request.seq (name_of request.body) (in_body result)))
+    × Shows l counting c question result

@@ -1,10 +1,12 @@
 -- States the laws of stops: each is where it has to be, and what a client asks there is answered from there.
-use Rattle.std.specs.Prelude.{if◌then◌else◌, ◌≡◌, ◌++◌, ◌∷◌, [], ◌⊎◌, ℕ, ◌<◌, ◌≤◌, Bool, true, false, List, Option, None, Some, Ok, All}
+use Rattle.std.specs.Prelude.{if◌then◌else◌, ◌≡◌, ◌++◌, ◌∷◌, [], ◌⊎◌, ℕ, ◌<◌, ◌≤◌, Bool, true, false, List, Option, None, Some, Result, Ok, All}
 use Rattle.dap_msg.specs.Commands.{name_of}
 use Rattle.dap_msg.specs.declared.request.Request.{Request}
 use Rattle.dap_msg.specs.declared.command.Command.{Command}
 use Rattle.dap_msg.specs.declared.command.Command.TheVariants as command
 use Rattle.dap_msg.specs.declared.question.Question.{Question}
+use Rattle.dap_msg.specs.declared.question.Shown.{Shown}
+use Rattle.dap_msg.specs.declared.outgoing.Refusal.{Refusal}
 use Rattle.dap_msg.specs.declared.outgoing.Outgoing.TheVariants.{Answer}
 use Rattle.dap_msg.specs.declared.outgoing.Body.{Body}
 use Rattle.dap_msg.specs.declared.outgoing.EventBody.{EventBody}
@@ -28,8 +30,8 @@ use Rattle.dap_history.specs.declared.situation.Situation.TheVariants.{Stopped, 
 use Rattle.dap_history.specs.Last.{last_such}
 use Rattle.dap_history.specs.History.{Launched, Content, Accepted, Step, History}
 use Rattle.dap_history.specs.Readings.{go, situation, launched, last_run, position, plan, waiting_pause}
-use Rattle.dap_history.specs.Replies.{Reply}
 use Rattle.dbg_plan.specs.declared.mode.Mode.TheVariants as mode
+use Rattle.dap_history.specs.Replies.{in_body}
 use Rattle.dap_history.specs.Inspection.{RepliesAt, subject_in}
 use Rattle.dap_history.specs.Events.{Incoming, Rest, AreLawful, IsHistoryOf}
 
@@ -221,9 +223,9 @@ pub record Asks (past before : History) (request : Request) (question : Question
 -- the step answers the question by what the program shows at position m
 pub record AnswersFrom (l : Launched) (before : History) (m : ℕ) (request : Request) (question : Question)
     (step : Step) : Type 0 where
-  pub reply : Reply
-  pub shown : RepliesAt (subject_in before l) (at l.program m) question reply
-  pub answer_is : step.answer ≡ Some (Answer request.seq (name_of request.body) reply.result)
+  pub result : Result Shown Refusal
+  pub shown : RepliesAt (subject_in before l) (at l.program m) question result
+  pub answer_is : step.answer ≡ Some (Answer request.seq (name_of request.body) (in_body result))
 
 -- Where the program stands, frames, scopes, variables and values are those of the launched program at its last stop.
 -- Elsewhere no question is answered with a body. `Shown` says what they show without `Inspection`; a reader may skip

@@ -1,27 +1,25 @@
 -- States the laws of answers: which request is refused in which situation, and with what; and what kind of answer one
 -- that is granted gets. The table is that of the protocol's page, a line a row.
-use Rattle.std.specs.Prelude.{◌≡◌, ◌⊎◌, ◌++◌, ◌∷◌, [], ℕ, ℤ, nat_eq, if◌then◌else◌, List, map, Option, None, Some, Result, Ok, Err}
+use Rattle.std.specs.Prelude.{◌≡◌, ◌++◌, ◌∷◌, [], ℕ, nat_eq, if◌then◌else◌, List, map, Option, None, Some, Result, Ok, Err}
 use Rattle.dap_msg.specs.Commands.{name_of}
 use Rattle.dap_msg.specs.declared.request.Request.{Request}
 use Rattle.dap_msg.specs.declared.command.Command.{Command}
 use Rattle.dap_msg.specs.declared.command.Command.TheVariants as command
 use Rattle.dap_msg.specs.declared.command.CommandName.{CommandName}
 use Rattle.dap_msg.specs.declared.requests.resume.ResumeKind.TheVariants as resume
-use Rattle.dap_msg.specs.declared.question.Question.{Question}
 use Rattle.dap_msg.specs.declared.question.Question.TheVariants as question
+use Rattle.dap_msg.specs.declared.question.Shown.{Shown}
 use Rattle.dap_msg.specs.declared.outgoing.Outgoing.{Outgoing}
 use Rattle.dap_msg.specs.declared.outgoing.Outgoing.TheVariants.{Answer, Event}
 use Rattle.dap_msg.specs.declared.outgoing.Body.{Body}
 use Rattle.dap_msg.specs.declared.outgoing.Body.TheVariants as body
 use Rattle.dap_msg.specs.declared.outgoing.BreakpointAnswer.{BreakpointAnswer}
-use Rattle.dap_msg.specs.declared.outgoing.StackFrame.{StackFrame}
-use Rattle.dap_msg.specs.declared.outgoing.Scope.{Scope}
-use Rattle.dap_msg.specs.declared.outgoing.Variable.{Variable}
 use Rattle.dap_msg.specs.declared.outgoing.Refusal.{Refusal}
 use Rattle.dap_msg.specs.declared.outgoing.Refusal.TheVariants as refusal
 use Rattle.dap_history.specs.declared.situation.Situation.{Situation}
 use Rattle.dap_history.specs.declared.situation.Situation.TheVariants.{Fresh, Ready, Configuring, Running, Stopped, Faulted, Ended}
 use Rattle.dap_history.specs.Last.{or_else}
+use Rattle.dap_history.specs.Replies.{in_body}
 use Rattle.dap_history.specs.History.{Item, Content, Loaded, Accepted, Step, History, Effect, messages}
 use Rattle.dap_history.specs.Readings.{situation}
 use Rattle.dap_history.specs.Events.{Incoming, Rest, IsHistoryOf}
@@ -85,29 +83,17 @@ refused_by s asked = or_else (refused_in s asked) (refused_thread (thread_of ask
 
 -- ---- what is answered otherwise
 
--- A question is answered with its body, or refused for its frame, its reference or its expression.
-abbrev pub AnswersQuestion : Question → Result Body Refusal → Type 0
-AnswersQuestion (question.StackTrace asked) result =
-    (path : List ℕ) × (frames : List StackFrame) × (total : ℕ) × (result ≡ Ok (body.StackTrace path frames total))
-AnswersQuestion (question.Scopes asked) result =
-    ((scopes : List Scope) × (result ≡ Ok (body.Scopes scopes))) ⊎ (result ≡ Err refusal.UnknownFrame)
-AnswersQuestion (question.Variables asked) result =
-    ((variables : List Variable) × (result ≡ Ok (body.Variables variables)))
-    ⊎ (result ≡ Err refusal.UnknownReference)
-AnswersQuestion (question.Evaluate asked) result =
-    ((value : ℤ) × (result ≡ Ok (body.Value value))) ⊎ (result ≡ Err refusal.UnknownFrame)
-    ⊎ (result ≡ Err refusal.BadExpression) ⊎ (result ≡ Err refusal.Overflow) ⊎ (result ≡ Err refusal.DivideByZero)
-
 -- What is answered where neither the situation nor the thread refuses: `initialize`, `threads`, `continue`,
--- `setBreakpoints` and the questions have each their body, and no other command has one. A `launch` isn't answered
--- then: it waits for its file.
+-- `setBreakpoints` and the questions have each their body, and no other command has one. A question may still be
+-- refused: `AnswersShowTheProgram` says what it shows, and which refusal it gets where. A `launch` isn't answered then:
+-- it waits for its file.
 abbrev pub IsGranted : Command → Result Body Refusal → Type 0
 IsGranted (command.Initialize asked) result = result ≡ Ok body.Capabilities
 IsGranted command.Threads result = result ≡ Ok body.Threads
 IsGranted (command.Resume resume.Continue asked) result = result ≡ Ok body.Continued
 IsGranted (command.SetBreakpoints asked) result =
     (answers : List BreakpointAnswer) × (result ≡ Ok (body.Breakpoints answers))
-IsGranted (command.Inspect asked) result = AnswersQuestion asked result
+IsGranted (command.Inspect asked) result = (answer : Result Shown Refusal) × (result ≡ in_body answer)
 IsGranted (command.Launch asked) result = ⊥
 IsGranted _ result = result ≡ Ok body.None
 
