@@ -1,7 +1,6 @@
 -- What several lemma files import, from the libraries and from the definitions.
 pub use Rattle.dap_history.specs.Frames.{Counting, frame_by_id, frame_name, scopes_from}
 pub use Rattle.dap_history.specs.Inspection.{Subject}
-pub use Rattle.dap_history.specs.Replies.{answered, refused}
 pub use Rattle.dap_inspection.specs.Alive.{IsAlive}
 pub use Rattle.dap_inspection.specs.Showing.{IsShownAs}
 pub use Rattle.dap_msg.specs.declared.outgoing.Scope.{Scope}

@@ -1,6 +1,6 @@
 -- Expressions that are read in a frame's scope, at the frame's next step, which stands in the frame's block.
-use Rattle.dap_inspection.proofs.Common.{Block, Configuration, Frame, FrameView, IsAlive, List, None, Option, Place, Shows, Some, ap, arith, frame_at, frame_by_id, inl, inr, length, refl, refused, steps, subst, sym, ℕ, ℤ, ◌-◌, ◌<◌, ◌∙◌, ◌≡◌}
-use Rattle.std.proofs.Common.{Result}
+use Rattle.dap_inspection.proofs.Common.{Block, Configuration, Frame, FrameView, IsAlive, List, None, Option, Place, Shows, Some, ap, arith, frame_at, frame_by_id, inl, inr, length, refl, steps, subst, sym, ℕ, ℤ, ◌-◌, ◌<◌, ◌∙◌, ◌≡◌}
+use Rattle.std.proofs.Common.{Result, Err}
 use Rattle.pl0_tree.specs.Plain.{plain_expression}
 use Rattle.pl0_tree.specs.declared.tree.Expression.{Expression as DeclaredExpression}
 use Rattle.pl0_tree.specs.declared.fault.FaultKind.{FaultKind}
@@ -11,9 +11,10 @@ use Rattle.pl0_meaning.specs.Laws.{NextStepsStandInTheirBlocks}
 use Rattle.pl0_meaning.specs.Values.{value}
 use Rattle.dbg_plan.specs.Values.{answered as evaluated}
 use Rattle.dbg_plan.specs.declared.evaluation.EvalFault.{EvalFault}
+use Rattle.dap_msg.specs.declared.question.Shown.{Shown}
+use Rattle.dap_msg.specs.declared.outgoing.Refusal.{Refusal}
 use Rattle.dap_msg.specs.declared.outgoing.Refusal.TheVariants as refusal
-use Rattle.dap_history.specs.Replies.{Reply}
-use Rattle.dap_history.specs.Inspection.{EvaluatesIn, result_reply}
+use Rattle.dap_history.specs.Inspection.{EvaluatesIn, result_answer}
 use Rattle.dap_inspection.specs.Evaluating.{IsReadIn}
 use Rattle.dap_inspection.proofs.AliveFrames.{by_id}
 
@@ -42,28 +43,28 @@ not_read_there stand excludes main (Some f) view text kind place shows is =
 -- ---- what is answered
 
 module _ (main : Block) (c : Configuration) (id i : ℕ) (text : List ℕ) (alive : IsAlive c id i) where
-  in_frame : (reply : Reply) → EvaluatesIn main c id (frame_at c i) text reply
-      → EvaluatesIn main c id (frame_by_id c id) text reply
-  in_frame reply is = subst (λ o. EvaluatesIn main c id o text reply) (sym (by_id c id i alive)) is
+  in_frame : (answer : Result Shown Refusal) → EvaluatesIn main c id (frame_at c i) text answer
+      → EvaluatesIn main c id (frame_by_id c id) text answer
+  in_frame answer is = subst (λ o. EvaluatesIn main c id o text answer) (sym (by_id c id i alive)) is
 
   pub refuses : IsReadIn main (frame_at c i) text None → EvaluatesIn main c id (frame_by_id c id) text
-      (refused refusal.BadExpression)
+      (Err refusal.BadExpression)
   refuses read = in_frame _ (at (frame_at c i) read)
     where
-      at : (o : Option Frame) → IsReadIn main o text None → EvaluatesIn main c id o text (refused refusal.BadExpression)
+      at : (o : Option Frame) → IsReadIn main o text None → EvaluatesIn main c id o text (Err refusal.BadExpression)
       at None read = absurd read
-      at (Some f) read = inr (record { none = read; reply_is = refl })
+      at (Some f) read = inr (record { none = read; answer_is = refl })
 
-  pub answers : (e : DeclaredExpression) (result : Result ℤ EvalFault) (reply : Reply)
+  pub answers : (e : DeclaredExpression) (result : Result ℤ EvalFault) (answer : Result Shown Refusal)
       → IsReadIn main (frame_at c i) text (Some e) → value main c i (plain_expression e) ≡ evaluated result
-      → reply ≡ result_reply result →
-      EvaluatesIn main c id (frame_by_id c id) text reply
-  answers e result reply read is same = in_frame reply (at (frame_at c i) read)
+      → answer ≡ result_answer result →
+      EvaluatesIn main c id (frame_by_id c id) text answer
+  answers e result answer read is same = in_frame answer (at (frame_at c i) read)
     where
       number : id - 1 ≡ i
       number = omega (arith, alive.is)
 
-      at : (o : Option Frame) → IsReadIn main o text (Some e) → EvaluatesIn main c id o text reply
+      at : (o : Option Frame) → IsReadIn main o text (Some e) → EvaluatesIn main c id o text answer
       at None read = absurd read
       at (Some f) read =
           inl (record {
@@ -71,5 +72,5 @@ module _ (main : Block) (c : Configuration) (id i : ℕ) (text : List ℕ) (aliv
             reads = read;
             result = result;
             result_is = ap (λ k. value main c k (plain_expression e)) number ∙ is;
-            reply_is = same;
+            answer_is = same;
           })

@@ -1,6 +1,6 @@
 -- The variables of a frame.
-use Rattle.dap_inspection.proofs.Common.{AreLinked, Block, Configuration, Frame, FrameView, IsAlive, List, None, Option, Path, Shows, Some, Subject, [], answered, ap, arith, blocks, frame_at, frame_by_id, get_or, length, refl, slice_get, suc, sym, take, zero, ℕ, ℤ, ∥∥₁_elim, ◌++◌, ◌+◌, ◌<◌, ◌∙◌, ◌∷◌, ◌≡◌}
-use Rattle.std.proofs.Common.{map}
+use Rattle.dap_inspection.proofs.Common.{AreLinked, Block, Configuration, Frame, FrameView, IsAlive, List, None, Option, Path, Shows, Some, Subject, [], ap, arith, blocks, frame_at, frame_by_id, get_or, length, refl, slice_get, suc, sym, take, zero, ℕ, ℤ, ∥∥₁_elim, ◌++◌, ◌+◌, ◌<◌, ◌∙◌, ◌∷◌, ◌≡◌}
+use Rattle.std.proofs.Common.{map, Ok}
 use Rattle.std.proofs.Math.Nat.{ℕ_set}
 use Rattle.std.proofs.lemmas.List.{length-map}
 use Rattle.pl0_tree.specs.Tree.{variables}
@@ -15,9 +15,9 @@ use Rattle.pl0_meaning.specs.Linking.{frame_of}
 use Rattle.pl0_machine.specs.Machine.{variables_of}
 use Rattle.std.specs.Prelude.{string_bytes}
 use Rattle.dap_msg.specs.declared.outgoing.Variable.{Variable}
-use Rattle.dap_msg.specs.declared.outgoing.Body.TheVariants as body
+use Rattle.dap_msg.specs.declared.question.Shown.TheVariants as shown_as
 use Rattle.dap_history.specs.Frames.{named, names_of, variables_of as variables_of_frame}
-use Rattle.dap_history.specs.Inspection.{variables as variables_reply}
+use Rattle.dap_history.specs.Inspection.{variables as variables_answer}
 use Rattle.dap_inspection.specs.Locals.{names_in, numbers_of}
 use Rattle.dap_inspection.proofs.AliveFrames.{there, by_id}
 
@@ -83,10 +83,10 @@ one_more o names k x v number word list lt is at same_number same_word read =
 pub shown : (of : Subject) (main : Block) (c : Configuration) (id i : ℕ) (names : List DeclaredName)
     (list : List Variable) → of.program ≡ main → IsAlive c id i →
     map plain_name names ≡ names_in main (frame_at c i) → list ≡ named (map plain_name names)
-    (numbers_of (frame_at c i)) → answered (body.Variables list) ≡ variables_reply of (frame_by_id c id)
+    (numbers_of (frame_at c i)) → Ok (shown_as.Variables list) ≡ variables_answer of (frame_by_id c id)
 shown of main c id i names list program alive are is =
     let f = there c i alive.within in
     let all : list ≡ variables_of_frame of.program f.0 =
     is ∙ ap (λ xs. named xs (numbers_of (frame_at c i))) are ∙ ap (λ o. named (names_in main o) (numbers_of o)) f.1
     ∙ ap (λ b. variables_of_frame b f.0) (sym program) in
-    ap (λ l. answered (body.Variables l)) all ∙ sym (ap (variables_reply of) (by_id c id i alive ∙ f.1))
+    ap (λ l. Ok (shown_as.Variables l)) all ∙ sym (ap (variables_answer of) (by_id c id i alive ∙ f.1))

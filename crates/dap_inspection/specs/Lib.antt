@@ -1,5 +1,5 @@
 -- Public contracts cite the first module.
--- what a question is asked of, and its reply
+-- what a question is asked of
 pub mod Questions
 -- Only private contracts cite the others.
 -- what is shown of one frame

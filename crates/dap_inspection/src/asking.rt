@@ -4,13 +4,13 @@ ghost use Rattle.std.specs.Prelude.{IfOk};
 ghost use Rattle.pl0_machine.specs.Machine.{frames};
 ghost use Rattle.dbg_plan.specs.Debugged.{machine_of, IsConsidered};
 ghost use Rattle.dap_history.specs.Inspection.{RepliesFrom};
-ghost use Rattle.dap_inspection.specs.Questions.{subject_of, replied};
+ghost use Rattle.dap_inspection.specs.Questions.{subject_of};
 
 use crate::evaluating::evaluate;
 use crate::frames::stack_trace;
 use crate::locals::variables;
 use crate::scope_chain::scopes;
-use dap_msg::{Body, InitializeArguments, Question, Refusal, Text};
+use dap_msg::{InitializeArguments, Question, Refusal, Shown, Text};
 use dbg_plan::Debuggee;
 use std::alloc::{AllocError, Global};
 
@@ -25,10 +25,10 @@ pub fn ask(
     path: &Text,
     settings: InitializeArguments,
     question: &Question,
-) -> Result<Result<Body, Refusal>, AllocError>
+) -> Result<Result<Shown, Refusal>, AllocError>
     requires { IsConsidered debuggee.now }
     ensures { IfOk result (λ r. RepliesFrom
-        (subject_of debuggee.now path.now settings) (frames (machine_of debuggee.now)) question.now (replied r)) }
+        (subject_of debuggee.now path.now settings) (frames (machine_of debuggee.now)) question.now r) }
 {
     match question {
         Question::StackTrace(asked) => stack_trace(alloc, debuggee, path, settings, *asked),

@@ -3,13 +3,12 @@
 ghost use Rattle.std.specs.Prelude.{◌≡◌, ◌<◌, IfOk};
 ghost use Rattle.pl0_machine.specs.Machine.{program, frames, frame_of, depth_of};
 ghost use Rattle.dbg_plan.specs.Debugged.{machine_of, debugged_program, IsConsidered};
-ghost use Rattle.dap_history.specs.Inspection.{Subject, RepliesFrom, result_reply};
+ghost use Rattle.dap_history.specs.Inspection.{Subject, RepliesFrom, result_answer};
 ghost use Rattle.dap_msg.specs.declared.question.Question.TheVariants as question;
-ghost use Rattle.dap_inspection.specs.Questions.{replied};
 ghost use Rattle.dap_inspection.specs.Evaluating.{IsReadIn};
 
 use crate::alive::frame_with_id;
-use dap_msg::{Body, EvaluateArguments, Refusal};
+use dap_msg::{EvaluateArguments, Refusal, Shown};
 use dbg_plan::{Debuggee, EvalFault};
 use pl0_machine::Machine;
 use pl0_meaning::configuration_laws;
@@ -26,10 +25,10 @@ pub(crate) fn evaluate(
     alloc: Global,
     debuggee: &Debuggee,
     asked: &EvaluateArguments,
-) -> Result<Result<Body, Refusal>, AllocError>
+) -> Result<Result<Shown, Refusal>, AllocError>
     requires { IsConsidered debuggee.now }
     ensures { (of : Subject) → of.program ≡ debugged_program debuggee.now →
-        IfOk result (λ r. RepliesFrom of (frames (machine_of debuggee.now)) (question.Evaluate asked.now) (replied r)) }
+        IfOk result (λ r. RepliesFrom of (frames (machine_of debuggee.now)) (question.Evaluate asked.now) r) }
 {
     let machine = debuggee.machine();
     let Some(frame) = frame_with_id(machine, asked.frame_id) else {
@@ -39,7 +38,7 @@ pub(crate) fn evaluate(
     let Some(expression) = read else {
         return Ok(Err(Refusal::BadExpression));
     };
-    Ok(reply_of(debuggee.evaluate(frame, &expression)))
+    Ok(answer_of(debuggee.evaluate(frame, &expression)))
 }
 
 /// Reads a text as an expression in the scope of a frame; `None` where it isn't one there.
@@ -65,12 +64,12 @@ fn read_in(
     }
 }
 
-/// Returns the reply with the result of an evaluation.
-fn reply_of(evaluated: Result<i64, EvalFault>) -> Result<Body, Refusal>
-    ensures { replied result ≡ result_reply evaluated }
+/// Returns the answer with the result of an evaluation.
+fn answer_of(evaluated: Result<i64, EvalFault>) -> Result<Shown, Refusal>
+    ensures { result ≡ result_answer evaluated }
 {
     match evaluated {
-        Ok(value) => Ok(Body::Value(value)),
+        Ok(value) => Ok(Shown::Value(value)),
         Err(EvalFault::Overflow) => Err(Refusal::Overflow),
         Err(EvalFault::DivideByZero) => Err(Refusal::DivideByZero),
     }

@@ -7,11 +7,11 @@ ghost use Rattle.dap_history.specs.Breakpoints.{offset};
 ghost use Rattle.dap_history.specs.Frames.{frames_asked};
 ghost use Rattle.dap_history.specs.Inspection.{RepliesFrom};
 ghost use Rattle.dap_msg.specs.declared.question.Question.TheVariants as question;
-ghost use Rattle.dap_inspection.specs.Questions.{subject_of, replied};
+ghost use Rattle.dap_inspection.specs.Questions.{subject_of};
 ghost use Rattle.dap_inspection.specs.Showing.{counting_of, count_shown, IsShownAs};
 
 use crate::frame_name::frame_name;
-use dap_msg::{Body, InitializeArguments, Items, Refusal, StackFrame, StackTraceArguments, Text};
+use dap_msg::{InitializeArguments, Items, Refusal, Shown, StackFrame, StackTraceArguments, Text};
 use dbg_plan::Debuggee;
 use pl0_machine::Machine;
 use pl0_unit::Unit;
@@ -28,10 +28,10 @@ pub(crate) fn stack_trace(
     path: &Text,
     settings: InitializeArguments,
     asked: StackTraceArguments,
-) -> Result<Result<Body, Refusal>, AllocError>
+) -> Result<Result<Shown, Refusal>, AllocError>
     requires { IsConsidered debuggee.now }
     ensures { IfOk result (λ r. RepliesFrom (subject_of debuggee.now path.now settings)
-        (frames (machine_of debuggee.now)) (question.StackTrace asked) (replied r)) }
+        (frames (machine_of debuggee.now)) (question.StackTrace asked) r) }
 {
     if asked.thread_id != 1 {
         return Ok(Err(Refusal::UnknownThread));
@@ -40,7 +40,7 @@ pub(crate) fn stack_trace(
     let path = Text::copied(alloc, path.as_str())?;
     let frames = Items::new(asked_frames(alloc, machine, settings, asked)?);
     let total = machine.depth() as u64;
-    Ok(Ok(Body::StackTrace {
+    Ok(Ok(Shown::StackTrace {
         path,
         frames,
         total,

@@ -7,11 +7,10 @@ ghost use Rattle.dbg_plan.specs.Debugged.{machine_of, debugged_program, IsConsid
 ghost use Rattle.dap_history.specs.Frames.{named};
 ghost use Rattle.dap_history.specs.Inspection.{Subject, RepliesFrom};
 ghost use Rattle.dap_msg.specs.declared.question.Question.TheVariants as question;
-ghost use Rattle.dap_inspection.specs.Questions.{replied};
 ghost use Rattle.dap_inspection.specs.Locals.{names_in, numbers_of};
 
 use crate::alive::frame_with_id;
-use dap_msg::{Body, Items, Refusal, Text, Variable, VariablesArguments};
+use dap_msg::{Items, Refusal, Shown, Text, Variable, VariablesArguments};
 use dbg_plan::Debuggee;
 use pl0_machine::Machine;
 use pl0_syntax::{Name, block};
@@ -27,10 +26,10 @@ pub(crate) fn variables(
     alloc: Global,
     debuggee: &Debuggee,
     asked: VariablesArguments,
-) -> Result<Result<Body, Refusal>, AllocError>
+) -> Result<Result<Shown, Refusal>, AllocError>
     requires { IsConsidered debuggee.now }
     ensures { (of : Subject) → of.program ≡ debugged_program debuggee.now →
-        IfOk result (λ r. RepliesFrom of (frames (machine_of debuggee.now)) (question.Variables asked) (replied r)) }
+        IfOk result (λ r. RepliesFrom of (frames (machine_of debuggee.now)) (question.Variables asked) r) }
 {
     let machine = debuggee.machine();
     let Some(frame) = frame_with_id(machine, asked.variables_reference) else {
@@ -38,7 +37,7 @@ pub(crate) fn variables(
     };
     let names = declared_names(machine, frame);
     let list = valued(alloc, machine, frame, names)?;
-    Ok(Ok(Body::Variables(Items::new(list))))
+    Ok(Ok(Shown::Variables(Items::new(list))))
 }
 
 /// Returns the names of a frame's variables, in the order of declaration.

@@ -6,11 +6,10 @@ ghost use Rattle.dbg_plan.specs.Debugged.{machine_of, debugged_program, IsConsid
 ghost use Rattle.dap_history.specs.Frames.{scopes_from};
 ghost use Rattle.dap_history.specs.Inspection.{Subject, RepliesFrom};
 ghost use Rattle.dap_msg.specs.declared.question.Question.TheVariants as question;
-ghost use Rattle.dap_inspection.specs.Questions.{replied};
 ghost use Rattle.dap_inspection.specs.Showing.{IsScopeOf};
 
 use crate::frame_name::frame_name;
-use dap_msg::{Body, Items, Refusal, Scope, ScopesArguments};
+use dap_msg::{Items, Refusal, Scope, ScopesArguments, Shown};
 use dbg_plan::Debuggee;
 use pl0_machine::Machine;
 use std::alloc::{AllocError, Global};
@@ -24,10 +23,10 @@ pub(crate) fn scopes(
     alloc: Global,
     debuggee: &Debuggee,
     asked: ScopesArguments,
-) -> Result<Result<Body, Refusal>, AllocError>
+) -> Result<Result<Shown, Refusal>, AllocError>
     requires { IsConsidered debuggee.now }
     ensures { (of : Subject) → of.program ≡ debugged_program debuggee.now →
-        IfOk result (λ r. RepliesFrom of (frames (machine_of debuggee.now)) (question.Scopes asked) (replied r)) }
+        IfOk result (λ r. RepliesFrom of (frames (machine_of debuggee.now)) (question.Scopes asked) r) }
 {
     let machine = debuggee.machine();
     let id = asked.frame_id as usize;
@@ -35,7 +34,7 @@ pub(crate) fn scopes(
         return Ok(Err(Refusal::UnknownFrame));
     }
     let scopes = scope_chain(alloc, machine, id - 1)?;
-    Ok(Ok(Body::Scopes(Items::new(scopes))))
+    Ok(Ok(Shown::Scopes(Items::new(scopes))))
 }
 
 /// Returns the scopes of a frame, given by its number from 0, the innermost first.

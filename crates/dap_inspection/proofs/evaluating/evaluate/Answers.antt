@@ -26,4 +26,4 @@ returns c of same =
     let at = (goal.at.returns c).In_ok-read in
     rw same (answers (program m) (frames m) c.args.asked.now.frame_id c.in-Some.frame c.args.asked.now.expression
     (alive at) c.in-Some-read.expression c.evaluate.result _ (rw c.in-Some-read.is at (reads at)) c.evaluate.ensures
-    c.reply_of.ensures)
+    c.answer_of.ensures)
