@@ -3,8 +3,8 @@
 use crate::text::repeated;
 use dap_msg::{
     Body, BreakpointAnswer, BreakpointRefusal, CommandName, EventBody, Exception, Items, Outgoing,
-    QuestionKind, Refusal, ResumeKind, Scope, StackFrame, StopReason, Supported, Text, Variable,
-    write,
+    QuestionKind, Refusal, ResumeKind, Scope, Shown, StackFrame, StopReason, Supported, Text,
+    Variable, write,
 };
 use std::alloc::Global;
 use std::process::Abort;
@@ -70,7 +70,7 @@ fn writes_small_bodies(rt: HostRuntime) {
         ),
         (
             Supported::Inspect(QuestionKind::Evaluate),
-            Body::Value(i64::MIN),
+            Body::Shown(Shown::Value(i64::MIN)),
             r#""body":{"result":"-9223372036854775808","variablesReference":0},"command":"evaluate""#,
         ),
         (Supported::Pause, Body::None, r#""command":"pause""#),
@@ -121,11 +121,11 @@ fn writes_frames(rt: HostRuntime) {
     let first = format!(in alloc; "\"body\":{{\"stackFrames\":[{frame}").expect(&rt, "memory");
     let last = "],\"totalFrames\":1024},\"command\":\"stackTrace\"";
     for count in [1, 1024] {
-        let body = Body::StackTrace {
+        let body = Body::Shown(Shown::StackTrace {
             path: text(&rt, alloc, "p.pl0"),
             frames: Items::new(frames(&rt, alloc, count)),
             total: 1024,
-        };
+        });
         let expected = repeated(
             &rt,
             alloc,
@@ -152,7 +152,7 @@ fn writes_scopes(rt: HostRuntime) {
         let name = text(&rt, alloc, name);
         scopes.push(Scope { name, reference }).expect(&rt, "memory");
     }
-    let body = Body::Scopes(Items::new(scopes));
+    let body = Body::Shown(Shown::Scopes(Items::new(scopes)));
     let expected =
         r#""body":{"scopes":[{"expensive":false,"name":"p","variablesReference":3},{"expensive":false,"name":"main","variablesReference":1}]},"command":"scopes""#;
     assert_body_written(
@@ -167,7 +167,7 @@ fn writes_scopes(rt: HostRuntime) {
 #[test]
 fn writes_variables(rt: HostRuntime) {
     let alloc = rt.alloc();
-    let none = Body::Variables(Items::new(Vec::new(alloc)));
+    let none = Body::Shown(Shown::Variables(Items::new(Vec::new(alloc))));
     let expected = r#""body":{"variables":[]},"command":"variables""#;
     assert_body_written(
         &rt,
@@ -182,7 +182,7 @@ fn writes_variables(rt: HostRuntime) {
     variables
         .push(Variable { name, value })
         .expect(&rt, "memory");
-    let body = Body::Variables(Items::new(variables));
+    let body = Body::Shown(Shown::Variables(Items::new(variables)));
     let expected =
         r#""body":{"variables":[{"name":"x","value":"9223372036854775807","variablesReference":0}]},"command":"variables""#;
     assert_body_written(
@@ -215,7 +215,7 @@ fn writes_names_of_each_kind(rt: HostRuntime) {
                 .push(Variable { name, value })
                 .expect(&rt, "memory");
         }
-        let body = Body::Variables(Items::new(variables));
+        let body = Body::Shown(Shown::Variables(Items::new(variables)));
         let expected = format!(in alloc;
             "\"body\":{{\"variables\":[{plain}{end}]}},\"command\":\"variables\""
         ).expect(&rt, "memory");
