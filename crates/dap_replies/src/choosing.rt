@@ -163,7 +163,7 @@ fn inspect(alloc: Global, phase: &Phase, question: &Question) -> Result<Reaction
         Phase::Stopped(target, debuggee) | Phase::Faulted(target, debuggee) => {
             let debuggee = debuggee.debuggee();
             match ask(alloc, debuggee, &target.path, target.settings, question)? {
-                Ok(body) => Ok(Reaction::Answer(body)),
+                Ok(shown) => Ok(Reaction::Answer(Body::Shown(shown))),
                 Err(why) => Ok(Reaction::Refuse(why)),
             }
         }
