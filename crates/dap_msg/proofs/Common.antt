@@ -3,8 +3,7 @@ pub use Rattle.dap_msg.specs.Arguments.{from_four, from_three, from_two, last_wh
 pub use Rattle.dap_msg.specs.Asked.{AsksBreakpoint, AsksInitialize, AsksLaunch, AsksSetBreakpoints, AsksThread, IsAsked, IsCalled, IsGiven, IsPrintable}
 pub use Rattle.dap_msg.specs.Commands.{command_text, name_of, name_text, other_commands, question_or, supported_command}
 pub use Rattle.dap_msg.specs.Laws.{AreWithin, ArgumentsAreMembers, EachIsRead, IsFrom, IsWellFormed, IsWithin, LineFits, LineIsWithin, MessagesAreReadBack, NamesAreReadBack, NamesItself, NumbersFit, OneReading, OthersAreNone, RequestsAreWithin, RequestsEcho, WellFormedAreRead}
-pub use Rattle.dap_msg.specs.Outgoing.{body_data, event_body, refusal_text, response_end, success_value, text_of, value_of, with_body}
-pub use Rattle.dap_msg.specs.PlainAnswers.{is_plain, is_plain_byte, joined_text, PutsItems, PutsMembers, PutsSome, PutsValue}
+pub use Rattle.dap_msg.specs.Outgoing.{body_data, event_body, event_name, refusal_text, refused_value, response_end, success_value, text_of, value_of, with_body}
 pub use Rattle.dap_msg.specs.Evaluate.{AsksEvaluate}
 pub use Rattle.dap_msg.specs.Questions.{AsksQuestion, IsQuestionCalled, SaysShown, ShownFits, shown_data}
 pub use Rattle.dap_msg.specs.Request.{command_name, command_of, fitted_or_bad, is_command_name, is_request, is_seq, IsReadAs, IsRequestFrom, least, request_of, seq_of}
@@ -12,7 +11,7 @@ pub use Rattle.dap_msg.specs.Scopes.{AsksScopes, ReferenceFits, SaysScope, scope
 pub use Rattle.dap_msg.specs.SetBreakpoints.{breakpoint, breakpoint_limit, breakpoint_of_object, breakpoint_refusal_text, last_line, only_object, read_each, set_breakpoints_arguments, some_text, source_breakpoint, source_breakpoints, source_path, text_limit}
 pub use Rattle.dap_msg.specs.StackTrace.{AsksStackTrace, FrameFits, SaysFrame, stack_frame, stack_trace_arguments, stack_trace_body}
 pub use Rattle.dap_msg.specs.Variables.{AsksVariables, SaysVariable, variable, variables_arguments, variables_body}
-pub use Rattle.dap_msg.specs.Writing.{Fits, IsContent, ItemsFit, members_tokens_of, MembersFit, tokens_of, WritesMembers, WritesValue}
+pub use Rattle.dap_msg.specs.Writing.{Fits, frame_end, IsContent, is_plain, is_plain_byte, ItemsFit, joined_text, MembersFit, numbers_text, opening, PutsItems, PutsMembers, PutsOpening, PutsValue}
 pub use Rattle.dap_msg.specs.declared.command.Command.{Command}
 pub use Rattle.dap_msg.specs.declared.outgoing.StackFrame.{StackFrame}
 pub use Rattle.dap_msg.specs.declared.outgoing.Variable.{Variable}

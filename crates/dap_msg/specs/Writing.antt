@@ -1,10 +1,11 @@
--- Defines, for private contracts, what is written of a message.
-use Rattle.std.specs.Prelude.{◌≡◌, ◌<◌, ◌^◌, ℕ, List, [], ◌∷◌, ◌++◌, IsUtf8}
-use Rattle.json.specs.Token.{Token, key}
-use Rattle.json.specs.Tree.{json_tokens}
-use Rattle.json.specs.Written.{Written}
+-- Defines, for private contracts, which texts need no escape, and what is appended of a message.
+use Rattle.std.specs.Prelude.{◌≡◌, ◌<◌, ◌^◌, ◌&&◌, ◌==◌, ℕ, nat_le, not, Bool, true, false, List, [], ◌∷◌, ◌++◌, Option, None, Some, codes, IsUtf8}
+use Rattle.std.specs.Fmt.{decimal}
+use Rattle.std.specs.List.{list_all}
 use Rattle.serde_json.specs.Data.{Data, null, boolean, number, unsigned, negative, float, string, array, object, Items, no_items, item, Members, no_members, member}
-use Rattle.serde_json.specs.Written.{outline, compact_text}
+use Rattle.serde_json.specs.View.{items_of}
+use Rattle.serde_json.specs.Written.{comma_if, compact_text, members_text}
+use Rattle.dap_msg.specs.StackTrace.{source}
 
 -- each number in the value is a whole number of 64 bits that isn't negative
 abbrev mutual
@@ -26,26 +27,56 @@ abbrev mutual
   MembersFit no_members = Unit {0}
   MembersFit (member k d ms) = Fits d × MembersFit ms
 
--- the tokens of a value
-abbrev pub tokens_of : Data → List Token
-tokens_of d = json_tokens (outline d)
+-- a byte that stands in a string as it is: no control character, no quote and no backslash
+abbrev pub is_plain_byte : ℕ → Bool
+is_plain_byte x = nat_le 32 x && (not (x == 34) && not (x == 92))
 
--- the tokens of members, without the brackets of their object
-abbrev pub members_tokens_of : Members → List Token
-members_tokens_of no_members = []
-members_tokens_of (member k d ms) = key k ∷ (tokens_of d ++ members_tokens_of ms)
+-- whether each byte of a text is one
+abbrev pub is_plain : List ℕ → Bool
+is_plain text = list_all is_plain_byte text
 
--- the tokens of the value were appended to those written before
-pub record WritesValue (d : Data) (old new : Written) : Type 0 where
-  pub before : new.before ≡ old.before
-  pub tokens : new.tokens ≡ old.tokens ++ tokens_of d
+-- the text of the value was appended
+pub record PutsValue (d : Data) (old new : List ℕ) : Type 0 where
+  pub text : new ≡ old ++ compact_text d
   pub fits : Fits d
 
--- the tokens of the members, without brackets, were appended to those written before
-pub record WritesMembers (ms : Members) (old new : Written) : Type 0 where
-  pub before : new.before ≡ old.before
-  pub tokens : new.tokens ≡ old.tokens ++ members_tokens_of ms
+-- the text of a message up to the member after its body, if it has a body
+abbrev pub opening : Option Data → List ℕ
+opening None = codes "{"
+opening (Some d) = codes "{\"body\":" ++ (compact_text d ++ codes ",")
+
+abbrev pub OpeningFits : Option Data → Type 0
+OpeningFits None = Unit {0}
+OpeningFits (Some d) = Fits d
+
+-- it was appended
+pub record PutsOpening (body : Option Data) (old new : List ℕ) : Type 0 where
+  pub text : new ≡ old ++ opening body
+  pub fits : OpeningFits body
+
+-- the text of the members was appended, with the closing bracket
+pub record PutsMembers (ms : Members) (old new : List ℕ) : Type 0 where
+  pub text : new ≡ old ++ members_text false ms
   pub fits : MembersFit ms
+
+-- the texts of values with commas between them, and with one in front where something stands before
+abbrev pub joined_text : Bool → List Data → List ℕ
+joined_text later [] = []
+joined_text later (d ∷ ds) = comma_if later ++ (compact_text d ++ joined_text true ds)
+
+-- the texts of the values were appended, with commas between them
+pub record PutsItems (ds : List Data) (old new : List ℕ) : Type 0 where
+  pub text : new ≡ old ++ joined_text false ds
+  pub fits : ItemsFit (items_of ds)
+
+-- what stands after its name in a frame whose source has this path
+abbrev pub frame_end : List ℕ → List ℕ
+frame_end path = codes "\",\"source\":" ++ (compact_text (source path) ++ codes "}")
+
+-- the numbers of an answer, after the quote of the text before them
+abbrev pub numbers_text : ℕ → ℕ → List ℕ
+numbers_text request_seq seq =
+    codes "\",\"request_seq\":" ++ (decimal request_seq ++ (codes ",\"seq\":" ++ decimal seq))
 
 -- the bytes are the value's text
 pub record IsContent (d : Data) (bytes : List ℕ) : Type 0 where

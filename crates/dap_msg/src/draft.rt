@@ -1,12 +1,15 @@
 //! A text that is put together from its parts.
 
-ghost use Rattle.std.specs.Prelude.{◌≡◌, [], ◌++◌, IfOk, OnOk, IsUtf8};
+ghost use Rattle.std.specs.Prelude.{◌≡◌, [], ◌++◌, IfOk, OnOk, IsUtf8, string_bytes};
 ghost use Rattle.std.specs.Fmt.{decimal, signed_decimal};
 ghost use Rattle.serde_json.specs.Written.{comma_if};
+ghost use Rattle.json.specs.Print.{escape, quoted};
+ghost use Rattle.dap_msg.specs.Writing.{is_plain};
 
 use arrayvec::ArrayString;
 use itoa::Buffer;
-use std::alloc::AllocError;
+use json::Writer;
+use std::alloc::{AllocError, Global};
 use std::marker::Model;
 
 /// How many bytes are put together on the stack before they are appended to the others.
@@ -15,6 +18,8 @@ const ROOM: usize = 512;
 /// A text that is put together from its parts. Contracts see it as its bytes.
 #[derive(Drop)]
 pub(crate) struct Draft {
+    /// Where further memory comes from.
+    alloc: Global,
     /// The first bytes.
     front: String,
     /// The bytes after them.
@@ -35,8 +40,10 @@ impl Draft {
         requires { room.items ≡ [] }
         ensures { result ≡ [] }
     {
+        let alloc = *room.allocator();
         match String::from_utf8(room) {
             Ok(front) => Draft {
+                alloc,
                 front,
                 back: ArrayString::new(),
             },
@@ -91,13 +98,79 @@ impl Draft {
         self.put(digits.format(number))
     }
 
+    /// Appends what stands for a text between quotes: itself, with escapes where it needs them.
+    #[inline(always)]
+    pub(crate) fn put_escaped(&mut self, text: &str) -> Result<(), AllocError>
+        ensures { OnOk result (self.new ≡ self.old ++ escape text.now) }
+    {
+        if is_plain(text) {
+            self.put(text)
+        } else {
+            self.put_escapes(text)
+        }
+    }
+
+    /// Appends what stands for a text between quotes, as the library's writer gives it.
+    #[inline(never)]
+    fn put_escapes(&mut self, text: &str) -> Result<(), AllocError>
+        ensures { OnOk result (self.new ≡ self.old ++ escape text.now) }
+    {
+        let quoted = quoted_text(self.alloc, text)?;
+        match quoted.as_str().strip_prefix('"') {
+            Some(begun) => match begun.strip_suffix('"') {
+                Some(escaped) => self.put(escaped),
+                None => unreachable!(),
+            },
+            None => unreachable!(),
+        }
+    }
+
+    /// Returns an empty text in memory of its own.
+    pub(crate) fn beside(&self) -> Draft
+        ensures { result ≡ [] }
+    {
+        Draft::new(Vec::new(self.alloc))
+    }
+
+    /// Returns the text.
+    pub(crate) fn into_text(self) -> Result<String, AllocError>
+        ensures { IfOk result (λ text. string_bytes text ≡ self) }
+    {
+        let Draft {
+            mut front,
+            back,
+            ..
+        } = self;
+        front.push_str(back.as_str())?;
+        Ok(front)
+    }
+
     /// Returns the bytes.
     pub(crate) fn finish(self) -> Result<Vec<u8>, AllocError>
         ensures bytes { IfOk result (λ bytes. bytes.items ≡ self) }
         ensures utf8 { IfOk result (λ bytes. IsUtf8 bytes.items) }
     {
-        let Draft { mut front, back } = self;
-        front.push_str(back.as_str())?;
-        Ok(front.into_bytes())
+        Ok(self.into_text()?.into_bytes())
+    }
+}
+
+/// Whether a text stands between quotes as it is: it has no control character, no quote and no backslash.
+fn is_plain(text: &str) -> bool
+    ensures { result ≡ is_plain text.now }
+{
+    text.as_bytes()
+        .iter()
+        .all(|x| 32 <= *x && *x != b'"' && *x != b'\\')
+}
+
+/// Returns a text between quotes, with escapes where it needs them, as the library's writer gives it.
+fn quoted_text(alloc: Global, text: &str) -> Result<String, AllocError>
+    ensures { IfOk result (λ found. string_bytes found ≡ quoted text.now) }
+{
+    let mut out = Writer::new(Vec::new(alloc));
+    out.string(text)?;
+    match String::from_utf8(out.into_inner()) {
+        Ok(found) => Ok(found),
+        Err(_) => unreachable!(),
     }
 }

@@ -33,10 +33,10 @@
 //! by the first `seq` that the client may use. [`write`]
 //! appends exactly the defined text of a message.
 //!
-//! Each command has a file in `src/requests` (its arguments, and the body of its answer) and one in
-//! `specs` that defines them; `Request` in `specs` says which request a content is, and `Outgoing`
+//! Each command has its arguments in `src/requests` and the body of its answer in `src/answers.rt`, both defined in one
+//! file of `specs`; `Request` in `specs` says which request a content is, and `Outgoing`
 //! what the content of a message is. A further command needs a variant of [`Supported`], of
-//! [`Command`] and of [`Body`], and such a pair of files; one that asks about the program where it stands
+//! [`Command`] and of [`Body`], and its arguments and body; one that asks about the program where it stands
 //! needs a variant of [`Question`], of [`QuestionKind`] and of [`Shown`] in place of these, and one that resumes or goes
 //! back a variant of [`ResumeKind`] or [`RetreatKind`].
 //!
@@ -45,16 +45,14 @@
 //! and what a message says in `Said`, in the protocol's words and without the other files but those of the questions.
 #![tactic(auto)]
 
+mod answers;
 mod arguments;
 mod command;
 mod draft;
-mod entries;
 mod events;
 mod items;
 mod laws;
-mod members;
 mod outgoing;
-mod plain_answers;
 mod printable;
 mod question;
 mod reading;

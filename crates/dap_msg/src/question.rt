@@ -1,10 +1,8 @@
 //! The questions about the program where it stands: `stackTrace`, `scopes`, `variables` and `evaluate`.
 
-ghost use Rattle.std.specs.Prelude.{◌≡◌, IfOk, OnOk, codes};
-ghost use Rattle.serde_json.specs.Data.{member, no_members};
+ghost use Rattle.std.specs.Prelude.{◌≡◌, IfOk};
 ghost use Rattle.serde_json.specs.View.{view};
-ghost use Rattle.dap_msg.specs.Questions.{question_text, question_kind, kind_of, question_of, shown_data};
-ghost use Rattle.dap_msg.specs.Writing.{WritesMembers};
+ghost use Rattle.dap_msg.specs.Questions.{question_text, question_kind, kind_of, question_of};
 
 use crate::items::Items;
 use crate::outgoing::{Scope, StackFrame, Variable};
@@ -13,7 +11,6 @@ use crate::requests::scopes::{self, ScopesArguments};
 use crate::requests::stack_trace::{self, StackTraceArguments};
 use crate::requests::variables::{self, VariablesArguments};
 use crate::text::Text;
-use json::Writer;
 use serde_json::Value;
 use std::alloc::{AllocError, Global};
 
@@ -123,21 +120,4 @@ pub enum Shown {
     Variables(Items<Variable>),
     /// A value: the answer to `evaluate`.
     Value(i64),
-}
-
-/// Writes the member `body` of the answer.
-pub(crate) fn write_shown(out: &mut Writer, shown: &Shown) -> Result<(), AllocError>
-    ensures { OnOk result
-        (WritesMembers (member (codes "body") (shown_data shown.now) no_members) out.old out.new) }
-{
-    match shown {
-        Shown::StackTrace {
-            path,
-            frames,
-            total,
-        } => stack_trace::write_body(out, path.as_str(), frames.as_slice(), *total),
-        Shown::Scopes(found) => scopes::write_body(out, found.as_slice()),
-        Shown::Variables(found) => variables::write_body(out, found.as_slice()),
-        Shown::Value(value) => evaluate::write_body(out, *value),
-    }
 }
