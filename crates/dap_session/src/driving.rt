@@ -88,7 +88,6 @@ fn take_all<I: Inbox, L: Loader, O: Out, D: Orders>(
 {
     let mut wanted = None;
     for _ in rt.forever() {
-        out.flush();
         let event = next_event(&wanted, inbox, loader);
         match session.take(event, out, orders) {
             Ok(Want::Event) => wanted = None,

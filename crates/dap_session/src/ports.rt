@@ -42,7 +42,7 @@ pub trait Out {
 
     ghost origin: { Self → Origin };
 
-    /// Puts a frame after those put before.
+    /// Puts a frame after those put before. It may be kept until [`put_last`](Self::put_last).
     ///
     /// # Errors
     ///
@@ -55,9 +55,17 @@ pub trait Out {
         ensures back { IfErr result (λ back. back.items ≡ frame.items) }
         ensures origin { origin self.new ≡ origin self.old };
 
-    /// Passes on what was put and is kept, before the caller waits for something else.
-    fn flush(&mut self)
-        ensures seen { seen self.new ≡ seen self.old }
+    /// Puts a frame after those put before, and passes on all that are kept, before the caller waits for something else.
+    ///
+    /// # Errors
+    ///
+    /// The frame itself, where it was refused.
+    fn put_last(&mut self, frame: Vec<u8>) -> Result<(), Vec<u8>>
+        ensures ok { OnOk result ((seen self.new).frames ≡ (seen self.old).frames ++ frame.items ∷ []) }
+        ensures ok_refused { OnOk result ((seen self.new).refused ≡ (seen self.old).refused) }
+        ensures err { OnErr result ((seen self.new).frames ≡ (seen self.old).frames) }
+        ensures err_refused { OnErr result ((seen self.new).refused ≡ (seen self.old).refused ++ frame.items ∷ []) }
+        ensures back { IfErr result (λ back. back.items ≡ frame.items) }
         ensures origin { origin self.new ≡ origin self.old };
 }
 

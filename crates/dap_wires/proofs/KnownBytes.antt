@@ -1,5 +1,5 @@
 -- Bytes that are left to read, where they are known.
-use Rattle.std.proofs.Common.{◌≡◌, ℕ, List, [], ◌++◌, Option, None, Some, sym, ◌∙◌}
+use Rattle.std.proofs.Common.{ℕ, List, [], Option, None, Some, sym, ◌∙◌}
 use Rattle.std.proofs.KnownBytes.{Consumes-nil, Consumes-kept}
 use Rattle.std.specs.Io.KnownBytes.{Keeps, Consumes}
 

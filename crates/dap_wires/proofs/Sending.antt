@@ -1,5 +1,5 @@
 -- What each sender put and what was taken, as plain data.
-use Rattle.std.proofs.Common.{◌≡◌, Bool, true, false, true≢false, append-nil, List, [], ◌∷◌, ◌++◌, refl, sym, ◌∙◌, ap, subst, inl, inr, Ok, Err, append_assoc}
+use Rattle.std.proofs.Common.{◌≡◌, true, false, true≢false, append-nil, List, [], ◌∷◌, ◌++◌, refl, sym, ◌∙◌, ap, subst, inl, inr, Ok, Err, append_assoc}
 use Rattle.std.specs.Prelude.{◌⊎◌, ◌&&◌, map, Result, OnOk, OnErr}
 use Rattle.std.specs.List.{flat_map}
 use Rattle.std.proofs.lemmas.List.{map-append}
@@ -15,6 +15,7 @@ use Rattle.dap_wires.specs.declared.arrival.Arrival.{Arrival}
 use Rattle.dap_wires.specs.declared.arrival.Arrival.TheVariants as arrival
 use Rattle.dap_wires.specs.declared.writer_message.WriterMessage.{WriterMessage}
 use Rattle.dap_wires.specs.declared.writer_message.WriterMessage.TheVariants as message
+use Rattle.dap_wires.specs.declared.bundle.Bundle.{Bundle}
 use Rattle.dap_wires.specs.declared.end_log.EndLog.{EndLog}
 use Rattle.dap_wires.specs.Delivery.{of_first, of_second, put}
 use Rattle.dap_wires.specs.Inbox.{came}
@@ -260,6 +261,15 @@ module _ {A B : Type 0} where
   finish_ends (Ok done) old new sent refused none =
       inr (subst AreEnded (sym (ap (λ v. v.put_first) sent)) (end_ends old.put_first none))
   finish_ends (Err back) old new sent refused none = inl (ap (λ v. has_end v.put_first) refused ∙ none)
+
+  -- Frames were put, or returned. The end may still put, and isn't over.
+  pub frames_keep_open : (answer : Result A B) (old new : EndLog WriterMessage) (b : Bundle)
+      → OnOk answer (new ≡ put (λ _. false) old (message.Frames b)) → OnErr answer (new ≡ old)
+      → old.first ≡ true → has_end old.put_first ≡ false → (new.first ≡ true) × (has_end new.put_first ≡ false)
+  frames_keep_open (Ok done) old new b sent refused may none =
+      (ap (λ v. v.first) sent ∙ may, ap (λ v. has_end v.put_first) sent ∙ frame_keeps_open old.put_first b none)
+  frames_keep_open (Err back) old new b sent refused may none =
+      (ap (λ v. v.first) refused ∙ may, ap (λ v. has_end v.put_first) refused ∙ none)
 
   pub finish_keeps : (answer : Result A B) (old new : EndLog WriterMessage)
       → OnOk answer (new ≡ put (λ _. false) old message.End) → OnErr answer (new ≡ old)

@@ -16,7 +16,8 @@ const BUNDLE_FRAMES: usize = 7;
 impl Bundle {
     /// Holds one frame.
     pub(crate) fn of(frame: Vec<u8>) -> Bundle
-        ensures { bundled result ≡ frame.items ∷ [] }
+        ensures frames { bundled result ≡ frame.items ∷ [] }
+        ensures bytes { result.bytes.items ≡ frame.items }
     {
         let frames = GhostList::new().and(&frame);
         Bundle {

@@ -123,6 +123,17 @@ impl<R: Wait + Drop> FrameSender<R> {
             _ => false,
         }
     }
+
+    /// Notes that a frame is refused, as the writer has left the queue.
+    fn refuse(&mut self, frame: &Vec<u8>)
+        ensures frames { (put_frames self.new).frames ≡ (put_frames self.old).frames }
+        ensures refused { (put_frames self.new).refused ≡ (put_frames self.old).refused ++ frame.now.items ∷ [] }
+        ensures queue { (frame_queue self.new ≡ frame_queue self.old)
+            × (unused_queue self.new ≡ unused_queue self.old) }
+    {
+        self.is_gone = true;
+        self.refused = self.refused.and(frame);
+    }
 }
 
 impl<R: Wait + Drop> Out for FrameSender<R> {
@@ -142,15 +153,28 @@ impl<R: Wait + Drop> Out for FrameSender<R> {
         }
         self.send_kept();
         if self.is_gone {
-            self.refused = self.refused.and(&frame);
+            self.refuse(&frame);
             return Err(frame);
         }
         self.kept = Some(Bundle::of(frame));
         Ok(())
     }
 
-    fn flush(&mut self) {
+    // The last frame goes by itself, so that it can be handed back.
+    fn put_last(&mut self, frame: Vec<u8>) -> Result<(), Vec<u8>> {
         self.send_kept();
+        if self.is_gone {
+            self.refuse(&frame);
+            return Err(frame);
+        }
+        match self.end.send(WriterMessage::Frames(Bundle::of(frame))) {
+            Ok(()) => Ok(()),
+            Err(WriterMessage::Frames(back)) => {
+                self.refuse(&back.bytes);
+                Err(back.bytes)
+            }
+            Err(WriterMessage::End) => unreachable!(),
+        }
     }
 }
 

@@ -7,9 +7,9 @@
 //! [`reconcile_orders`] bring the logs of all ends together when all threads were joined, and prove that what was received
 //! is a prefix of what was sent. Quiet reports, for which a client gets no message, cross an inbox several at once, and the
 //! session receives them one by one. At most 512 numbers and logs are on their way, unless one report has more: so a client
-//! that pauses a run gets at most these, and those of one more slice, before the stop. [`read_loop`] and [`write_loop`]
-//! stand between a queue and a source or a sink of [`byte_streams`]: the one sends what it read, and the other writes what
-//! it took. Each queue and each loop can be used without the others.
+//! gets at most these, and those of one more slice, between the answer to a pause and the stop. [`read_loop`] and
+//! [`write_loop`] stand between a queue and a source or a sink of [`byte_streams`]: the one sends what it read, and the
+//! other writes what it took. Each queue and each loop can be used without the others.
 #![tactic(auto)]
 
 mod arrival;

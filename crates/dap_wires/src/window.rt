@@ -6,9 +6,9 @@ use std::alloc::{AllocError, Global};
 use std::sync::atomic::{AtomicBool, AtomicUsize, Ordering};
 use std::sync::{Arc, Wait};
 
-/// How many outputs may be in the window. A client gets at most these before the answer to a request; and between the
-/// answer to a pause and the stop, these and those of one more slice. Two slices that print at each step have room, so that
-/// the runner works beside the session.
+/// How many outputs may be in the window. Before the answer to a request a client gets at most these, and the frames that
+/// are at the writer and in the pipe; between the answer to a pause and the stop, these and those of one more slice. Two
+/// slices that print at each step have room, so that the runner works beside the session.
 const WINDOW_LIMIT: usize = 512;
 
 /// What both ends share.

@@ -126,7 +126,9 @@ impl Out for Frames<'_> {
         }
     }
 
-    fn flush(&mut self) {}
+    fn put_last(&mut self, frame: Vec<u8>) -> Result<(), Vec<u8>> {
+        self.put(frame)
+    }
 }
 
 /// Where orders go, with room for some: to the runner. Where memory runs out, an order is refused as `Gone`.

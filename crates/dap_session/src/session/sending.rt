@@ -247,8 +247,25 @@ pub(super) fn push<D: Orders>(order: Option<Order>, orders: &mut D) -> Result<()
     }
 }
 
+/// Puts frames, up to the first that is refused, and passes on all of them.
+fn put<O: Out>(mut frames: Vec<Vec<u8>>, out: &mut O) -> Result<(), SessionFault>
+    ensures ok { OnOk result ((O.seen out.new).frames ≡ (O.seen out.old).frames ++ plain_frames frames.items) }
+    ensures ok_refused { OnOk result ((O.seen out.new).refused ≡ (O.seen out.old).refused) }
+    ensures origin { O.origin out.new ≡ O.origin out.old }
+    ensures err { IfErr result (λ fault. IsNotPut fault (plain_frames frames.items) (O.seen out.old) (O.seen out.new)) }
+{
+    let Some(last) = frames.pop() else {
+        return Ok(());
+    };
+    put_front(frames, out)?;
+    match out.put_last(last) {
+        Ok(()) => Ok(()),
+        Err(_) => Err(SessionFault::WriterGone),
+    }
+}
+
 /// Puts frames, up to the first that is refused.
-fn put<O: Out>(frames: Vec<Vec<u8>>, out: &mut O) -> Result<(), SessionFault>
+fn put_front<O: Out>(frames: Vec<Vec<u8>>, out: &mut O) -> Result<(), SessionFault>
     ensures ok { OnOk result ((O.seen out.new).frames ≡ (O.seen out.old).frames ++ plain_frames frames.items) }
     ensures ok_refused { OnOk result ((O.seen out.new).refused ≡ (O.seen out.old).refused) }
     ensures origin { O.origin out.new ≡ O.origin out.old }

@@ -8,24 +8,24 @@ loop-init g c = (refl, refl, refl, way_made c.args.session.now c.args.session.no
 pub loop-preserved-in-Ok-Event : goal.loop-preserved-in-Ok-Event
 loop-preserved-in-Ok-Event g c = (
   c.next_event-event.ensures.origin ∙ c.loop.invariant.0,
-  c.take.ensures.out ∙ c.flush.ensures.origin ∙ c.loop.invariant.1,
+  c.take.ensures.out ∙ c.loop.invariant.1,
   c.take.ensures.orders ∙ c.loop.invariant.2,
   rw c.in-Ok-Event.field-0-is at (way_goes_on c.args.session.now.stream.first c.loop.session c.take.new.self _
       c.in-Ok-Event.field-0 _ _ _ _ _ _ _
       c.loop.invariant.3 c.next_event-event.ensures.from c.next_event-event.ensures.lawful
-      (rw c.flush.ensures.seen at (c.in-Ok-Event.ensures.takes c.loop.invariant.3.open_ended))
+      (c.in-Ok-Event.ensures.takes c.loop.invariant.3.open_ended)
       (λ e. let f = c.in-Ok-Event.field-0-is in cc)),
 )
 
 pub loop-preserved : goal.loop-preserved
 loop-preserved g c = (
   c.next_event-event.ensures.origin ∙ c.loop.invariant.0,
-  c.take.ensures.out ∙ c.flush.ensures.origin ∙ c.loop.invariant.1,
+  c.take.ensures.out ∙ c.loop.invariant.1,
   c.take.ensures.orders ∙ c.loop.invariant.2,
   rw c.in-Ok-File.field-0-is at (way_goes_on c.args.session.now.stream.first c.loop.session c.take.new.self _
       c.in-Ok-File.field-0 _ _ _ _ _ _ _
       c.loop.invariant.3 c.next_event-event.ensures.from c.next_event-event.ensures.lawful
-      (rw c.flush.ensures.seen at (c.in-Ok-File.ensures.takes c.loop.invariant.3.open_ended))
+      (c.in-Ok-File.ensures.takes c.loop.invariant.3.open_ended)
       (λ e. let f = c.in-Ok-File.field-0-is in cc)),
 )
 
@@ -34,7 +34,7 @@ returns-in-Some-closed-clause-driven g c =
     (way_closes c.args.session.now.stream.first c.loop.session c.take.new.self _ c.in-Ok-Closed.field-0 _ _ _
     _ _ _ _ c.in-Some-closed.closed
     c.loop.invariant.3 c.next_event-event.ensures.from c.next_event-event.ensures.lawful
-    (rw c.flush.ensures.seen at (c.in-Ok-Closed.ensures.takes c.loop.invariant.3.open_ended))
+    (c.in-Ok-Closed.ensures.takes c.loop.invariant.3.open_ended)
     c.in-Some-closed.ensures)
 
 pub unreachable-requires : goal.unreachable-requires
@@ -49,5 +49,5 @@ returns-in-Err-clause-driven g c =
     (way_fails c.args.session.now.stream.first c.loop.session c.take.new.self _ c.in-Err.fault _ _ _ _ _ _ _
     _ c.loop.invariant.3
     c.next_event-event.ensures.from c.next_event-event.ensures.lawful
-    (rw c.flush.ensures.seen at (c.in-Err.ensures.takes c.loop.invariant.3.open_ended))
+    (c.in-Err.ensures.takes c.loop.invariant.3.open_ended)
     (record { frames_are = refl; refused_are = refl; quit = c.try_quit.ensures.quit }))

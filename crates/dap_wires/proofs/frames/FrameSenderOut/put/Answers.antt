@@ -7,7 +7,7 @@ use Rattle.dap_wires.proofs.frames.FrameSenderOut.put.Goals as goal
 pub returns-clause-ok : goal.returns-clause-ok
 returns-clause-ok g c =
     let put = (sender_log c.send_kept.new.self.end).put_first in
-    bundle_begins put c.of.result c.args.frame.items c.of.ensures
+    bundle_begins put c.of.result c.args.frame.items c.of.ensures.frames
     ∙ ap (λ l. l ++ c.args.frame.items ∷ [])
     (ap (λ k. frames_in (put ++ kept_in k)) (sym (c.send_kept.ensures.none c.if-self.false))
     ∙ ap (λ s. s.frames) c.send_kept.ensures.seen ∙ ap (λ s. s.frames) (c.add.ensures.full c.if-add.false))

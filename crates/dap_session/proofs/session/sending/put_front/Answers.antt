@@ -2,7 +2,7 @@ use Rattle.std.proofs.Common.{arith, refl, ◌∙◌, ap, sym, ◌≡◌, ◌++�
 use Rattle.std.proofs.lemmas.Grind.{common_steps}
 use Rattle.dap_session.proofs.Building.{begins_all}
 use Rattle.dap_session.specs.Building.{plain_frames}
-use Rattle.dap_session.proofs.session.sending.put.Goals as goal
+use Rattle.dap_session.proofs.session.sending.put_front.Goals as goal
 
 pub returns-then-is_err-clause-err : goal.returns-then-is_err-clause-err
 returns-then-is_err-clause-err g c = record {

@@ -1,6 +1,6 @@
 use Rattle.std.proofs.Common.{◌≡◌, ◌++◌}
 use Rattle.dap_session.specs.Building.{plain_frames}
-use Rattle.dap_session.proofs.session.sending.put.Given as goal
+use Rattle.dap_session.proofs.session.sending.put_front.Given as goal
 
 abbrev pub invariant-loop-frame : goal.invariant-loop-frame
 invariant-loop-frame g l =
