@@ -81,8 +81,8 @@ class Client:
         self.notes = None if "stderr" in settings else tempfile.TemporaryFile()
         settings.setdefault("stderr", self.notes)
         words = [command] if isinstance(command, str) else command
-        pipe = subprocess.PIPE
-        self.child = subprocess.Popen(words, cwd=folder, stdin=pipe, stdout=pipe, bufsize=0, **settings)
+        settings.setdefault("stdout", subprocess.PIPE)
+        self.child = subprocess.Popen(words, cwd=folder, stdin=subprocess.PIPE, bufsize=0, **settings)
         self.frames = Frames()
         self.wait = wait
         self.seq = 0

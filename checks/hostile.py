@@ -9,21 +9,27 @@ Each case is played to a process of its own, which is first brought into a situa
 the page has it. Then the next request follows, `threads`, and after it `disconnect`: both have to be answered, but after a
 framing fault, after a `disconnect`, and where a header says that more is to come. At last the input ends, and the process has
 to end with the status and the last line on standard error that the page names. The `seq` of all messages have to run from 1.
+
+Other clients ask one request at a time of a process whose output is full or closed, and keep its input open. The page says
+at which request the reason has to stand on standard error, and that the next one ends the process.
 Prints a line for each case that differs and one for all, and ends with status 1 where one differs.
 """
 from __future__ import annotations
 
 import os
+import resource
 import sys
 import tempfile
+import time
+from collections.abc import Callable
 from typing import NamedTuple
 
 import client
 from client import Client, frame, put_files
 from notation import said_of
 
-FRESH, READY, CONFIGURING, RUNNING, STOPPED, FAULTED, ENDED = SITUATIONS = (
-    "fresh", "ready", "configuring", "running", "stopped", "faulted", "ended",
+FRESH, READY, CONFIGURING, RUNNING, PRINTING, STOPPED, FAULTED, ENDED = SITUATIONS = (
+    "fresh", "ready", "configuring", "running", "printing", "stopped", "faulted", "ended",
 )
 # What comes after a case: the next request is answered; it is taken for a part of what was announced; the session is closed; or
 # the input ends at once. After a framing fault, it is the fault's number.
@@ -31,6 +37,7 @@ HEARD, DEAF, CLOSED, END, NO_OUTPUT = "heard", "deaf", "closed", "end", "no outp
 
 FILES = {
     "loop.pl0": b"while 1 = 1 do.",
+    "prints.pl0": b"while 1 = 1 do ! 1.",
     "stop.pl0": b"var x;\nbegin\n  x := 2;\n  ! x\nend.\n",
     "fault.pl0": b"! 1 / 0.",
     "end.pl0": b".",
@@ -43,12 +50,14 @@ FILES = {
 LAUNCHES = {
     CONFIGURING: '{"program":"stop.pl0"}',
     RUNNING: '{"program":"loop.pl0"}',
+    PRINTING: '{"program":"prints.pl0"}',
     STOPPED: '{"program":"stop.pl0","stopOnEntry":true}',
     FAULTED: '{"program":"fault.pl0"}',
     ENDED: '{"program":"end.pl0"}',
 }
 ARRIVALS = {
     RUNNING: [],
+    PRINTING: [],
     STOPPED: ["stopped entry"],
     FAULTED: ["stopped exception divideByZero"],
     ENDED: ["exited 0", "terminated"],
@@ -318,8 +327,8 @@ class Differs(Exception):
 class Play:
     """A process that is played to, and how many of its messages came."""
 
-    def __init__(self, program: str, folder: str):
-        self.adapter = Client(program, folder)
+    def __init__(self, program: str, folder: str, adapter: Callable[[str, str], Client] = Client):
+        self.adapter = adapter(program, folder)
         self.count = 0
 
     def want(self, answers: list[str]) -> None:
@@ -390,6 +399,119 @@ def difference(program: str, case: Case) -> str | None:
     return found
 
 
+# ---- Outputs that nobody takes any more, and a client that asks one request at a time
+
+CLOSED_OUTPUT, FULL_OUTPUT, NO_ROOM = "closed", "full", "full from the start"
+# How soon the reason has to stand on standard error, and the process has to end, in seconds.
+SOON = 20.0
+
+
+class Filed(Client):
+    """A process whose output is a file, which has room until it is full. Its signal for that is ignored, as a shell may do."""
+
+    def __init__(self, program: str, folder: str):
+        path = os.path.join(folder, "output")
+        with open(path, "wb") as output:
+            super().__init__(program, folder, stdout=output, restore_signals=False)
+        self.child.stdout = open(path, "rb", buffering=0)
+
+    def more(self) -> bool:
+        until = time.monotonic() + client.WAIT
+        while not (piece := os.read(self.child.stdout.fileno(), client.READ)) and time.monotonic() < until:
+            time.sleep(0.001)
+        self.frames.take(piece)
+        return piece != b""
+
+
+def without_room(program: str, folder: str) -> Client:
+    """A process whose output has no room for anything."""
+    with open("/dev/full", "wb") as output:
+        return Client(program, folder, stdout=output)
+
+
+class Mute(NamedTuple):
+    """An output that takes no more, in a situation, and how many requests it takes until the reason is told."""
+
+    situation: str
+    output: str
+    requests: int
+
+
+MUTE = [Mute(FRESH, NO_ROOM, 2)] + [
+    Mute(situation, output, requests)
+    for output in (CLOSED_OUTPUT, FULL_OUTPUT) for situation, requests in ((STOPPED, 2), (RUNNING, 2), (PRINTING, 0))]
+
+
+class Watched(Play):
+    """A process that is played to, of which is seen how many threads it has, and what stands on standard error."""
+
+    def threads(self) -> int:
+        return len(os.listdir(f"/proc/{self.adapter.child.pid}/task"))
+
+    def said(self) -> bytes:
+        return os.pread(self.adapter.notes.fileno(), 4096, 0)
+
+    def has_told(self) -> bool:
+        return self.said().endswith(b"pl0dap: write failed\n")
+
+    def has_ended(self) -> bool:
+        return self.adapter.child.poll() is not None
+
+    def fill(self, output: str) -> None:
+        """Goes on with an output that takes no more."""
+        if output == CLOSED_OUTPUT:
+            self.close_output()
+        if output == FULL_OUTPUT:
+            size = os.fstat(self.adapter.child.stdout.fileno()).st_size
+            resource.prlimit(self.adapter.child.pid, resource.RLIMIT_FSIZE, (size, size))
+
+    def put(self, piece: bytes) -> None:
+        """Writes a piece, whatever comes."""
+        os.write(self.adapter.child.stdin.fileno(), piece)
+
+    def must(self, what: str, holds: Callable[[], bool]) -> None:
+        """Waits until this holds, which must be soon."""
+        until = time.monotonic() + SOON
+        while not holds():
+            if time.monotonic() > until:
+                raise Differs(f"{what}, with {self.threads()} threads and {self.said()!r}")
+            time.sleep(0.005)
+
+
+def play_mute(play: Watched, case: Mute) -> None:
+    """Plays a case. Of the four threads the writer ends where a write fails, and the reader at its next read."""
+    play.enter(case.situation)
+    play.must("four threads must run", lambda: play.threads() == 4)
+    play.fill(case.output)
+    for seq in range(10, 10 + case.requests):
+        if play.said():
+            raise Differs(f"nothing must be told before request {seq}, and not {play.said()!r}")
+        play.put(request(seq, "threads"))
+        play.must(f"a thread must end after request {seq}", lambda: play.threads() < 4)
+    play.must(f"the reason must be told after {case.requests} requests", play.has_told)
+    if play.has_ended():
+        raise Differs("the reader must wait")
+    play.put(request(98, "threads"))
+    play.must("it must end at the request after that", play.has_ended)
+    if (status := play.adapter.child.wait()) != 1:
+        raise Differs(f"status 1 must come at the end, and not {status}")
+
+
+def mute_difference(program: str, case: Mute) -> str | None:
+    """Plays a case, and says how what comes differs from what must come, or nothing."""
+    adapter = {CLOSED_OUTPUT: Client, FULL_OUTPUT: Filed, NO_ROOM: without_room}[case.output]
+    with tempfile.TemporaryDirectory() as folder:
+        put_files(folder, FILES)
+        play, found = Watched(program, folder, adapter), None
+        try:
+            play_mute(play, case)
+        except Differs as differs:
+            found = str(differs)
+        play.adapter.child.kill()
+        play.adapter.child.wait()
+    return found
+
+
 # What a client that counts from 0 sees in place of the cases of these names.
 FROM_ZERO = {
     "a `seq` that is no number from 1 on": Case(
@@ -407,9 +529,15 @@ def differing(program: str, instead: dict[str, Case]) -> int:
             wrong += found is not None
             if found is not None:
                 print(f"{topic}, {case.name}: {found}", flush=True)
-    counts = ", ".join(f"{len(cases)} of {topic}" for topic, cases in CASES.items())
+    for case in MUTE:
+        found = mute_difference(program, case)
+        wrong += found is not None
+        if found is not None:
+            print(f"outputs, {case.output}, {case.situation}: {found}", flush=True)
+    sizes = {topic: len(cases) for topic, cases in CASES.items()} | {"outputs": len(MUTE)}
+    counts = ", ".join(f"{size} of {topic}" for topic, size in sizes.items())
     name = os.path.basename(program)
-    print(f"{name}, {sum(map(len, CASES.values()))} hostile cases ({counts}): {wrong} differ from docs/PROTOCOL.md", flush=True)
+    print(f"{name}, {sum(sizes.values())} hostile cases ({counts}): {wrong} differ from docs/PROTOCOL.md", flush=True)
     return wrong
 
 
