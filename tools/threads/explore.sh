@@ -36,9 +36,11 @@ runs() {
     echo "numbers|none|threads|-DMOST=0 -DNUMBERS=3|$(safe)"
     echo "silent|none|threads|-DKEPT=0 -DCLOSES -DSILENT|$(safe) -E"
     echo "stalls|none|threads|-DKEPT=0 -DSTALLS|$(safe) -E"
+    echo "unheard|none|threads|-DKEPT=0 -DUNHEARD|$(safe) -E"
     echo "bound|none|threads|-DINBOX=2 -DKEPT=0 -DNO_WRITER -DBOUND|$(safe)"
     echo "pause|none|threads|-DKEPT=0 -DNO_WRITER -DCLOSES -DFAIR=1|$(live pause)"
     echo "quits|none|threads|-DKEPT=0 -DNO_WRITER -DCLOSES|$(live quits)"
+    echo "fails|none|threads|-DKEPT=0 -DNO_WRITER -DCLOSES|$(live fails)"
     echo "ends|none|threads|-DKEPT=0 -DNO_WRITER -DCLOSES -DFAIR=1|$(live ends)"
     echo "channel|none|channel||$(safe)"
     echo "channel-of-2|none|channel|-DCAP=2|$(safe)"
@@ -46,6 +48,7 @@ runs() {
     echo "parker|none|parker||$(safe) -E"
     # What doesn't hold without an assumption.
     echo "stalls-hangs|assertion violated served|threads|-DKEPT=0 -DSTALLS -DHANGS|$(safe)"
+    echo "unheard-hangs|assertion violated served|threads|-DKEPT=0 -DUNHEARD -DHANGS|$(safe)"
     echo "pause-unfair|acceptance cycle|threads|-DKEPT=0 -DNO_WRITER -DCLOSES|$(live pause)"
     echo "ends-unfair|acceptance cycle|threads|-DKEPT=0 -DNO_WRITER -DCLOSES|$(live ends)"
     # Broken on purpose: the orders.
@@ -57,8 +60,10 @@ runs() {
     # The inbox and the outbox.
     echo "keeps-at-end|assertion violated|threads|-DKEEPS_AT_END|$(safe)"
     echo "no-wake-at-leave|assertion violated served|threads|-DNO_WAKE_AT_LEAVE|$(safe)"
-    echo "no-flush|(keeps)|threads|-DKEPT=0 -DCLOSES -DSILENT -DNO_FLUSH|$(safe) -E"
-    echo "no-last-flush|(keeps)|threads|-DNO_LAST_FLUSH|$(safe)"
+    echo "keeps-last|(keeps)|threads|-DKEEPS_LAST|$(safe)"
+    echo "ignores-refusal|(is_gone)|threads|-DIGNORES_REFUSAL|$(safe)"
+    echo "writer-stays|assertion violated served|threads|-DWRITER_STAYS|$(safe)"
+    echo "reads-on|(handed_back)|threads|-DREADS_ON|$(safe)"
     echo "no-mark|assertion violated served|threads|-DNO_MARK|$(safe)"
     # The window.
     echo "no-window|(late<=|threads|-DINBOX=2 -DKEPT=0 -DNO_WRITER -DBOUND -DNO_WINDOW|$(safe)"
@@ -68,6 +73,10 @@ runs() {
     echo "lets-out-late|Runner._p==outside|threads|-DKEPT=0 -DCLOSES -DSILENT -DLETS_OUT_LATE|$(safe) -E"
     echo "not-opened|assertion violated served|threads|-DNO_OPEN|$(safe)"
     echo "opens-late|assertion violated served|threads|-DOPENS_LATE|$(safe)"
+    # Its end.
+    echo "gives-up-no-quit|assertion violated served|threads|-DGIVES_UP_NO_QUIT|$(safe)"
+    echo "gives-up-no-mark|assertion violated served|threads|-DGIVES_UP_NO_MARK|$(safe)"
+    echo "tells-late|told|threads|-DKEPT=0 -DCLOSES -DSILENT -DTELLS_LATE|$(safe) -E"
     # The kit's queue and parker.
     echo "channel-not-counted|invalid end state|channel|-DNOT_COUNTED|$(safe)"
     echo "channel-no-compare|invalid end state|channel|-DNO_COMPARE|$(safe)"

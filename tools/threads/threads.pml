@@ -71,7 +71,8 @@ byte inside;            /* @ dap_wires/src/window.rt: Window */
 bool is_open;
 
 bool keeps;             /* frames are kept: @ dap_wires/src/frame_ends.rt: FrameSender */
-bool is_gone;           /* the writer was seen to have left the outbox, in the same place */
+bool is_gone;           /* a frame was refused, in the same place: the session knows that the writer is gone */
+bool unheard;           /* standard error is a full pipe, which nobody reads */
 
 bool session_left, writer_left;                 /* the receiver's end of the inbox, of the outbox, is gone */
 bool session_over, runner_over, reader_over;    /* the thread's work is done */
@@ -84,11 +85,14 @@ bool failed;            /* a write failed */
 byte runs_open;         /* runs that were ordered, and whose last report the session hasn't taken */
 byte reports_open;      /* reports that were sent, so put or kept, and that the session hasn't taken */
 byte unwritten;         /* bundles that are in the outbox or in a write */
+bool handed_back;       /* the reader's last event was returned to it */
+bool told;              /* the reason was written */
 
 /* ---- Clients. If none is defined, the client may send a piece at any time, ends its input at some time, and reads, or
  * goes away: that is in Reader and Writer. Other clients:
  *   CLOSES: it may also be silent for ever, with its input open, and it closes its input at some time or never;
- *   STALLS: it stops reading at some time, and then reads again, or closes its end of the output, or neither.
+ *   STALLS: it stops reading at some time, and then reads again, or closes its end of the output, or neither;
+ *   UNHEARD: standard error is a full pipe, which somebody reads at some time or never.
  * With NO_WRITER the outbox and the writer are left out: each bundle finds room, or the writer gone.
  */
 #if defined(CLOSES)
@@ -109,6 +113,14 @@ proctype Client() {
     :: true
     fi
 }
+#elif defined(UNHEARD)
+proctype Client() {
+    unheard = true;
+    if
+    :: unheard = false
+    :: true
+    fi
+}
 #endif
 
 /* ---- The inbox. Two threads send, and nothing says who comes first where both wait for room. With FAIR, an end that
@@ -116,6 +128,7 @@ proctype Client() {
  */
 #define READER 0
 #define RUNNER 1
+bool slipped[2];        /* a message of this sender went in after the session had left */
 #ifdef FAIR
 bool wants[2];
 byte overtaken[2];
@@ -131,14 +144,14 @@ byte overtaken[2];
 #endif
 
 /* @ dap_wires/src/channels.rt: SendEnd::send
- * A message may still go in after the session has left, since the sender looked before; nobody reads it. It waits where
- * there is no room and the session is there.
+ * One message of each sender may still go in after the session has left, since the sender looked before; nobody reads it.
+ * It waits where there is no room and the session is there.
  */
 inline send(me, what, number, count, outputs, ok) {
     want(me);
     if
     :: !session_left && may_put(me) -> inbox!what(number, count, outputs); did_put(me); ok = true
-    :: session_left && may_put(me) -> inbox!NONE(0, 0, 0); did_put(me); ok = true
+    :: session_left && may_put(me) && !slipped[me] -> slipped[me] = true; inbox!NONE(0, 0, 0); did_put(me); ok = true
 #ifndef NO_WAKE_AT_LEAVE
     :: session_left -> want_no_more(me); ok = false
 #endif
@@ -150,25 +163,38 @@ inline park(token) {
     atomic { token -> token = false }
 }
 
+#ifdef READS_ON
+#define goes_on(ok)     ok = false
+#else
+#define goes_on(ok)     if :: !ok -> break :: ok -> ok = false fi
+#endif
+#define reads(what)     assert(!handed_back); send(READER, what, 0, 0, 0, ok); handed_back = !ok
+
 /* ---- The reader.
  * @ dap_wires/src/reading.rt: read_loop
  * @ dap_wires/src/transfer.rt: read_event
  * @ dap_wires/src/events.rt: ClientSender::send
- * END is the end of the input, a failed read, or no memory.
+ * END is the end of the input, a failed read, or no memory. After an event was handed back it reads no more.
  */
 proctype Reader() {
     bool ok;
     do
 #ifdef CLOSES
-    :: atomic { !input_closed -> send(READER, PIECE, 0, 0, 0, ok); if :: !ok -> break :: ok -> ok = false fi }
-    :: true -> atomic { input_closed -> send(READER, END, 0, 0, 0, ok); break }
+    :: atomic { !input_closed -> reads(PIECE); goes_on(ok) }
+    :: true -> atomic { input_closed -> reads(END); break }
 #else
-    :: atomic { send(READER, PIECE, 0, 0, 0, ok); if :: !ok -> break :: ok -> ok = false fi }
-    :: atomic { send(READER, END, 0, 0, 0, ok); break }
+    :: atomic { reads(PIECE); goes_on(ok) }
+    :: atomic { reads(END); break }
 #endif
     od;
-    atomic { ok = false; reader_over = true }
+    atomic { ok = false; handed_back = false; reader_over = true }
 }
+
+#ifdef WRITER_STAYS
+#define leaves_outbox() skip
+#else
+#define leaves_outbox() writer_left = true
+#endif
 
 /* ---- The writer.
  * @ dap_wires/src/writing.rt: write_loop
@@ -182,10 +208,10 @@ proctype Writer() {
 writes: if
 #ifdef STALLS
         :: atomic { !stalled -> unwritten-- }
-        :: atomic { went_away -> failed = true; writer_left = true; break }
+        :: atomic { went_away -> failed = true; leaves_outbox(); break }
 #else
         :: unwritten--
-        :: atomic { failed = true; writer_left = true; break }
+        :: atomic { failed = true; leaves_outbox(); break }
 #endif
         fi
     :: atomic { outbox?MARK -> writer_left = true; break }
@@ -430,17 +456,18 @@ inline push() {
 
 /* @ dap_wires/src/frames.rt: FrameSender::send_kept
  * @ dap_wires/src/bundle.rt: Bundle
- * It waits while the outbox is full and the writer is there. Where the writer has left, the frames stay.
+ * Where this has to be done, it waits while the outbox is full and the writer is there. Where the writer has left, the
+ * frames stay. A send looks for that first: one that looked before put its message before, too, since nobody takes it.
  */
-inline send_kept() {
+inline send_kept(has_to) {
     if
-    :: !keeps
+    :: !(has_to) || !keeps || is_gone
 #ifdef NO_WRITER
-    :: keeps && !is_gone -> keeps = false
-    :: keeps -> is_gone = true; failed = true
+    :: has_to && keeps && !is_gone -> keeps = false
+    :: has_to && keeps && !is_gone -> is_gone = true; failed = true
 #else
-    :: keeps && nfull(outbox) -> outbox!FRAMES; unwritten++; keeps = false
-    :: keeps && writer_left -> is_gone = true
+    :: has_to && keeps && !is_gone && !writer_left && nfull(outbox) -> outbox!FRAMES; unwritten++; keeps = false
+    :: has_to && keeps && !is_gone && writer_left -> is_gone = true
 #endif
     fi
 }
@@ -487,12 +514,10 @@ inline leave() {
 }
 
 /* @ dap_wires/src/frames.rt: FrameSender::finish, FrameSender::end
- * No mark is put where the writer was seen to have left.
+ * No mark is put where a frame was refused.
  */
 inline finish() {
-#ifndef NO_LAST_FLUSH
-    atomic { send_kept() }
-#endif
+    atomic { send_kept(true) }
     if
 #ifdef NO_WRITER
     :: writer_left = true
@@ -500,9 +525,9 @@ inline finish() {
     :: is_gone
 #ifdef NO_MARK
     :: over
-    :: !over && !is_gone && nfull(outbox) -> outbox!MARK
+    :: !over && !is_gone && !writer_left && nfull(outbox) -> outbox!MARK
 #else
-    :: !is_gone && nfull(outbox) -> outbox!MARK
+    :: !is_gone && !writer_left && nfull(outbox) -> outbox!MARK
 #endif
     :: !is_gone && writer_left
 #endif
@@ -519,22 +544,18 @@ proctype Session(bool started) {
     bool backward, held, closes, over;
     if
     :: !started ->      /* give_up: a thread couldn't be started */
-        finish(); order = QUIT; push(); leave();
+#ifndef GIVES_UP_NO_MARK
+        finish();
+#endif
+#ifndef GIVES_UP_NO_QUIT
+        order = QUIT; push();
+#endif
+        leave();
         goto joins
     :: started
     fi;
 
-    /* drive: Out::flush, so that nothing is kept while the session waits */
-flushes:
-    atomic {
-#ifndef NO_FLUSH
-        send_kept();
-#endif
-        if
-        :: phase != RUNNING -> pauses = false
-        :: else
-        fi
-    }
+waits:
     /* @ dap_wires/src/events.rt: EventReceiver::next */
 #ifdef LETS_OUT_LATE
     inbox?[_, _, _, _];
@@ -569,35 +590,55 @@ decided:
     }
 pushes:
     if :: true -> push() fi;
-    /* @ dap_wires/src/frames.rt: FrameSender::put, FrameSender::add
+    /* @ dap_wires/src/frames.rt: FrameSender::put, FrameSender::put_last, FrameSender::add
      * @ dap_wires/src/bundling.rt: Bundle::add, Bundle::of, BUNDLE_LIMIT, BUNDLE_FRAMES
      * A frame goes to those that are kept, where there is room, and memory, for it, and the writer wasn't found gone. Else
-     * these are sent first.
+     * these are sent first. The last frame is sent by itself.
      */
 puts:
     do
     :: atomic { frames == 0 -> goto sent }
-    :: atomic { frames > 0 && keeps && !is_gone -> frames-- }
+    :: atomic { frames > 1 && keeps && !is_gone -> frames-- }
     :: atomic {
         frames > 0;
 puts_kept:
-        send_kept();
+        send_kept(true);
         if
-        :: is_gone -> frames = 0; over = true; goto tries
-        :: !is_gone -> keeps = true; frames--
+        :: is_gone -> goto refused
+        :: !is_gone -> keeps = true
+        fi;
+puts_last:
+#ifndef KEEPS_LAST
+        send_kept(frames == 1);
+#endif
+        if
+        :: is_gone -> goto refused
+        :: !is_gone -> frames--
         fi
     }
     od;
+refused:
+#ifdef IGNORES_REFUSAL
+    atomic { frames = 0; goto sent };
+#else
+    atomic { frames = 0; over = true; goto tries };
+#endif
+    /* While it waits nothing is kept, and it doesn't wait where it knows that the writer is gone. */
 sent:
     atomic {
+        assert(!keeps && !is_gone);
         if
         :: requests > 0 && !closes -> requests--; take_request(); goto decided
         :: requests = 0
         fi;
         if
+        :: phase != RUNNING -> pauses = false
+        :: else
+        fi;
+        if
         :: closes -> goto leaves
-        :: !closes && !keeps && in_hand == 0 && (phase == RUNNING || !pauses) -> goto receives
-        :: !closes && (keeps || in_hand > 0 || (phase != RUNNING && pauses)) -> goto flushes
+        :: !closes && in_hand == 0 -> goto receives
+        :: !closes && in_hand > 0 -> goto waits
         fi
     }
     /* drive: try_quit */
@@ -616,6 +657,16 @@ finishes:
     finish();
 joins:
     atomic { closes = false; over = false; session_over = true }
+    writer_left;
+#ifdef TELLS_LATE
+    runner_over && reader_over;
+#endif
+    /* @ adapter/src/telling.rt: Telling::see
+     * @ adapter/src/reporting.rt: report
+     * The reason goes to standard error before the others are joined. Such a write waits while nobody reads that.
+     */
+tells:
+    atomic { !unheard -> told = true }
     writer_left && runner_over && reader_over;
     served = true
 }
@@ -625,23 +676,31 @@ proctype Judge() {
     timeout;
 #if defined(SILENT)
     /* The client says no more, and may keep its input open: all was written that the session had to say, no run is
-     * under way, the runner doesn't wait for room in the window, and a session that is over has only the reader to join.
+     * under way, the runner doesn't wait for room in the window, and a session that is over has told its reason, and has
+     * only the reader to join.
      */
     assert(failed || (!keeps && unwritten == 0));
     assert(!Runner@outside);
     assert(runner_over || runs_open == 0);
-    assert(!session_over || (writer_left && runner_over));
+    assert(!session_over || (writer_left && runner_over && told));
 #else
 #if defined(STALLS) && !defined(HANGS)
     if
     :: !served ->
         assert(stalled && Writer@writes);
-        assert(Session@flushes || Session@puts_kept || session_left);
+        assert(Session@puts_kept || Session@puts_last || session_left);
         goto judged
     :: served
     fi;
 #endif
+#if defined(UNHEARD) && !defined(HANGS)
+    if
+    :: !served -> assert(unheard && Session@tells && writer_left && runner_over && reader_over)
+    :: served
+    fi;
+#else
     assert(served);
+#endif
     assert(failed || (!keeps && unwritten == 0));
     assert(quitting && runs_open <= 1);
 judged:
@@ -655,7 +714,7 @@ judged:
  */
 init {
     atomic {
-#if defined(CLOSES) || defined(STALLS)
+#if defined(CLOSES) || defined(STALLS) || defined(UNHEARD)
         run Client();
 #endif
         if
@@ -679,4 +738,5 @@ init {
 ltl pause { [] (pauses -> <> !pauses) }         /* a stop, or the end of the run or of the session */
 ltl quits { [] (quitting -> <> (session_over && runner_over && writer_left)) }
 ltl ends  { [] (input_closed -> <> served) }
+ltl fails { [] (is_gone -> <> session_over) }
 #endif
