@@ -65,7 +65,8 @@ impl<R: Files + Wait + Clock> Loader for FileLoader<'_, R> {
     }
 }
 
-/// Opens a regular file. It looks at the kind of the file first, since opening a named pipe waits for whoever writes to it.
+/// Opens a regular file. It looks at the kind of the file first, since opening a named pipe waits for whoever writes to it:
+/// so does one that takes the file's place in between.
 ///
 /// # Errors
 ///
