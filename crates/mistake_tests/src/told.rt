@@ -6,6 +6,7 @@ use pl0_syntax::parse;
 use pl0_tree::{Place, SyntaxFault};
 use std::alloc::{AllocError, Global};
 use std::process::Abort;
+use std::str;
 use std::test::Fail;
 
 /// A text, and what is told of it in a file `a.pl0`.
@@ -79,7 +80,7 @@ const MISTAKES: [(&str, &str); 18] = [
 ];
 
 /// What is said beside a token that can't stand where it does, and where nothing is.
-const HINTS: [(&str, &str); 57] = [
+const HINTS: [(&str, &str); 65] = [
     (
         "begin ! (1) x := 2 end.",
         "a.pl0:1:13: error: `x` can't stand here; perhaps a `;` is missing before it\n",
@@ -121,7 +122,7 @@ const HINTS: [(&str, &str); 57] = [
     ("var x y; .", "a.pl0:1:7: error: `y` can't stand here\n"),
     (
         "begin ! 3 mod 2 end.",
-        "a.pl0:1:11: error: `mod` can't stand here\n",
+        "a.pl0:1:11: error: `mod` can't stand here; PL/0 has no keyword `mod`\n",
     ),
     (
         "begin ! 1.",
@@ -187,7 +188,7 @@ const HINTS: [(&str, &str); 57] = [
     ),
     (
         "var x; ! x = 1.",
-        "a.pl0:1:12: error: `=` can't stand here\n",
+        "a.pl0:1:12: error: `=` can't stand here; only `if` and `while` compare\n",
     ),
     (
         "var x; if odd x = 1 then.",
@@ -205,7 +206,10 @@ const HINTS: [(&str, &str); 57] = [
         "if (1 < 2) then.",
         "a.pl0:1:7: error: `<` can't stand here; no comparison stands in parentheses\n",
     ),
-    ("! (1 < 2).", "a.pl0:1:6: error: `<` can't stand here\n"),
+    (
+        "! (1 < 2).",
+        "a.pl0:1:6: error: `<` can't stand here; only `if` and `while` compare\n",
+    ),
     (
         "procedure p(); .",
         "a.pl0:1:12: error: `(` can't stand here; procedures have no parameters\n",
@@ -235,7 +239,42 @@ const HINTS: [(&str, &str); 57] = [
         "# one\n.",
         "a.pl0:1:1: error: `#` can't stand here; PL/0 has no comments\n",
     ),
-    ("! 1 # 2.", "a.pl0:1:5: error: `#` can't stand here\n"),
+    (
+        "! 1 # 2.",
+        "a.pl0:1:5: error: `#` can't stand here; only `if` and `while` compare\n",
+    ),
+    (
+        "begin if 1 = 1 and 2 = 2 then end.",
+        "a.pl0:1:16: error: `and` can't stand here; PL/0 has no keyword `and`\n",
+    ),
+    (
+        "begin write(1) end.",
+        "a.pl0:1:12: error: `(` can't stand here; `!` writes a number\n",
+    ),
+    (
+        "begin print 1 end.",
+        "a.pl0:1:13: error: `1` can't stand here; `!` writes a number\n",
+    ),
+    (
+        "var x; read x.",
+        "a.pl0:1:13: error: `x` can't stand here; a program reads no input\n",
+    ),
+    (
+        "var x; const c = 1; .",
+        "a.pl0:1:8: error: `const` can't stand here; constants are declared first in a block\n",
+    ),
+    (
+        "const c = -1; .",
+        "a.pl0:1:11: error: `-` can't stand here; a constant is a number without a sign\n",
+    ),
+    (
+        "! 1 * -2.",
+        "a.pl0:1:7: error: `-` can't stand here; a sign stands only where an expression begins\n",
+    ),
+    (
+        "var x; x := 1 < 2.",
+        "a.pl0:1:15: error: `<` can't stand here; only `if` and `while` compare\n",
+    ),
     (
         "{ one } .",
         "a.pl0:1:1: error: no word, number or sign begins with this character; PL/0 has no comments\n",
@@ -299,7 +338,7 @@ fn told(alloc: Global, text: &[u8]) -> Result<Vec<u8>, AllocError> {
 /// Asserts that this line is told of a text.
 fn assert_told(rt: &impl Abort, alloc: Global, text: &str, line: &str) -> Result<(), Fail> {
     let told = told(alloc, text.as_bytes())?;
-    assert_eq!(rt; told.as_slice(), line.as_bytes(), "{text}");
+    assert_eq!(rt; str::from_utf8(told.as_slice()), Ok(line), "{text}");
     Ok(())
 }
 
@@ -310,7 +349,7 @@ fn assert_fault(rt: &impl Abort, alloc: Global, fault: RunFault, line: &str) -> 
         column: 12,
     };
     let told = fault_line(alloc, "gcd.pl0", fault, place)?;
-    assert_eq!(rt; told.as_slice(), line.as_bytes());
+    assert_eq!(rt; str::from_utf8(told.as_slice()), Ok(line));
     Ok(())
 }
 
@@ -333,8 +372,9 @@ fn hints(rt: HostRuntime) -> Result<(), Fail> {
 #[test]
 fn a_long_text(rt: HostRuntime) -> Result<(), Fail> {
     let text = vec![in rt.alloc(); b' '; 65537]?;
-    let line = b"a.pl0:1:1: error: the text has more than 65,536 bytes\n".as_slice();
-    assert_eq!(rt; told(rt.alloc(), text.as_slice())?.as_slice(), line);
+    let line = "a.pl0:1:1: error: the text has more than 65,536 bytes\n";
+    let told = told(rt.alloc(), text.as_slice())?;
+    assert_eq!(rt; str::from_utf8(told.as_slice()), Ok(line));
     Ok(())
 }
 

@@ -137,7 +137,46 @@ lacks_semicolon s = begins_part s && ends_part s
 abbrev pub lacks_call : Scene → Bool
 lacks_call s = is_target s && one_of s.found (codes ";" ∷ codes "end" ∷ codes "." ∷ [])
 
--- The table, in three parts. The last part is what is missing, and what a `.` and a `;` mean.
+-- a word that other languages have in this place
+abbrev pub is_foreign : List ℕ → Bool
+is_foreign token =
+    one_of token (codes "and" ∷ codes "or" ∷ codes "not" ∷ codes "mod" ∷ codes "else" ∷ codes "until" ∷ [])
+
+-- a statement by which other languages write, or read
+abbrev pub is_writing : Scene → Bool
+is_writing s = is_target s && one_of s.before (codes "write" ∷ codes "writeln" ∷ codes "print" ∷ [])
+
+abbrev pub is_reading : Scene → Bool
+is_reading s = is_target s && one_of s.before (codes "read" ∷ codes "readln" ∷ codes "input" ∷ [])
+
+abbrev pub is_sign : List ℕ → Bool
+is_sign token = one_of token (codes "+" ∷ codes "-" ∷ [])
+
+-- the value of a constant has a sign
+abbrev pub is_signed : Scene → Bool
+is_signed s = is_sign s.found && (bytes_eq s.opener (codes "const") && bytes_eq s.before (codes "="))
+
+-- a sign stands behind an operator
+abbrev pub is_inner_sign : Scene → Bool
+is_inner_sign s = is_sign s.found && one_of s.before (codes "+" ∷ codes "-" ∷ codes "*" ∷ codes "/" ∷ [])
+
+-- a comparison in an expression that is assigned or written
+abbrev pub is_compared : Scene → Bool
+is_compared s = is_comparison s.found && one_of s.opener (codes ":=" ∷ codes "!" ∷ [])
+
+-- The table, in four parts. The last part is what stands elsewhere in PL/0, or nowhere.
+abbrev pub other_hint : Scene → List ℕ
+other_hint s =
+    if is_foreign s.found then codes "; PL/0 has no keyword " ++ quoted s.found []
+    else (if is_writing s then codes "; `!` writes a number"
+    else (if is_reading s then codes "; a program reads no input"
+    else (if bytes_eq s.found (codes "const") then codes "; constants are declared first in a block"
+    else (if is_signed s then codes "; a constant is a number without a sign"
+    else (if is_inner_sign s then codes "; a sign stands only where an expression begins"
+    else (if is_compared s then codes "; only `if` and `while` compare"
+    else []))))))
+
+-- the third part: what is missing, and what a `.` and a `;` mean
 abbrev pub missing_hint : Scene → List ℕ
 missing_hint s =
     if has_fraction s then codes "; all numbers are whole"
@@ -145,9 +184,9 @@ missing_hint s =
     else (if lacks_end s then codes "; perhaps an `end` is missing before it"
     else (if lacks_semicolon s then codes "; perhaps a `;` is missing before it"
     else (if lacks_call s then codes "; perhaps `call` is missing before " ++ quoted s.before []
-    else []))))
+    else other_hint s))))
 
--- the middle part: a keyword in another case, before the place or there
+-- the second part: a keyword in another case, before the place or there
 abbrev pub meant : List ℕ → List ℕ
 meant keyword = codes "; perhaps " ++ quoted keyword (codes " is meant: keywords are in lower case")
 

@@ -2,7 +2,7 @@
 
 ghost use Rattle.std.specs.Prelude.{◌≡◌, ◌++◌, OnOk};
 ghost use Rattle.pl0_mistakes.specs.Scenes.{plain};
-ghost use Rattle.pl0_mistakes.specs.Hints.{is_number, is_name, keyword_meant, meant, is_comparison, opens_statement, is_target, may_end, ends_statement, in_condition, begins_statement, at_opening, is_comment, is_unequal, is_doubled, is_confused, has_value, has_becomes, is_enclosed, has_parameters, has_fraction, is_final, lacks_end, ends_part, begins_part, lacks_semicolon, lacks_call, missing_hint, case_hint, hint};
+ghost use Rattle.pl0_mistakes.specs.Hints.{is_number, is_name, keyword_meant, meant, is_comparison, opens_statement, is_target, may_end, ends_statement, in_condition, begins_statement, at_opening, is_comment, is_unequal, is_doubled, is_confused, has_value, has_becomes, is_enclosed, has_parameters, has_fraction, is_final, lacks_end, ends_part, begins_part, lacks_semicolon, lacks_call, is_foreign, is_writing, is_reading, is_sign, is_signed, is_inner_sign, is_compared, other_hint, missing_hint, case_hint, hint};
 
 use crate::cases::keyword_meant;
 use crate::scene::{Scene, is, is_keyword};
@@ -64,7 +64,7 @@ fn write_keyword(line: &mut Vec<u8>, keyword: &str) -> Result<(), AllocError>
     )
 }
 
-/// Appends what is missing before the token, or why nothing can follow; nothing where neither is known.
+/// Appends what is missing before the token, or why nothing can follow; another hint where neither is known.
 fn write_missing_hint(line: &mut Vec<u8>, scene: Scene<'_>) -> Result<(), AllocError>
     ensures { OnOk result (line.new.items ≡ line.old.items ++ missing_hint (plain scene.entry)) }
 {
@@ -84,8 +84,87 @@ fn write_missing_hint(line: &mut Vec<u8>, scene: Scene<'_>) -> Result<(), AllocE
             "",
         )
     } else {
+        write_other_hint(line, scene)
+    }
+}
+
+/// Appends where in PL/0 the token stands, or what it has in its place; nothing where neither is known.
+fn write_other_hint(line: &mut Vec<u8>, scene: Scene<'_>) -> Result<(), AllocError>
+    ensures { OnOk result (line.new.items ≡ line.old.items ++ other_hint (plain scene.entry)) }
+{
+    if is_foreign(scene.found) {
+        write_around(line, "; PL/0 has no keyword ", scene.found, "")
+    } else if is_writing(scene) {
+        write(line, "; `!` writes a number")
+    } else if is_reading(scene) {
+        write(line, "; a program reads no input")
+    } else if is(scene.found, "const") {
+        write(line, "; constants are declared first in a block")
+    } else if is_signed(scene) {
+        write(line, "; a constant is a number without a sign")
+    } else if is_inner_sign(scene) {
+        write(line, "; a sign stands only where an expression begins")
+    } else if is_compared(scene) {
+        write(line, "; only `if` and `while` compare")
+    } else {
         Ok(())
     }
+}
+
+/// Whether a word is one that other languages have in this place.
+fn is_foreign(token: &[u8]) -> bool
+    ensures { result ≡ is_foreign token.now }
+{
+    is(token, "and")
+        || is(token, "or")
+        || is(token, "not")
+        || is(token, "mod")
+        || is(token, "else")
+        || is(token, "until")
+}
+
+/// Whether there is a statement by which other languages write.
+fn is_writing(scene: Scene<'_>) -> bool
+    ensures { result ≡ is_writing (plain scene.entry) }
+{
+    is_target(scene)
+        && (is(scene.before, "write") || is(scene.before, "writeln") || is(scene.before, "print"))
+}
+
+/// Whether there is a statement by which other languages read.
+fn is_reading(scene: Scene<'_>) -> bool
+    ensures { result ≡ is_reading (plain scene.entry) }
+{
+    is_target(scene)
+        && (is(scene.before, "read") || is(scene.before, "readln") || is(scene.before, "input"))
+}
+
+/// Whether a token is a sign of a number.
+fn is_sign(token: &[u8]) -> bool
+    ensures { result ≡ is_sign token.now }
+{
+    is(token, "+") || is(token, "-")
+}
+
+/// Whether the value of a constant has a sign.
+fn is_signed(scene: Scene<'_>) -> bool
+    ensures { result ≡ is_signed (plain scene.entry) }
+{
+    is_sign(scene.found) && is(scene.opener, "const") && is(scene.before, "=")
+}
+
+/// Whether a sign stands behind an operator.
+fn is_inner_sign(scene: Scene<'_>) -> bool
+    ensures { result ≡ is_inner_sign (plain scene.entry) }
+{
+    is_sign(scene.found) && (is_sign(scene.before) || is(scene.before, "*") || is(scene.before, "/"))
+}
+
+/// Whether there is a comparison in an expression that is assigned or written.
+fn is_compared(scene: Scene<'_>) -> bool
+    ensures { result ≡ is_compared (plain scene.entry) }
+{
+    is_comparison(scene.found) && (is(scene.opener, ":=") || is(scene.opener, "!"))
 }
 
 /// Whether there is a remark as other languages have it.
