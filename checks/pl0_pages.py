@@ -9,7 +9,8 @@ stand where it does, and of each text in checks/mistakes it tells the line of to
 instructions, and the same steps beside them, as `pl0dap --check` prints, whose stored output the gate compares. The table of a run in
 docs/PL0.md is what `pl0 trace` writes, also where it begins later or ends earlier, and so is the machine that is drawn
 there. A program that writes more than a megabyte writes it all to a pipe. Where nobody reads on, each command ends at once with
-status 3, and says nothing; where the disk is full, it says so once. Prints what is wrong, and ends with status 1 where
+status 3, and says nothing; where the disk is full, it says so once, after a fault too. A run that is stopped keeps what it wrote,
+and `pl0 check` tells which files can't be read, and why. Prints what is wrong, and ends with status 1 where
 anything is.
 """
 import itertools
@@ -24,6 +25,8 @@ ROW = re.compile(r"^\| (\d+) \| \w+ \| .* \| (.*) \| `([^`]*)` \| `(\d+) (\d+) (
 HINT = re.compile(r"^\| ([^|]*) \| [^|]* \| `([^`]*)` \|$")
 ENDLESS = b"var n; while 0 = 0 do begin n := n + 1; ! n end.\n"
 FAULTY = b"var n; begin n := n; ! 1 / n end.\n"
+STUCK = b"begin ! 1; ! 2; while 1 = 1 do end.\n"
+UNREAD = [b"there is no such file", b"it is a folder"]
 LONG = b"var n; while n < 200000 do begin n := n + 1; ! n end.\n"
 
 
@@ -111,12 +114,14 @@ def wrong_traces(pl0: str):
     options = ["--machine", "--from", "10", "--steps", "1"]
     told = run(pl0, "trace", *options, program)
     wanted = drawn(" ".join(["pl0 trace", *options, "procedures.pl0"]))
-    if (told.stdout, told.stderr, told.returncode) != (wanted, b"", 0):
+    if (told.stdout, told.stderr, told.returncode) != (wanted, b"pl0: the run goes on at position 11\n", 0):
         yield f"the machine at position 10: {told}, where {wanted!r} is wanted"
     for start, steps in ((0, 100), (0, 1), (7, 5), (19, 1), (19, 2), (20, 3)):
         told = run(pl0, "trace", program, "--from", str(start), "--steps", str(steps))
         wanted = b"".join([table[0], *table[start + 1 : start + steps + 1]])
-        said = b"" if start < len(table) - 1 else b"pl0: the run ends at position 20\n"
+        said = b"pl0: the run ends at position 20\n" if start >= 20 else b""
+        if start + steps < 20:
+            said = f"pl0: the run goes on at position {start + steps}\n".encode()
         if (told.stdout, told.stderr, told.returncode) != (wanted, said, 0):
             yield f"a trace of {steps} steps from {start}: {told}, where {wanted!r} is wanted"
     for start in ("0", "3", "7"):
@@ -160,9 +165,31 @@ def wrong_outputs(pl0: str):
         yield f"a closed pipe: {first!r}, {said!r}, status {status}"
 
 
+def wrong_stops(pl0: str):
+    """What is wrong with a run that is ended from outside, with a fault whose output fails, and with files that can't be read."""
+    pipe = subprocess.PIPE
+    with subprocess.Popen([pl0, "run", "-"], stdin=pipe, stdout=pipe) as program:
+        try:
+            written, _ = program.communicate(STUCK, timeout=5)
+        except subprocess.TimeoutExpired:
+            program.kill()
+            written, _ = program.communicate()
+    if written != b"1\n2\n":
+        yield f"a run that was stopped: {written!r}"
+    with open("/dev/full", "wb") as full:
+        told = run(pl0, "run", "-", text=FAULTY, stdout=full, stderr=pipe)
+    if not (b": fault: division by zero\n" in told.stderr and told.stderr.endswith(b"pl0: cannot write the output\n")):
+        yield f"a fault, with a full disk: {told}"
+    told = run(pl0, "check", "missing", str(TOP / "docs"), str(TOP / "checks" / "mistakes" / "mod.pl0"))
+    said = told.stderr.splitlines()
+    if told.returncode != 3 or [line.rsplit(b": ", 1)[1] for line in said[:2]] != UNREAD or b"error: `mod`" not in said[2]:
+        yield f"a check of a file that is missing, a folder and a mistake: {told}"
+
+
 def main() -> int:
     pl0 = str(pathlib.Path(sys.argv[1]).resolve())
-    wrong = [*wrong_mistakes(pl0), *wrong_hints(pl0), *wrong_texts(pl0), *wrong_listings(pl0), *wrong_traces(pl0), *wrong_outputs(pl0)]
+    wrong = [*wrong_mistakes(pl0), *wrong_hints(pl0), *wrong_texts(pl0), *wrong_listings(pl0), *wrong_traces(pl0)]
+    wrong += [*wrong_outputs(pl0), *wrong_stops(pl0)]
     print("\n".join(wrong) or "mistakes, listings, traces and long outputs are as they should be")
     return 1 if wrong else 0
 

@@ -52,7 +52,14 @@ SESSION_ENDS = {
     "read": [(0, ""), (1, "pl0dap: read failed")],
     "write": WRITE_ENDS,
 }
-PL0_ENDS = {"allocation": [(0, ""), (3, "pl0: no memory")], "write": [(3, "pl0: cannot write the output")]}
+# A drawing of positions 9 to 11 says where the run goes on.
+PL0_ENDS = {
+    "allocation": [(0, ""), (0, "pl0: the run goes on at position 12"), (3, "pl0: no memory")],
+    "write": [
+        (3, "pl0: cannot write the output"),
+        (3, "pl0: the run goes on at position 12 pl0: cannot write the output"),
+    ],
+}
 LISTING_ENDS = {"allocation": ALLOCATION_ENDS, "read": [(1, "pl0dap: cannot read")], "write": WRITE_ENDS}
 # What a session with a program that can't be read is called.
 UNREAD = "launch refused"
@@ -190,11 +197,13 @@ def runs_of_texts(speed: str) -> dict[str, Run]:
 
 
 def stored_run(line: str) -> tuple[list[str], bytes]:
-    """The arguments of a command line of pl0 whose run is stored, with the whole path of its file, and what it writes."""
+    """The arguments of a command line of pl0 whose run is stored, with the whole path of its file, and what it writes to
+    standard output."""
     folder = pathlib.Path(CRATES, "pl0_runs")
     _, rest = (folder / "stdout").read_bytes().split(f"$ {line}\n".encode(), 1)
     _, *options, name = line.split()
-    return [*options, str(folder / "data" / name)], rest.split(b"status 0\n", 1)[0]
+    lines = rest.split(b"status 0\n", 1)[0].splitlines(keepends=True)
+    return [*options, str(folder / "data" / name)], b"".join(line for line in lines if not line.startswith(b"pl0: "))
 
 
 def runs_of_pl0(pl0: str) -> dict[str, Run]:

@@ -157,7 +157,8 @@ fn is_signed(scene: Scene<'_>) -> bool
 fn is_inner_sign(scene: Scene<'_>) -> bool
     ensures { result ≡ is_inner_sign (plain scene.entry) }
 {
-    is_sign(scene.found) && (is_sign(scene.before) || is(scene.before, "*") || is(scene.before, "/"))
+    is_sign(scene.found)
+        && (is_sign(scene.before) || is(scene.before, "*") || is(scene.before, "/"))
 }
 
 /// Whether there is a comparison in an expression that is assigned or written.

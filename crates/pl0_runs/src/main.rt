@@ -11,7 +11,7 @@ const LINES: [&[&str]; 10] = [
     &["pl0", "run", "-"],
     &["pl0", "run", "fault.pl0"],
     &["pl0", "run", "missing.pl0"],
-    &["pl0", "check", "multiply.pl0", "mistake.pl0"],
+    &["pl0", "check", "missing.pl0", "multiply.pl0", "mistake.pl0"],
     &["pl0", "list", "two.pl0"],
     &["pl0", "trace", "procedures.pl0"],
     &[

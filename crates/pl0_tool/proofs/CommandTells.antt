@@ -1,5 +1,5 @@
 -- What commands tell, from what their parts told.
-use Rattle.std.proofs.Common.{◌≡◌, ℕ, Bool, List, [], Result, Ok, Err, IfOk, refl, sym, subst, inl, inr}
+use Rattle.std.proofs.Common.{◌≡◌, ℕ, Bool, List, [], Result, Ok, Err, IfOk, refl, sym, subst, inl, inr, ap, arith, ◌∙◌}
 use Rattle.pl0_unit.specs.declared.unit.Unit.{Unit as Compiled}
 use Rattle.pl0_machine.specs.Machine.{Standing}
 use Rattle.byte_streams.specs.Streams.{Output}
@@ -13,7 +13,11 @@ use Rattle.pl0_tool.specs.Running.{HasRun}
 use Rattle.pl0_tool.specs.Listing.{listing}
 use Rattle.std.specs.Prelude.{IsErrAnd, MatchResult}
 use Rattle.pl0_tool.specs.Commands.{IsReport, RunTells, TraceTells, ProgramTells, Tells, start_of, end_errors, end_ending}
-use Rattle.pl0_tool.specs.Commands.{WritesNumbers, ProgramWrites, StartWrites, WritesRun}
+use Rattle.pl0_tool.specs.Commands.{IsTraceReport, ProgramWrites, StartTraces, StartWrites, WritesNumbers, WritesRun, goes_on_line}
+use Rattle.pl0_tool.specs.Traced.{HasPart, HasTable, HasTraced}
+use Rattle.pl0_tool.specs.declared.tracing.Row.{Row}
+use Rattle.pl0_tool.specs.declared.tracing.TraceEnd.{TraceEnd}
+use Rattle.pl0_tool.specs.declared.tracing.TraceEnd.TheVariants.{GoesOn, WriteFailed}
 
 pub run_told : (end : RunEnd) (file : List ℕ) (start last : Standing) (report : Report) (before after : Output)
     → HasRun end start last before after
@@ -37,7 +41,12 @@ program_writes : (task : Task) (file : List ℕ) (unit : Compiled) (report : Rep
     → ProgramTells task file unit report before after
     → ProgramWrites task unit before after
 program_writes Run file unit report before after (end, last, ran, told) = inr (end, last, ran)
-program_writes (Trace from steps drawn) file unit report before after (told, same) = same
+program_writes (Trace from steps drawn) file unit report before after (inl told) = inr (record {
+  rows = told.rows;
+  rows_are = record { each = told.has.rows_are.each; most = told.has.rows_are.most };
+  part = (told.has.holds.flushed, told.has.holds.appended, (report.output.items, told.has.holds.joined));
+})
+program_writes (Trace from steps drawn) file unit report before after (inr failed) = inr failed.0
 program_writes Check file unit report before after (told, same) = same
 program_writes Listing file unit report before after (told, same) = same
 
@@ -65,6 +74,60 @@ run_from file unit m (Ok report) before after at tells =
     subst (λ (m : Standing). RunTells file m report before after) at tells
 run_from file unit m (Err e) before after at writes =
     inr (subst (λ (m : Standing). WritesRun m before after) at writes)
+
+-- ---- a trace
+
+-- of a table that is told a part was written
+table_part : (drawn : Bool) (m : Standing) (from count : ℕ) (before now : Output) (pending : List ℕ) (rows : List Row)
+    → HasTable drawn m from count before now pending rows → HasPart drawn m from count before now
+table_part drawn m from count before now pending rows has = record {
+  rows = rows;
+  rows_are = record { each = has.rows_are.each; most = has.rows_are.most };
+  part = (has.holds.flushed, has.holds.appended, (pending, has.holds.joined));
+}
+
+-- of a trace that ended a part of its table was written
+pub traced_part : (end : TraceEnd) (drawn : Bool) (m new : Standing) (from count : ℕ) (before now : Output)
+    (pending : List ℕ)
+    → HasTraced end drawn m from count new before now pending → HasPart drawn m from count before now
+traced_part WriteFailed drawn m new from count before now pending h = h.0
+traced_part _ drawn m new from count before now pending h = table_part drawn m from count before now pending h.0 h.1
+
+-- what is told of a trace
+pub trace_told : (end : TraceEnd) (drawn : Bool) (m new : Standing) (from count : ℕ) (before now : Output)
+    (pending : List ℕ) (report : Report)
+    → HasTraced end drawn m from count new before now pending → IsTraceReport end new pending report
+    → TraceTells drawn m from count report before now
+trace_told GoesOn drawn m new from count before now pending report h is = inl (record {
+  rows = h.0;
+  has = subst (λ p. HasTable drawn m from count before now p h.0) (sym is.0) h.1;
+  onward = λ alive. is.1 ∙ ap goes_on_line h.2;
+})
+trace_told WriteFailed drawn m new from count before now pending report h is = inr (h.0, h.1, is)
+trace_told _ drawn m new from count before now pending report h is = inl (record {
+  rows = h.0;
+  has = subst (λ p. HasTable drawn m from count before now p h.0) (sym is) h.1;
+  onward = λ alive. absurd (let dead = h.2 in omega (arith, dead, alive));
+})
+
+-- the same of a machine that stands at the start of a program
+pub traced_from : {E : Type 0} (end : TraceEnd) (drawn : Bool) (unit : Compiled) (m new : Standing) (from count : ℕ)
+    (r : Result Report E) (before now : Output) (pending : List ℕ)
+    → m ≡ start_of unit
+    → HasTraced end drawn m from count new before now pending → IfOk r (IsTraceReport end new pending)
+    → MatchResult r (λ report. TraceTells drawn (start_of unit) from count report before now)
+    (λ e. StartTraces drawn unit from count before now)
+traced_from end drawn unit m new from count (Ok report) before now pending at h is =
+    subst (λ (m : Standing). TraceTells drawn m from count report before now) at
+    (trace_told end drawn m new from count before now pending report h is)
+traced_from end drawn unit m new from count (Err e) before now pending at h is =
+    inr (subst (λ (m : Standing). HasPart drawn m from count before now) at
+    (traced_part end drawn m new from count before now pending h))
+
+pub part_from : (drawn : Bool) (unit : Compiled) (m : Standing) (from count : ℕ) (before now : Output)
+    → m ≡ start_of unit → HasPart drawn m from count before now → StartTraces drawn unit from count before now
+part_from drawn unit m from count before now at h =
+    inr (subst (λ (m : Standing). HasPart drawn m from count before now) at h)
 
 -- ---- what each task tells of a program
 
@@ -97,11 +160,13 @@ run_program task file unit (Err e) before after is writes =
     subst (λ (t : Task). ProgramWrites t unit before after) (sym is) writes
 
 pub traced_program : {E : Type 0} (task : Task) (from steps : ℕ) (drawn : Bool) (file : List ℕ) (unit : Compiled)
-    (r : Result Report E) (out : Output)
+    (r : Result Report E) (before after : Output)
     → task ≡ Trace from steps drawn
-    → IfOk r (TraceTells drawn (start_of unit) from steps)
-    → MatchResult r (λ report. ProgramTells task file unit report out out) (λ e. ProgramWrites task unit out out)
-traced_program task from steps drawn file unit (Ok report) out is told =
-    subst (λ (t : Task). ProgramTells t file unit report out out) (sym is) (told, refl)
-traced_program task from steps drawn file unit (Err e) out is told =
-    subst (λ (t : Task). ProgramWrites t unit out out) (sym is) refl
+    → MatchResult r (λ report. TraceTells drawn (start_of unit) from steps report before after)
+    (λ e. StartTraces drawn unit from steps before after)
+    → MatchResult r (λ report. ProgramTells task file unit report before after)
+    (λ e. ProgramWrites task unit before after)
+traced_program task from steps drawn file unit (Ok report) before after is told =
+    subst (λ (t : Task). ProgramTells t file unit report before after) (sym is) told
+traced_program task from steps drawn file unit (Err e) before after is writes =
+    subst (λ (t : Task). ProgramWrites t unit before after) (sym is) writes

@@ -1,30 +1,19 @@
 -- What was done with files, one after another.
-use Rattle.std.proofs.Common.{◌≡◌, ◌≢◌, ◌<◌, ◌≤◌, ◌+◌, ℕ, List, [], ◌∷◌, ◌++◌, Option, Result, Ok, Err, IfOk, Vec, Global, refl, sym, ◌∙◌, ap, subst, append_assoc, take, drop, length, get_or, add-one, inl, inr, true, false}
-use Rattle.std.specs.Prelude.{MatchResult, OnOk, map}
+use Rattle.std.proofs.Common.{◌≡◌, ◌≢◌, ◌<◌, ◌≤◌, ◌+◌, ℕ, List, [], ◌∷◌, ◌++◌, Result, Ok, Err, IfOk, refl, sym, ◌∙◌, ap, subst, append_assoc, take, drop, length, get_or, add-one, inl, inr}
+use Rattle.std.specs.Prelude.{MatchResult, map}
 use Rattle.std.proofs.Math.Seq.{take-suc}
 use Rattle.std.proofs.lemmas.List.{take-append-drop, map-append, take_all}
 use Rattle.clap.specs.Words.{HasKind, Text, fault_of}
 use Rattle.clap.specs.Values.{kind_of}
 use Rattle.clap.specs.declared.error.Error.{Error}
 use Rattle.clap.specs.declared.error.kind.ErrorKind.TheVariants.{OutOfMemory}
-use Rattle.byte_streams.specs.declared.beginning.ReadFault.{ReadFault}
-use Rattle.byte_streams.specs.declared.beginning.ReadFault.TheVariants.{CannotRead, NoMemory}
-use Rattle.byte_streams.specs.Beginning.{BeginsWith}
-use Rattle.byte_streams.specs.Streams.{Output, Supply, supply}
+use Rattle.byte_streams.specs.Streams.{Output, Supply}
+use Rattle.pl0_tool.specs.declared.files.FileFault.{FileFault}
 use Rattle.pl0_tool.specs.declared.arguments.Request.{Request}
 use Rattle.pl0_tool.specs.declared.arguments.Task.{Task}
 use Rattle.pl0_tool.specs.Arguments.{Asks, command_line}
 use Rattle.pl0_tool.specs.declared.report.Report.{Report}
-use Rattle.pl0_tool.specs.Executing.{AreDone, Adds, Answers, Before, GivesUp, Comes, HasRead, IsToldFor, LacksMemory, Origins, RunsOut, files_of, next, plain_text}
-
--- what the clauses of `read_beginning` say together
-pub has_read : (r : Result (Vec ℕ Global) ReadFault) (left later : Option (List ℕ)) (failed fails : ℕ)
-    → IfOk r (λ bytes. BeginsWith bytes.items left later) → OnOk r (fails ≡ failed)
-    → (r ≡ Err CannotRead → failed < fails) → (r ≡ Err NoMemory → fails ≡ failed)
-    → HasRead (plain_text r) (supply left failed) (supply later fails)
-has_read (Ok bytes) left later failed fails begins same cannot none = (begins, same)
-has_read (Err CannotRead) left later failed fails begins same cannot none = cannot refl
-has_read (Err NoMemory) left later failed fails begins same cannot none = none refl
+use Rattle.pl0_tool.specs.Executing.{AreDone, Adds, Before, GivesUp, Comes, IsToldFor, LacksMemory, Origins, RunsOut, files_of, next}
 
 -- ---- the names of files, one by one
 
@@ -47,13 +36,13 @@ module _ {B : Type 0} (name_of : B → Text) where
 
   -- ---- what was done
 
-  module _ {Files File : Type 0} (opens : Files → Text → Result File ReadFault → Files → Type 0)
+  module _ {Files File : Type 0} (opens : Files → Text → Result File FileFault → Files → Type 0)
       (supply_of : File → Supply) (task : Task) (bs : List B) (i : ℕ) (b : B) (within : i < length bs)
       (is : b ≡ get_or bs i b) (old mid : Origins Files) (before out : Output) (first : Report)
       (done : AreDone opens supply_of task old before (map name_of (take i bs)) first mid out) where
     -- one more was done
     pub one_more : (sum : Report) (later : Origins Files) (after : Output)
-        → Adds opens supply_of true task (name_of b) first sum mid later out after
+        → Adds opens supply_of task (name_of b) first sum mid later out after
         → AreDone opens supply_of task old before (map name_of (take (i + 1) bs)) sum later after
     one_more sum later after adds =
         subst (λ l. AreDone opens supply_of task old before l sum later after)
@@ -72,12 +61,6 @@ module _ {B : Type 0} (name_of : B → Text) where
       are_done = done;
     }
 
-    -- this one can't be read
-    pub one_unread : (sum : Report) (later : Origins Files) (after : Output)
-        → Adds opens supply_of false task (name_of b) first sum mid later out after
-        → Answers opens supply_of task (map name_of bs) sum old later before after
-    one_unread sum later after adds = inr (those_before, adds)
-
     -- memory ran out at this one
     pub one_given_up : (later : Origins Files) (after : Output)
         → RunsOut opens supply_of task (name_of b) mid later out after
@@ -85,31 +68,31 @@ module _ {B : Type 0} (name_of : B → Text) where
     one_given_up later after out_of_memory = (those_before, out_of_memory)
 
   -- all were done
-  pub all_done : {Files File : Type 0} (opens : Files → Text → Result File ReadFault → Files → Type 0)
+  pub all_done : {Files File : Type 0} (opens : Files → Text → Result File FileFault → Files → Type 0)
       (supply_of : File → Supply) (task : Task) (bs : List B) (i : ℕ) (old later : Origins Files)
       (before after : Output) (report : Report)
       → length bs ≤ i
       → AreDone opens supply_of task old before (map name_of (take i bs)) report later after
-      → Answers opens supply_of task (map name_of bs) report old later before after
+      → AreDone opens supply_of task old before (map name_of bs) report later after
   all_done opens supply_of task bs i old later before after report over done =
-      inl (subst (λ l. AreDone opens supply_of task old before (map name_of l) report later after)
-      (take_all i bs over) done)
+      subst (λ l. AreDone opens supply_of task old before (map name_of l) report later after)
+      (take_all i bs over) done
 
 -- ---- the arguments
 
-module _ {E Files File : Type 0} (opens : Files → Text → Result File ReadFault → Files → Type 0)
+module _ {E Files File : Type 0} (opens : Files → Text → Result File FileFault → Files → Type 0)
     (supply_of : File → Supply) (arguments : List Text) (r : Result Report E) (old later : Origins Files)
     (before after : Output) where
   -- they ask for something
   pub asked_done : (asked : Request) → Asks arguments asked
-      → MatchResult r (λ report. Answers opens supply_of asked.task (files_of asked) report old later before after)
+      → MatchResult r (λ report. AreDone opens supply_of asked.task old before (files_of asked) report later after)
       (λ e. GivesUp opens supply_of asked.task (files_of asked) old later before after)
       → MatchResult r (λ report. Comes opens supply_of arguments report old later before after)
       (λ e. LacksMemory opens supply_of arguments old later before after)
   asked_done asked asks = of_result r
     where
       of_result : (r : Result Report E)
-          → MatchResult r (λ report. Answers opens supply_of asked.task (files_of asked) report old later before after)
+          → MatchResult r (λ report. AreDone opens supply_of asked.task old before (files_of asked) report later after)
           (λ e. GivesUp opens supply_of asked.task (files_of asked) old later before after)
           → MatchResult r (λ report. Comes opens supply_of arguments report old later before after)
           (λ e. LacksMemory opens supply_of arguments old later before after)
@@ -117,7 +100,7 @@ module _ {E Files File : Type 0} (opens : Files → Text → Result File ReadFau
       of_result (Err e) gives_up = inr (asked, asks, gives_up)
 
 -- they ask for nothing, or there was no memory to read them
-pub unasked_told : {E Files File : Type 0} (opens : Files → Text → Result File ReadFault → Files → Type 0)
+pub unasked_told : {E Files File : Type 0} (opens : Files → Text → Result File FileFault → Files → Type 0)
     (supply_of : File → Supply) (arguments : List Text) (error : Error) (r : Result Report E) (at : Origins Files)
     (out : Output)
     → HasKind (fault_of command_line arguments) error

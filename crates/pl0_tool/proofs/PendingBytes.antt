@@ -1,7 +1,27 @@
 -- Bytes that are pending while more are put to them, and when they are written.
 use Rattle.pl0_tool.proofs.Common.{[], ap, append-nil, append_assoc, AppendsPart, arith, Bool, FailsIn, false, Holds, List, MatchBool, Output, refl, subst, sym, true, WritesAll, ℕ, ◌++◌, ◌<◌, ◌∙◌, ◌≡◌}
 use Rattle.std.specs.Io.KnownBytes.{Appends}
-use Rattle.std.proofs.KnownBytes.{Appends-trans}
+use Rattle.std.proofs.KnownBytes.{Appends-nil, Appends-trans}
+
+-- bytes were written, and then others
+pub writes_both : (before mid later : Output) (first next : List ℕ) → WritesAll first before mid
+    → WritesAll next mid later → WritesAll (first ++ next) before later
+writes_both before mid later first next one two =
+    (Appends-trans before.written mid.written later.written first next one.0 two.0, two.1 ∙ one.1)
+
+-- bytes were written, and then a prefix of others
+pub writes_and_fails : (before mid later : Output) (first next : List ℕ) → WritesAll first before mid
+    → FailsIn next mid later → FailsIn (first ++ next) before later
+writes_and_fails before mid later first next one fails =
+    let part = fails.0 in
+    let rest = part.2 in (
+      (
+        first ++ part.0,
+        Appends-trans before.written mid.written later.written first part.0 one.0 part.1,
+        (rest.0, append_assoc first part.0 rest.0 ∙ ap (λ l. first ++ l) rest.1),
+      ),
+      (let fewer = fails.1 in let same = one.1 in omega (arith, fewer, same)),
+    )
 
 -- what was pending is written
 pub holds_flushed : (before now later : Output) (pending left text : List ℕ) → Holds before now pending text
@@ -80,6 +100,22 @@ pub holds_failed_last : (before now later : Output) (pending text : List ℕ) �
 holds_failed_last before now later pending text held fails =
     subst (λ l. FailsIn l before later) (append-nil text) (holds_failed before now later pending text [] held fails)
 
+-- all that is pending is a text of which nothing was written
+pub holds_all : (at : Output) (pending text : List ℕ) → pending ≡ text → Holds at at pending text
+holds_all at pending text is =
+    record { flushed = []; appended = Appends-nil at.written; joined = is; kept = refl }
+
+-- more is pending
+pub holds_more : (before now : Output) (pending left text bytes : List ℕ) → left ≡ pending ++ bytes
+    → Holds before now pending text → Holds before now left (text ++ bytes)
+holds_more before now pending left text bytes is held = record {
+  flushed = held.flushed;
+  appended = held.appended;
+  joined = ap (λ l. held.flushed ++ l) is ∙ sym (append_assoc held.flushed pending bytes)
+      ∙ ap (λ l. l ++ bytes) held.joined;
+  kept = held.kept;
+}
+
 -- bytes are written after what was pending, or the output fails in them
 pub put_last : (b : Bool) (before now mid later : Output) (pending left text bytes : List ℕ)
     → Holds before now pending text → WritesAll pending now mid → left ≡ []
@@ -90,3 +126,12 @@ put_last true before now mid later pending left text bytes held first empty wrot
     holds_written before now mid later pending left text bytes held first (wrote, count) empty
 put_last false before now mid later pending left text bytes held first empty wrote count =
     holds_failed_later before now mid later pending text bytes held first (wrote, count)
+
+-- what was pending is written, or the output fails in it
+pub flushed_or_failed : (b : Bool) (before now later : Output) (pending left text : List ℕ)
+    → Holds before now pending text → MatchBool b (WritesAll pending now later) (FailsIn pending now later) → left ≡ []
+    → MatchBool b (Holds before later left text) (FailsIn text before later)
+flushed_or_failed true before now later pending left text held wrote empty =
+    holds_flushed before now later pending left text held wrote empty
+flushed_or_failed false before now later pending left text held fails empty =
+    holds_failed_last before now later pending text held fails

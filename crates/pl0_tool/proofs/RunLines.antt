@@ -5,7 +5,12 @@ use Rattle.pl0_meaning.specs.declared.RunFault.{RunFault}
 use Rattle.pl0_meaning.specs.declared.RunFault.TheVariants.{Depth, StepLimit}
 use Rattle.pl0_meaning.specs.Runs.{Outcome, Goes, Faults, Stuck, at, led_to, outcome, step_at, step, frame_step, statement_step, on_value, entered, callee, assigned, doing, opened, frame_limit, last_position, written, written_by}
 use Rattle.pl0_machine.specs.declared.outcome.StepOutcome.{StepOutcome}
-use Rattle.pl0_tool.specs.declared.running.RunEnd.TheVariants.{Ended, Faulted, WriteFailed}
+use Rattle.pl0_tool.specs.declared.running.RunEnd.TheVariants.{Ended, Faulted, FaultedUnwritten, WriteFailed}
+use Rattle.pl0_tool.specs.declared.running.RunEnd.{RunEnd}
+use Rattle.pl0_tool.specs.Running.{HasRunSlice}
+use Rattle.std.proofs.Common.{◌⊎◌, inl, inr}
+use Rattle.pl0_meaning.specs.Laws.{WrittenJoins}
+use Rattle.pl0_tool.proofs.PendingBytes.{writes_both, writes_and_fails}
 
 -- ---- lines
 
@@ -268,6 +273,17 @@ faulted_so start now new fault before after came r wrote =
       wrote,
     )
 
+pub faulted_unwritten_so : (start now new : Standing) (fault : RunFault) (before after : Output) → Came start now
+    → Ran now new (Fault fault) → FailsIn (lines_between start new) before after
+    → HasRun (FaultedUnwritten fault) start new before after
+faulted_unwritten_so start now new fault before after came r failed =
+    let more = came_on start now new (Fault fault) came r in (
+      more.0,
+      more.1,
+      fault_is (ahead now r.before) new fault r.last,
+      failed,
+    )
+
 pub failed_so : (start now new : Standing) (told : StepOutcome) (before after : Output) → Came start now
     → Ran now new told → FailsIn (lines_between start new) before after → HasRun WriteFailed start new before after
 failed_so start now new told before after came r failed =
@@ -276,6 +292,154 @@ failed_so start now new told before after came r failed =
 -- after a number the program runs
 pub running_on : (now new : Standing) (number : Option ℤ) → Ran now new (Went number) → 0 < depth_of new
 running_on now new number r = runs_on (ahead now r.before) new number r.last
+
+-- a run that goes on or ends before a limit is no further
+pub before_limit : (limit : ℕ) (old new : Standing) (told : StepOutcome) → RanOn limit 0 None old (Some told) new
+    → new.position ≤ limit
+before_limit limit old new told r = by_outcome (outcome_of r.0) r.3
+  where
+    by_outcome : (o : Outcome) → Stepped o r.0 told new → new.position ≤ limit
+    by_outcome (Goes number c) s =
+        let led = ap (λ (m : Standing). m.position) s.1 in let lt = r.2 in omega (arith, led, lt)
+    by_outcome (Faults fault) s =
+        let led = ap (λ (m : Standing). m.position) s.1 in let lt = r.2 in omega (arith, led, lt)
+    by_outcome Stuck s = absurd s
+
+-- ---- slices
+
+-- steps that write nothing leave all as it was
+abbrev StretchesOn : Standing → Standing → Standing → Type 0
+StretchesOn start new m =
+    Stretches 0 None m new → Came start new × (lines_between start new ≡ lines_between start m)
+
+pub stretched_on : (start now new : Standing) → Came start now → Stretches 0 None now new
+    → Came start new × (lines_between start new ≡ lines_between start now)
+stretched_on start now new came s = subst (StretchesOn start new) (sym came.1) at s
+  where
+    at : StretchesOn start new (ahead start came.0)
+    at s =
+        let le : start.position ≤ start.position + came.0 = omega arith in (
+          (came.0 + s.steps, s.led ∙ ahead-ahead start came.0 s.steps),
+          ap (λ (m : Standing). lines_between start m) s.led
+              ∙ ap number_lines (silent_steps (program start) start.position (start.position + came.0) s.steps le
+              (λ k lt. (s.passed k lt).silent)),
+        )
+
+-- what is pending stays so over them
+pub held_still : (start now new : Standing) (before out : Output) (pending : List ℕ) → Came start now
+    → Stretches 0 None now new → Holds before out pending (lines_between start now)
+    → Holds before out pending (lines_between start new)
+held_still start now new before out pending came s held =
+    subst (Holds before out pending) (sym (stretched_on start now new came s).1) held
+
+-- a slice of a run is over, and all was written, or the output failed in it
+pub slice_over : (start now new : Standing) (result : Option RunEnd) (before after : Output) → Came start now
+    → Stretches 0 None now new
+    → ((result ≡ None) × WritesAll (lines_between start new) before after)
+    ⊎ ((result ≡ Some WriteFailed) × FailsIn (lines_between start new) before after)
+    → HasRunSlice result start new before after
+slice_over start now new result before after came s (inl (is, wrote)) =
+    let came_here = (stretched_on start now new came s).0 in
+    subst (λ r. HasRunSlice r start new before after) (sym is)
+    (record { steps = came_here.0; led = came_here.1; running = s.running; wrote = wrote })
+slice_over start now new result before after came s (inr (is, failed)) =
+    let came_here = (stretched_on start now new came s).0 in
+    subst (λ r. HasRunSlice r start new before after) (sym is) (came_here.0, came_here.1, failed)
+
+-- the program ended in a slice
+pub slice_ended : (start now new : Standing) (result : Option RunEnd) (before after : Output) → Came start now
+    → Ran now new Done
+    → ((result ≡ Some Ended) × WritesAll (lines_between start new) before after)
+    ⊎ ((result ≡ Some WriteFailed) × FailsIn (lines_between start new) before after)
+    → HasRunSlice result start new before after
+slice_ended start now new result before after came ran (inl (is, wrote)) =
+    subst (λ r. HasRunSlice r start new before after) (sym is) (ended_so start now new before after came ran wrote)
+slice_ended start now new result before after came ran (inr (is, failed)) =
+    subst (λ r. HasRunSlice r start new before after) (sym is)
+    (failed_so start now new Done before after came ran failed)
+
+-- the next step of a slice faults
+pub slice_faulted : (start now new : Standing) (fault : RunFault) (result : Option RunEnd) (before after : Output)
+    → Came start now → Ran now new (Fault fault)
+    → ((result ≡ Some (Faulted fault)) × WritesAll (lines_between start new) before after)
+    ⊎ ((result ≡ Some (FaultedUnwritten fault)) × FailsIn (lines_between start new) before after)
+    → HasRunSlice result start new before after
+slice_faulted start now new fault result before after came ran (inl (is, wrote)) =
+    subst (λ r. HasRunSlice r start new before after) (sym is)
+    (faulted_so start now new fault before after came ran wrote)
+slice_faulted start now new fault result before after came ran (inr (is, failed)) =
+    subst (λ r. HasRunSlice r start new before after) (sym is)
+    (faulted_unwritten_so start now new fault before after came ran failed)
+
+-- the lines of two parts of a run are those of the whole
+lines_join : WrittenJoins → (start mid new : Standing) (i j : ℕ) → mid ≡ ahead start i → new ≡ ahead mid j
+    → lines_between start mid ++ lines_between mid new ≡ lines_between start new
+lines_join joins start mid new i j to_mid to_new =
+    subst (λ (m : Standing). lines_between start m ++ lines_between m new ≡ lines_between start new) (sym to_mid)
+    (subst (λ (m : Standing). lines_between start (ahead start i) ++ lines_between (ahead start i) m
+    ≡ lines_between start m) (sym (to_new ∙ ap (λ (m : Standing). ahead m j) to_mid)) at)
+  where
+    at : lines_between start (ahead start i) ++ lines_between (ahead start i) (ahead (ahead start i) j)
+        ≡ lines_between start (ahead (ahead start i) j)
+    at =
+        let first : start.position ≤ start.position + i = omega arith in
+        let next : start.position + i ≤ start.position + i + j = omega arith in
+        sym (lines-append (written (program start) start.position (start.position + i))
+        (written (program start) (start.position + i) (start.position + i + j)))
+        ∙ ap number_lines
+        (joins (program start) start.position (start.position + i) (start.position + i + j) first next)
+
+-- what was written first, and then all
+pub written_join : WrittenJoins → (start mid new : Standing) (i j : ℕ) (before between after : Output)
+    → mid ≡ ahead start i → new ≡ ahead mid j → WritesAll (lines_between start mid) before between
+    → WritesAll (lines_between mid new) between after → WritesAll (lines_between start new) before after
+written_join joins start mid new i j before between after to_mid to_new first next =
+    subst (λ l. WritesAll l before after) (lines_join joins start mid new i j to_mid to_new)
+    (writes_both before between after (lines_between start mid) (lines_between mid new) first next)
+
+-- what was written first, and then a part
+failed_join : WrittenJoins → (start mid new : Standing) (i j : ℕ) (before between after : Output)
+    → mid ≡ ahead start i → new ≡ ahead mid j → WritesAll (lines_between start mid) before between
+    → FailsIn (lines_between mid new) between after → FailsIn (lines_between start new) before after
+failed_join joins start mid new i j before between after to_mid to_new first next =
+    subst (λ l. FailsIn l before after) (lines_join joins start mid new i j to_mid to_new)
+    (writes_and_fails before between after (lines_between start mid) (lines_between mid new) first next)
+
+pub came_both : (start mid new : Standing) (i j : ℕ) → mid ≡ ahead start i → new ≡ ahead mid j
+    → new ≡ ahead start (i + j)
+came_both start mid new i j to_mid to_new =
+    to_new ∙ ap (λ (m : Standing). ahead m j) to_mid ∙ ahead-ahead start i j
+
+-- a run that began before ends as its last part
+pub run_join : WrittenJoins → (end : RunEnd) (start mid new : Standing) (i : ℕ) (before between after : Output)
+    → mid ≡ ahead start i → WritesAll (lines_between start mid) before between → HasRun end mid new between after
+    → HasRun end start new before after
+run_join joins Ended start mid new i before between after to_mid first (last, steps, to_last, is, to_new, wrote) = (
+  last,
+  i + steps,
+  came_both start mid last i steps to_mid to_last,
+  is,
+  to_new,
+  written_join joins start mid new i (steps + 1) before between after to_mid
+      (to_new ∙ ap (λ (m : Standing). ahead m 1) to_last ∙ ahead-ahead mid steps 1) first wrote,
+)
+run_join joins (Faulted fault) start mid new i before between after to_mid first (steps, to_new, is, wrote) = (
+  i + steps,
+  came_both start mid new i steps to_mid to_new,
+  is,
+  written_join joins start mid new i steps before between after to_mid to_new first wrote,
+)
+run_join joins (FaultedUnwritten fault) start mid new i before between after to_mid first (n, to_new, is, failed) = (
+  i + n,
+  came_both start mid new i n to_mid to_new,
+  is,
+  failed_join joins start mid new i n before between after to_mid to_new first failed,
+)
+run_join joins WriteFailed start mid new i before between after to_mid first (steps, to_new, failed) = (
+  i + steps,
+  came_both start mid new i steps to_mid to_new,
+  failed_join joins start mid new i steps before between after to_mid to_new first failed,
+)
 
 -- what is pending stays so over steps that tell no number
 pub held_on : (start now new : Standing) (told : StepOutcome) (before out : Output) (pending : List ℕ)

@@ -1,11 +1,18 @@
 -- What a trace tells: rows that are added one by one, and positions to which a run doesn't come.
-use Rattle.pl0_tool.proofs.Common.{[], ap, AreRows, arith, at_next, at_position, Block, Bool, cond, Configuration, depth_of, Err, false, Fault, Frame, frame_of, frames_of, Global, IfOk, IsFrameRow, IsRow, IsTold, length, length_push, List, nat_eq, None, number_of, numbers_in, Ok, Option, option_map_or, outcome_of, program, RanOn, refl, Result, same_Some, slice_get, Some, Standing, Stepped, subst, suc, sym, take, take_all, true, variables_of, Vec, Went, zero, ℕ, ℤ, ◌++◌, ◌+◌, ◌-◌, ◌<◌, ◌∙◌, ◌∷◌, ◌≡◌, ◌≤◌}
+use Rattle.pl0_tool.proofs.Common.{[], ap, arith, at_next, at_position, Block, Bool, cond, Configuration, depth_of, false, Fault, Frame, frame_of, frames_of, IsFrameRow, IsRow, IsTold, length, length_push, List, nat_eq, None, number_of, numbers_in, Option, option_map_or, outcome_of, program, RanOn, refl, same_Some, slice_get, Some, Standing, Stepped, subst, suc, sym, take, take_all, true, variables_of, Went, zero, ℕ, ℤ, ◌++◌, ◌+◌, ◌-◌, ◌<◌, ◌∙◌, ◌∷◌, ◌≡◌, ◌≤◌}
 use Rattle.pl0_meaning.specs.declared.RunFault.TheVariants.{StepLimit}
 use Rattle.pl0_meaning.specs.Runs.{Outcome, Goes, Faults, Stuck, at, led_to, outcome, step_at, step, last_position}
 use Rattle.pl0_machine.specs.declared.outcome.StepOutcome.{StepOutcome}
 use Rattle.pl0_tool.specs.declared.tracing.FrameRow.{FrameRow}
 use Rattle.pl0_tool.specs.declared.tracing.Row.{Row}
 use Rattle.pl0_tool.proofs.RunLines.{Came, came_on, ran_on, runs_on}
+use Rattle.pl0_tool.proofs.PendingBytes.{holds_all, holds_more}
+use Rattle.pl0_tool.specs.Table.{head, row_text, table}
+use Rattle.pl0_tool.specs.Traced.{HasPart, HasTable, PutsRow}
+use Rattle.pl0_unit.specs.declared.unit.Unit.{Unit as Compiled}
+use Rattle.std.specs.List.{concat}
+use Rattle.std.proofs.Common.{append-nil, append_assoc, map}
+use Rattle.pl0_tool.proofs.Common.{FailsIn, Holds, Output}
 
 -- ---- lists that grow
 
@@ -168,50 +175,224 @@ never_there start now new position outcome came ran stop =
 
 -- ---- rows that are told one by one
 
-grown : (drawn : Bool) (start now : Standing) (n : ℕ) (rows : List Row) (row : Row)
-    → now ≡ at_position start (start.position + n) → length rows ≡ n → TellPositions drawn start start.position rows
-    → IsRow drawn now row → TellPositions drawn start start.position (rows ++ row ∷ [])
-grown drawn start now n rows row at is h here =
-    position_more drawn start start.position n rows row is h (subst (λ (m : Standing). IsRow drawn m row) at here)
+grown : (drawn : Bool) (start now : Standing) (from n : ℕ) (rows : List Row) (row : Row)
+    → now ≡ at_position start (from + n) → length rows ≡ n → TellPositions drawn start from rows
+    → IsRow drawn now row → TellPositions drawn start from (rows ++ row ∷ [])
+grown drawn start now from n rows row at is h here =
+    position_more drawn start from n rows row is h (subst (λ (m : Standing). IsRow drawn m row) at here)
 
--- a step that goes on
-pub told_on : (drawn : Bool) (start now new : Standing) (n : ℕ) (rows list : List Row) (row : Row) (number : Option ℤ)
-    → list ≡ rows ++ row ∷ [] → now ≡ at_position start (start.position + n) → length rows ≡ n
-    → TellPositions drawn start start.position rows → IsRow drawn now row
-    → Stepped (outcome_of now) now (Went number) new
-    → (0 < depth_of new) × (new ≡ at_position start (start.position + (n + 1))) × (length list ≡ n + 1)
-    × TellPositions drawn start start.position list
-told_on drawn start now new n rows list row number more at is h here stepped =
-    let next : start.position + n + 1 ≡ start.position + (n + 1) = omega arith in (
+-- The positions from one on were told, and their table is held.
+pub record Tells (drawn : Bool) (start : Standing) (from n : ℕ) (before now : Output) (pending : List ℕ) : Type 0 where
+  pub rows : List Row
+  pub count : length rows ≡ n
+  pub each : TellPositions drawn start from rows
+  pub holds : Holds before now pending (table start.unit drawn rows)
+
+-- none was told
+pub tells_none : (drawn : Bool) (start : Standing) (from : ℕ) (out : Output) (pending : List ℕ) → pending ≡ head drawn
+    → Tells drawn start from 0 out out pending
+tells_none drawn start from out pending is = record {
+  rows = [];
+  count = refl;
+  each = λ i row e. cc;
+  holds = holds_all out pending (table start.unit drawn []) (is ∙ sym (append-nil (head drawn)));
+}
+
+table_more : (u : Compiled) (drawn : Bool) (rows : List Row) (row : Row)
+    → table u drawn rows ++ row_text u row ≡ table u drawn (rows ++ row ∷ [])
+table_more u drawn rows row =
+    append_assoc (head drawn) (concat (map (row_text u) rows)) (row_text u row)
+    ∙ ap (λ t. head drawn ++ t) (more rows)
+  where
+    more : (rows : List Row)
+        → concat (map (row_text u) rows) ++ row_text u row ≡ concat (map (row_text u) (rows ++ row ∷ []))
+    more [] = sym (append-nil (row_text u row))
+    more (r ∷ rows) =
+        append_assoc (row_text u r) (concat (map (row_text u) rows)) (row_text u row)
+        ∙ ap (λ t. row_text u r ++ t) (more rows)
+
+same_unit : (m new : Standing) (told : StepOutcome) → Stepped (outcome_of m) m told new → new.unit ≡ m.unit
+same_unit m new told stepped = by_outcome (outcome_of m) stepped
+  where
+    by_outcome : (o : Outcome) → Stepped o m told new → new.unit ≡ m.unit
+    by_outcome (Goes number c) s = ap (λ (m : Standing). m.unit) s.1
+    by_outcome (Faults fault) s = ap (λ (m : Standing). m.unit) s.1
+    by_outcome Stuck s = absurd s
+
+-- a row was put behind what is pending
+pub row_held : (m new : Standing) (told : StepOutcome) (u : Compiled) (row : Row) (first out : Output)
+    (pending left text : List ℕ)
+    → Stepped (outcome_of m) m told new → u ≡ new.unit → left ≡ pending ++ row_text u row
+    → Holds first out pending text → Holds first out left (text ++ row_text m.unit row)
+row_held m new told u row first out pending left text stepped same put held =
+    holds_more first out pending left text (row_text m.unit row)
+    (put ∙ ap (λ u. pending ++ row_text u row) (same ∙ same_unit m new told stepped)) held
+
+-- a row more is told, of a step that goes on
+pub told_on : (drawn : Bool) (start now new : Standing) (from n : ℕ) (before at after : Output)
+    (pending left : List ℕ) (number : Option ℤ)
+    → now ≡ at_position start (from + n) → Tells drawn start from n before at pending
+    → PutsRow (Some (Went number)) drawn now new pending left at after
+    → (0 < depth_of new) × (new ≡ at_position start (from + (n + 1))) × Tells drawn start from (n + 1) before after left
+told_on drawn start now new from n before at after pending left number is tells (row, here, stepped, puts) =
+    let next : from + n + 1 ≡ from + (n + 1) = omega arith in (
       runs_on now new number stepped,
       went_on now new number stepped
-          ∙ ap (λ (m : Standing). at_position m (m.position + 1)) at
+          ∙ ap (λ (m : Standing). at_position m (m.position + 1)) is
           ∙ ap (λ p. at_position start p) next,
-      ap length more ∙ length_push rows row ∙ ap (λ k. k + 1) is,
-      subst (TellPositions drawn start start.position) (sym more) (grown drawn start now n rows row at is h here),
+      record {
+        rows = tells.rows ++ row ∷ [];
+        count = length_push tells.rows row ∙ ap (λ k. k + 1) tells.count;
+        each = grown drawn start now from n tells.rows row is tells.count tells.each here;
+        holds = subst (Holds before after left)
+            (ap (λ (m : Standing). table start.unit drawn tells.rows ++ row_text m.unit row) is
+            ∙ table_more start.unit drawn tells.rows row)
+            (puts before (table start.unit drawn tells.rows) tells.holds);
+      },
     )
 
--- a step with which the run stops
-pub told_last : (drawn : Bool) (start now new : Standing) (n count : ℕ) (rows list : List Row) (row : Row)
-    (outcome : StepOutcome)
-    → n < count → list ≡ rows ++ row ∷ [] → now ≡ at_position start (start.position + n) → length rows ≡ n
-    → TellPositions drawn start start.position rows → IsRow drawn now row → Stepped (outcome_of now) now outcome new
-    → IsStop outcome → AreRows drawn start start.position count list
-told_last drawn start now new n count rows list row outcome lt more at is h here stepped stop =
-    let longer = length_push rows row in
-    let next : start.position + n + 1 ≡ start.position + length (rows ++ row ∷ []) = omega (arith, longer, is) in
-    let none : depth_of (at_position start (start.position + n + 1)) ≡ 0 =
-    subst (λ (m : Standing). depth_of (at_position m (m.position + 1)) ≡ 0) at
+-- a row more is told, of a step with which the run stops
+pub told_last : (drawn : Bool) (start now new : Standing) (from n count : ℕ) (before at after : Output)
+    (pending left : List ℕ) (outcome : StepOutcome)
+    → n < count → now ≡ at_position start (from + n) → Tells drawn start from n before at pending
+    → PutsRow (Some outcome) drawn now new pending left at after → IsStop outcome
+    → (rows : List Row) × HasTable drawn start from count before after left rows
+    × (depth_of (at_position start (from + length rows)) ≡ 0)
+told_last drawn start now new from n count before at after pending left outcome lt is tells (row, here, stepped, puts)
+    stop =
+    let same = tells.count in
+    let longer = length_push tells.rows row in
+    let next : from + n + 1 ≡ from + length (tells.rows ++ row ∷ []) = omega (arith, longer, same) in
+    let none : depth_of (at_position start (from + n + 1)) ≡ 0 =
+    subst (λ (m : Standing). depth_of (at_position m (m.position + 1)) ≡ 0) is
     (none_behind now new outcome stepped stop) in
-    subst (AreRows drawn start start.position count) (sym more) (record {
-      each = grown drawn start now n rows row at is h here;
-      most = omega (arith, longer, is, lt);
-      whole = λ fewer. subst (λ q. depth_of (at_position start q) ≡ 0) next none;
+    let dead : depth_of (at_position start (from + length (tells.rows ++ row ∷ []))) ≡ 0 =
+    subst (λ q. depth_of (at_position start q) ≡ 0) next none in (
+      tells.rows ++ row ∷ [],
+      record {
+        rows_are = record {
+          each = grown drawn start now from n tells.rows row is same tells.each here;
+          most = omega (arith, longer, same, lt);
+          whole = λ fewer. dead;
+        };
+        holds = subst (Holds before after left)
+            (ap (λ (m : Standing). table start.unit drawn tells.rows ++ row_text m.unit row) is
+            ∙ table_more start.unit drawn tells.rows row)
+            (puts before (table start.unit drawn tells.rows) tells.holds);
+      },
+      dead,
+    )
+
+-- the output failed in a row
+pub told_failed : (drawn : Bool) (start now new : Standing) (from n count : ℕ) (before at after : Output)
+    (pending left : List ℕ)
+    → n < count → now ≡ at_position start (from + n) → Tells drawn start from n before at pending
+    → PutsRow None drawn now new pending left at after
+    → HasPart drawn start from count before after × (before.failures < after.failures)
+told_failed drawn start now new from n count before at after pending left lt is tells (row, here, puts) =
+    let same = tells.count in
+    let longer = length_push tells.rows row in
+    let fails : FailsIn (table start.unit drawn (tells.rows ++ row ∷ [])) before after =
+    subst (λ t. FailsIn t before after)
+    (ap (λ (m : Standing). table start.unit drawn tells.rows ++ row_text m.unit row) is
+    ∙ table_more start.unit drawn tells.rows row)
+    (puts before (table start.unit drawn tells.rows) tells.holds) in (
+      record {
+        rows = tells.rows ++ row ∷ [];
+        rows_are = record {
+          each = grown drawn start now from n tells.rows row is same tells.each here;
+          most = omega (arith, longer, same, lt);
+        };
+        part = fails.0;
+      },
+      fails.1,
+    )
+
+-- memory ran out after some rows
+pub told_part : (drawn : Bool) (start : Standing) (from n count : ℕ) (before now later : Output) (pending : List ℕ)
+    → n < count → later ≡ now → Tells drawn start from n before now pending
+    → HasPart drawn start from count before later
+told_part drawn start from n count before now later pending lt same_output tells =
+    subst (HasPart drawn start from count before) (sym same_output) (record {
+      rows = tells.rows;
+      rows_are = record { each = tells.each; most = (let same = tells.count in omega (arith, same, lt)) };
+      part = (tells.holds.flushed, tells.holds.appended, (pending, tells.holds.joined));
     })
 
--- rows from the position to which a machine was taken
-pub told_from : {E : Type 0} (drawn : Bool) (m : Standing) (from count : ℕ) (r : Result (Vec Row Global) E)
-    → IfOk r (λ rows. AreRows drawn (at_position m from) from count rows.items)
-    → IfOk r (λ rows. AreRows drawn m from count rows.items)
-told_from drawn m from count (Ok rows) h = record { each = h.each; most = h.most; whole = h.whole }
-told_from drawn m from count (Err e) h = tt
+-- all positions were told that were asked for
+pub told_all : (drawn : Bool) (start now : Standing) (from n count : ℕ) (before at : Output) (pending : List ℕ)
+    → n ≡ count → now ≡ at_position start (from + n) → Tells drawn start from n before at pending
+    → (rows : List Row) × HasTable drawn start from count before at pending rows
+    × (now.position ≡ from + length rows)
+told_all drawn start now from n count before at pending all is tells =
+    let same = tells.count in
+    let there : now.position ≡ from + n = ap (λ (m : Standing). m.position) is in (
+      tells.rows,
+      record {
+        rows_are = record {
+          each = tells.each;
+          most = omega (arith, same, all);
+          whole = λ fewer. absurd (omega (arith, fewer, same, all));
+        };
+        holds = tells.holds;
+      },
+      omega (arith, there, same),
+    )
+
+-- no position was told, since the run is over before the first
+pub told_nowhere : (drawn : Bool) (start : Standing) (from count : ℕ) (out : Output) (pending : List ℕ)
+    → pending ≡ head drawn → depth_of (at_position start from) ≡ 0
+    → (rows : List Row) × HasTable drawn start from count out out pending rows
+    × (depth_of (at_position start (from + length rows)) ≡ 0)
+told_nowhere drawn start from count out pending is dead =
+    let same : from ≡ from + 0 = omega arith in
+    let there : depth_of (at_position start (from + 0)) ≡ 0 =
+    subst (λ p. depth_of (at_position start p) ≡ 0) same dead in (
+      [],
+      record {
+        rows_are = record { each = λ i row e. cc; most = omega arith; whole = λ fewer. there };
+        holds = holds_all out pending (table start.unit drawn []) (is ∙ sym (append-nil (head drawn)));
+      },
+      there,
+    )
+
+-- ---- a trace from a position to which a machine was taken
+
+-- where it is taken to, it stands
+pub stands : (start m : Standing) (from : ℕ) → m ≡ at_position start from → m ≡ at_position m (from + 0)
+stands start m from is =
+    let there : m.position ≡ from = ap (λ (m : Standing). m.position) is in
+    let same : m.position ≡ from + 0 = omega (arith, there) in
+    ap (λ p. at_position m p) same
+
+abbrev PartFrom : Bool → Standing → ℕ → ℕ → Output → Output → Standing → Type 0
+PartFrom drawn start from count before now m =
+    HasPart drawn m from count before now → HasPart drawn start from count before now
+
+pub part_there : (drawn : Bool) (start m : Standing) (from count : ℕ) (before now : Output) → m ≡ at_position start from
+    → HasPart drawn m from count before now → HasPart drawn start from count before now
+part_there drawn start m from count before now is =
+    subst (PartFrom drawn start from count before now) (sym is) (λ h. record {
+      rows = h.rows;
+      rows_are = record { each = h.rows_are.each; most = h.rows_are.most };
+      part = h.part;
+    })
+
+abbrev TableFrom : Bool → Standing → ℕ → ℕ → Output → Output → List ℕ → List Row → Standing → Type 0
+TableFrom drawn start from count before now pending rows m =
+    HasTable drawn m from count before now pending rows → HasTable drawn start from count before now pending rows
+
+pub table_there : (drawn : Bool) (start m : Standing) (from count : ℕ) (before now : Output) (pending : List ℕ)
+    (rows : List Row)
+    → m ≡ at_position start from
+    → HasTable drawn m from count before now pending rows → HasTable drawn start from count before now pending rows
+table_there drawn start m from count before now pending rows is =
+    subst (TableFrom drawn start from count before now pending rows) (sym is) (λ h. record {
+      rows_are = record { each = h.rows_are.each; most = h.rows_are.most; whole = h.rows_are.whole };
+      holds = h.holds;
+    })
+
+-- no frame is alive at a position of either
+pub dead_there : (start m : Standing) (from p : ℕ) → m ≡ at_position start from → depth_of (at_position m p) ≡ 0
+    → depth_of (at_position start p) ≡ 0
+dead_there start m from p is dead = subst (λ (m : Standing). depth_of (at_position m p) ≡ 0) is dead

@@ -1,10 +1,10 @@
 -- What each command writes and tells of a text.
-use Rattle.std.specs.Prelude.{◌≡◌, ◌⊎◌, ℕ, Bool, List, []}
+use Rattle.std.specs.Prelude.{◌≡◌, ◌<◌, ◌⊎◌, ◌+◌, ◌++◌, ℕ, Bool, List, [], codes, decimal, length}
 use Rattle.pl0_tree.specs.declared.tree.Place.{Place}
 use Rattle.pl0_tree.specs.declared.fault.FaultKind.{FaultKind}
 use Rattle.pl0_tree.specs.Faults.{IsFirstFault}
 use Rattle.pl0_unit.specs.declared.unit.Unit.{Unit as Compiled}
-use Rattle.pl0_machine.specs.Machine.{Standing}
+use Rattle.pl0_machine.specs.Machine.{Standing, depth_of}
 use Rattle.pl0_mistakes.specs.Lines.{mistake_line}
 use Rattle.byte_streams.specs.Streams.{Output}
 use Rattle.pl0_tool.specs.declared.arguments.Task.{Task}
@@ -13,14 +13,16 @@ use Rattle.pl0_tool.specs.declared.report.Ending.{Ending}
 use Rattle.pl0_tool.specs.declared.report.Ending.TheVariants.{Success, Fault, Mistake, Unwritten}
 use Rattle.pl0_tool.specs.declared.report.Report.{Report}
 use Rattle.pl0_tool.specs.declared.running.RunEnd.{RunEnd}
-use Rattle.pl0_tool.specs.declared.running.RunEnd.TheVariants.{Ended, Faulted, WriteFailed}
+use Rattle.pl0_tool.specs.declared.running.RunEnd.TheVariants.{Ended, Faulted, FaultedUnwritten, WriteFailed}
 use Rattle.pl0_tool.specs.Loading.{IsProgramOf}
 use Rattle.pl0_tool.specs.Running.{HasRun}
 use Rattle.pl0_tool.specs.Faulting.{fault_report}
 use Rattle.pl0_tool.specs.Listing.{listing}
-use Rattle.pl0_tool.specs.Table.{table}
-use Rattle.pl0_tool.specs.Tracing.{AreRows}
+use Rattle.pl0_tool.specs.Traced.{HasPart, HasTable}
+use Rattle.pl0_tool.specs.Tracing.{at_position}
 use Rattle.pl0_tool.specs.declared.tracing.Row.{Row}
+use Rattle.pl0_tool.specs.declared.tracing.TraceEnd.{TraceEnd}
+use Rattle.pl0_tool.specs.declared.tracing.TraceEnd.TheVariants.{GoesOn, WriteFailed as TraceUnwritten}
 
 -- a report of these bytes, and of a command that ends so
 abbrev pub IsReport : List ℕ → List ℕ → Ending → Report → Type 0
@@ -32,12 +34,14 @@ IsReport output errors ending report =
 abbrev pub end_ending : RunEnd → Ending
 end_ending Ended = Success
 end_ending (Faulted fault) = Fault
+end_ending (FaultedUnwritten fault) = Unwritten
 end_ending WriteFailed = Unwritten
 
 -- what is told of a run that ended where a machine stands
 abbrev pub end_errors : List ℕ → Standing → RunEnd → List ℕ
 end_errors file m Ended = []
 end_errors file m (Faulted fault) = fault_report file m fault
+end_errors file m (FaultedUnwritten fault) = fault_report file m fault
 end_errors file m WriteFailed = []
 
 -- the run from a machine's position on was written, and it is told how it ended
@@ -48,10 +52,32 @@ RunTells file start report before after =
 
 -- ---- a trace
 
--- the table of positions of the run is the output
-abbrev pub TraceTells : Bool → Standing → ℕ → ℕ → Report → Type 0
-TraceTells drawn start from steps report =
-    (rows : List Row) × AreRows drawn start from steps rows × (report.output.items ≡ table start.unit drawn rows)
+abbrev pub goes_on_line : ℕ → List ℕ
+goes_on_line position = codes "pl0: the run goes on at position " ++ (decimal position ++ codes "\n")
+
+-- Positions of the run were told: the first part of their table was written, and the rest is the output. Where the run
+-- goes on after them, that is told.
+pub record TableTells (drawn : Bool) (start : Standing) (from steps : ℕ) (report : Report) (before after : Output)
+    : Type 0 where
+  pub rows : List Row
+  pub has : HasTable drawn start from steps before after report.output.items rows
+  pub onward : 0 < depth_of (at_position start (from + length rows))
+      → report.errors.items ≡ goes_on_line (from + length rows)
+
+-- the output failed in the table
+abbrev pub TableFails : Bool → Standing → ℕ → ℕ → Report → Output → Output → Type 0
+TableFails drawn start from steps report before after =
+    HasPart drawn start from steps before after × (before.failures < after.failures) × IsReport [] [] Unwritten report
+
+abbrev pub TraceTells : Bool → Standing → ℕ → ℕ → Report → Output → Output → Type 0
+TraceTells drawn start from steps report before after =
+    TableTells drawn start from steps report before after ⊎ TableFails drawn start from steps report before after
+
+-- a report of what is pending of the table, by how the trace ended where a machine stands
+abbrev pub IsTraceReport : TraceEnd → Standing → List ℕ → Report → Type 0
+IsTraceReport GoesOn m pending report = IsReport pending (goes_on_line m.position) Success report
+IsTraceReport TraceUnwritten m pending report = IsReport [] [] Unwritten report
+IsTraceReport end m pending report = report.output.items ≡ pending
 
 -- ---- a text
 
@@ -67,7 +93,7 @@ MistakeTells file text report =
 abbrev pub ProgramTells : Task → List ℕ → Compiled → Report → Output → Output → Type 0
 ProgramTells Run file unit report before after = RunTells file (start_of unit) report before after
 ProgramTells (Trace from steps drawn) file unit report before after =
-    TraceTells drawn (start_of unit) from steps report × (after ≡ before)
+    TraceTells drawn (start_of unit) from steps report before after
 ProgramTells Check file unit report before after = IsReport [] [] Success report × (after ≡ before)
 ProgramTells Listing file unit report before after = IsReport (listing unit) [] Success report × (after ≡ before)
 
@@ -87,14 +113,19 @@ WritesRun start before after = (end : RunEnd) × (last : Standing) × HasRun end
 abbrev pub StartWrites : Compiled → Output → Output → Type 0
 StartWrites unit before after = (after ≡ before) ⊎ WritesRun (start_of unit) before after
 
+-- a part of a trace of a program was written, or nothing
+abbrev pub StartTraces : Bool → Compiled → ℕ → ℕ → Output → Output → Type 0
+StartTraces drawn unit from steps before after =
+    (after ≡ before) ⊎ HasPart drawn (start_of unit) from steps before after
+
 -- what a task writes of a program
 abbrev pub ProgramWrites : Task → Compiled → Output → Output → Type 0
 ProgramWrites Run unit before after = StartWrites unit before after
-ProgramWrites (Trace from steps drawn) unit before after = after ≡ before
+ProgramWrites (Trace from steps drawn) unit before after = StartTraces drawn unit from steps before after
 ProgramWrites Check unit before after = after ≡ before
 ProgramWrites Listing unit before after = after ≡ before
 
--- nothing was written of a text, or the run of its program
+-- nothing was written of a text, or the run of its program, or a part of its trace
 abbrev pub WritesNumbers : Task → List ℕ → Output → Output → Type 0
 WritesNumbers task text before after =
     (after ≡ before) ⊎ ((unit : Compiled) × IsProgramOf text unit × ProgramWrites task unit before after)

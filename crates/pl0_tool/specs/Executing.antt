@@ -1,5 +1,5 @@
 -- What the program does with its arguments, and what it tells of that.
-use Rattle.std.specs.Prelude.{◌≡◌, ◌≢◌, ◌⊎◌, ◌<◌, Bool, true, false, ℕ, List, [], ◌∷◌, ◌++◌, map, codes, Result, Ok, Err, string_bytes}
+use Rattle.std.specs.Prelude.{◌≡◌, ◌≢◌, ◌⊎◌, ◌<◌, Bool, false, ℕ, List, [], ◌∷◌, ◌++◌, map, codes, Result, Ok, Err, string_bytes}
 use Rattle.std.specs.IoError.{error_kind}
 use Rattle.std.specs.Vec.Iter.{into_iter_items}
 use Rattle.std.specs.declared.alloc.Global.{Global}
@@ -12,10 +12,10 @@ use Rattle.std.specs.declared.vec.Vec.{Vec}
 use Rattle.clap.specs.Words.{Text, IsAmong, fault_of}
 use Rattle.clap.specs.declared.error.kind.ErrorKind.{ErrorKind as Refusal}
 use Rattle.clap.specs.declared.error.kind.ErrorKind.TheVariants.{DisplayHelp, DisplayVersion}
-use Rattle.byte_streams.specs.declared.beginning.ReadFault.{ReadFault}
-use Rattle.byte_streams.specs.declared.beginning.ReadFault.TheVariants.{CannotRead, NoMemory}
 use Rattle.byte_streams.specs.Beginning.{BeginsWith}
 use Rattle.byte_streams.specs.Streams.{Output, Says, Supply}
+use Rattle.pl0_tool.specs.declared.files.FileFault.{FileFault}
+use Rattle.pl0_tool.specs.declared.files.FileFault.TheVariants.{CannotRead, Folder, Forbidden, Missing, NoMemory}
 use Rattle.pl0_tool.specs.declared.arguments.Request.{Request}
 use Rattle.pl0_tool.specs.declared.arguments.Task.{Task}
 use Rattle.pl0_tool.specs.declared.report.Ending.{Ending}
@@ -46,10 +46,17 @@ abbrev pub IsUnasked : List Text → Report → Type 0
 IsUnasked arguments report =
     (kind : Refusal) × IsAmong kind (fault_of command_line arguments) × IsToldFor kind report
 
+-- why a file can't be read, as far as it is known
+abbrev pub reason : FileFault → List ℕ
+reason Missing = codes ": there is no such file"
+reason Folder = codes ": it is a folder"
+reason Forbidden = codes ": it is not allowed"
+reason fault = []
+
 -- the lines for a file that can't be read, for memory that ran out, for an argument that is not text, and for an output
 -- that failed
-abbrev pub unread_line : Text → List ℕ
-unread_line name = codes "pl0: cannot read " ++ (name ++ codes "\n")
+abbrev pub unread_line : Text → FileFault → List ℕ
+unread_line name fault = codes "pl0: cannot read " ++ (name ++ (reason fault ++ codes "\n"))
 
 abbrev pub memory_line : List ℕ
 memory_line = codes "pl0: no memory\n"
@@ -68,18 +75,19 @@ ClosesWith ending unread errors later_errors = later_errors ≡ errors
 -- ---- a text
 
 -- What reading an input gave: its beginning; or nothing, where a read failed or memory ran out.
-abbrev pub HasRead : Result (List ℕ) ReadFault → Supply → Supply → Type 0
+abbrev pub HasRead : Result (List ℕ) FileFault → Supply → Supply → Type 0
 HasRead (Ok text) old later = BeginsWith text old.left later.left × (later.failures ≡ old.failures)
 HasRead (Err CannotRead) old later = old.failures < later.failures
 HasRead (Err NoMemory) old later = later.failures ≡ old.failures
+HasRead (Err fault) old later = ⊥
 
 -- what a task writes of a text, where memory runs out
-abbrev pub WritesOf : Task → Result (List ℕ) ReadFault → Output → Output → Type 0
+abbrev pub WritesOf : Task → Result (List ℕ) FileFault → Output → Output → Type 0
 WritesOf task (Ok text) before after = WritesNumbers task text before after
 WritesOf task (Err fault) before after = after ≡ before
 
 -- the text that was read, as plain data
-abbrev pub plain_text : Result (Vec ℕ Global) ReadFault → Result (List ℕ) ReadFault
+abbrev pub plain_text : Result (Vec ℕ Global) FileFault → Result (List ℕ) FileFault
 plain_text (Ok text) = Ok text.items
 plain_text (Err fault) = Err fault
 
@@ -88,16 +96,16 @@ abbrev pub files_of : Request → List Text
 files_of asked = map (λ file. file.now) asked.files.items
 
 -- By `opens` files are opened by their names, and by `supply_of` it is known what an open file has left to read.
-module _ {Files File : Type 0} (opens : Files → Text → Result File ReadFault → Files → Type 0)
+module _ {Files File : Type 0} (opens : Files → Text → Result File FileFault → Files → Type 0)
     (supply_of : File → Supply) where
   -- The file of this name was opened and read, or it couldn't be opened.
-  abbrev pub ReadsFile : Text → Result (List ℕ) ReadFault → Files → Files → Type 0
+  abbrev pub ReadsFile : Text → Result (List ℕ) FileFault → Files → Files → Type 0
   ReadsFile name read old later =
       ((file : File) × opens old name (Ok file) later × ((left : Supply) × HasRead read (supply_of file) left))
-      ⊎ ((fault : ReadFault) × opens old name (Err fault) later × (read ≡ Err fault))
+      ⊎ ((fault : FileFault) × opens old name (Err fault) later × (read ≡ Err fault))
 
   -- The name `-` stands for the input, and each other name for a file.
-  abbrev pub Reads : Text → Result (List ℕ) ReadFault → Origins Files → Origins Files → Type 0
+  abbrev pub Reads : Text → Result (List ℕ) FileFault → Origins Files → Origins Files → Type 0
   Reads name read old later =
       ((name ≡ codes "-") × HasRead read old.input later.input × (later.files ≡ old.files))
       ⊎ ((name ≢ codes "-") × ReadsFile name read old.files later.files × (later.input ≡ old.input))
@@ -113,29 +121,30 @@ module _ {Files File : Type 0} (opens : Files → Text → Result File ReadFault
 
   -- A file can't be read. It is told, and nothing is written.
   pub record CannotDo (name : Text) (one : Report) (old later : Origins Files) (before after : Output) : Type 0 where
-    pub reads : Reads name (Err CannotRead) old later
-    pub tells : IsReport [] (unread_line name) Failure one
+    pub fault : FileFault
+    pub reads : Reads name (Err fault) old later
+    pub no_memory : fault ≢ NoMemory
+    pub tells : IsReport [] (unread_line name fault) Failure one
     pub kept : after ≡ before
 
   -- Memory ran out at a file. Of its text nothing was written, or the numbers of its run.
   pub record RunsOut (task : Task) (name : Text) (old later : Origins Files) (before after : Output) : Type 0 where
-    pub read : Result (List ℕ) ReadFault
+    pub read : Result (List ℕ) FileFault
     pub reads : Reads name read old later
     pub writes : WritesOf task read before after
 
   -- A file was done, or it can't be read, and that was put behind what was told before.
-  abbrev pub Adds : Bool → Task → Text → Report → Report → Origins Files → Origins Files → Output → Output → Type 0
-  Adds true task name first sum old later before after =
-      (one : Report) × Does task name one old later before after × IsSum first one sum
-  Adds false task name first sum old later before after =
-      (one : Report) × CannotDo name one old later before after × IsSum first one sum
+  abbrev pub Adds : Task → Text → Report → Report → Origins Files → Origins Files → Output → Output → Type 0
+  Adds task name first sum old later before after =
+      (one : Report) × (Does task name one old later before after ⊎ CannotDo name one old later before after)
+      × IsSum first one sum
 
-  -- The task was done with each of these files, in their order, and this is told of them together.
+  -- The task was done with each of these files that can be read, in their order, and this is told of all together.
   pub data AreDone (task : Task) (old : Origins Files) (before : Output)
       : List Text → Report → Origins Files → Output → Type 0 where
     none : (report : Report) → IsReport [] [] Success report → AreDone task old before [] report old before
     next : (names : List Text) (name : Text) (first sum : Report) (mid later : Origins Files) (out after : Output)
-        → AreDone task old before names first mid out → Adds true task name first sum mid later out after
+        → AreDone task old before names first mid out → Adds task name first sum mid later out after
         → AreDone task old before (names ++ (name ∷ [])) sum later after
 
   -- Files before one, and what was told of them.
@@ -149,12 +158,6 @@ module _ {Files File : Type 0} (opens : Files → Text → Result File ReadFault
     pub out : Output
     pub are_done : AreDone task old before done first mid out
 
-  -- All files were done, or those before the first one that can't be read, with which the command ends.
-  abbrev pub Answers : Task → List Text → Report → Origins Files → Origins Files → Output → Output → Type 0
-  Answers task names report old later before after =
-      AreDone task old before names report later after
-      ⊎ ((b : Before task names old before) × Adds false task b.name b.first report b.mid later b.out after)
-
   -- Memory ran out at one of the files.
   abbrev pub GivesUp : Task → List Text → Origins Files → Origins Files → Output → Output → Type 0
   GivesUp task names old later before after =
@@ -165,7 +168,8 @@ module _ {Files File : Type 0} (opens : Files → Text → Result File ReadFault
   -- This is to be told of what the arguments ask for, which was done.
   abbrev pub Comes : List Text → Report → Origins Files → Origins Files → Output → Output → Type 0
   Comes arguments report old later before after =
-      ((asked : Request) × Asks arguments asked × Answers asked.task (files_of asked) report old later before after)
+      ((asked : Request) × Asks arguments asked
+      × AreDone asked.task old before (files_of asked) report later after)
       ⊎ (IsUnasked arguments report × (later ≡ old) × (after ≡ before))
 
   -- Memory ran out: before anything was read and written, or at one of the files.

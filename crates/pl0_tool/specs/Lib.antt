@@ -6,6 +6,7 @@ pub mod Running
 -- the program of a text
 pub mod Loading
 -- what a trace tells
+pub mod Traced
 pub mod Tracing
 -- what is drawn of a machine
 pub mod Drawing

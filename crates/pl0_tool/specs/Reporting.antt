@@ -1,5 +1,5 @@
 -- What a command tells at its end.
-use Rattle.std.specs.Prelude.{◌≡◌, ◌⊎◌, ℕ, ◌++◌}
+use Rattle.std.specs.Prelude.{◌≡◌, ◌⊎◌, ℕ, ◌++◌, nat_lt, if◌then◌else◌}
 use Rattle.byte_streams.specs.Streams.{Output, WritesAll, FailsIn, Says}
 use Rattle.pl0_tool.specs.declared.report.Ending.{Ending}
 use Rattle.pl0_tool.specs.declared.report.Ending.TheVariants.{Success, Fault, Mistake, Failure, Unwritten, NotUnderstood}
@@ -14,10 +14,9 @@ status_of Failure = 3
 status_of Unwritten = 3
 status_of NotUnderstood = 4
 
--- how two commands end, one after the other
+-- how two commands end, one after the other: as the one of the greater status
 abbrev pub joined_ending : Ending → Ending → Ending
-joined_ending first Success = first
-joined_ending first next = next
+joined_ending first next = if nat_lt (status_of first) (status_of next) then next else first
 
 -- what two commands tell, one after the other
 pub record IsSum (first next sum : Report) : Type 0 where

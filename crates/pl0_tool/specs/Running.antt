@@ -1,14 +1,14 @@
 -- What a run of a program writes, and how it ends.
-use Rattle.std.specs.Prelude.{◌≡◌, ◌≤◌, ℕ, List, [], ◌∷◌, ◌++◌, ℤ, Option, option_to_list}
+use Rattle.std.specs.Prelude.{◌≡◌, ◌≤◌, ◌<◌, ℕ, List, [], ◌∷◌, ◌++◌, ℤ, Option, Some, None, option_to_list}
 use Rattle.std.specs.Fmt.{signed_decimal}
 use Rattle.pl0_meaning.specs.Runs.{Goes, Faults, written}
-use Rattle.pl0_machine.specs.Machine.{Standing, program, outcome_of, Stepped}
+use Rattle.pl0_machine.specs.Machine.{Standing, program, depth_of, outcome_of, Stepped}
 use Rattle.pl0_machine.specs.declared.outcome.StepOutcome.{StepOutcome}
 use Rattle.pl0_machine.specs.declared.outcome.StepOutcome.TheVariants.{Went, Done, Fault}
 use Rattle.pl0_machine.specs.Stretches.{ahead}
 use Rattle.byte_streams.specs.Streams.{Output, WritesAll, FailsIn}
 use Rattle.pl0_tool.specs.declared.running.RunEnd.{RunEnd}
-use Rattle.pl0_tool.specs.declared.running.RunEnd.TheVariants.{Ended, Faulted, WriteFailed}
+use Rattle.pl0_tool.specs.declared.running.RunEnd.TheVariants.{Ended, Faulted, FaultedUnwritten, WriteFailed}
 
 -- the numbers, each on a line of its own
 abbrev pub number_lines : List ℤ → List ℕ
@@ -40,7 +40,8 @@ abbrev pub IsLast : Standing → Type 0
 IsLast m = (number : Option ℤ) × (outcome_of m ≡ Goes number [])
 
 -- From old the machine came to new, which is the end of the program, a step that faults, or where the output failed.
--- The numbers that the steps between wrote were written as lines; where the output failed, a prefix of them.
+-- The numbers that the steps between wrote were written as lines; where the output failed, a prefix of them. Where it
+-- fails at the end, the fault is known.
 abbrev pub HasRun : RunEnd → Standing → Standing → Output → Output → Type 0
 HasRun Ended old new before after =
     (last : Standing) × (steps : ℕ) × (last ≡ ahead old steps) × IsLast last × (new ≡ ahead last 1)
@@ -48,5 +49,26 @@ HasRun Ended old new before after =
 HasRun (Faulted fault) old new before after =
     (steps : ℕ) × (new ≡ ahead old steps) × (outcome_of new ≡ Faults fault)
     × WritesAll (lines_between old new) before after
+HasRun (FaultedUnwritten fault) old new before after =
+    (steps : ℕ) × (new ≡ ahead old steps) × (outcome_of new ≡ Faults fault)
+    × FailsIn (lines_between old new) before after
 HasRun WriteFailed old new before after =
     (steps : ℕ) × (new ≡ ahead old steps) × FailsIn (lines_between old new) before after
+
+-- ---- slices
+
+-- how many steps are taken at most until all that they wrote is written
+abbrev pub slice_steps : ℕ
+slice_steps = 1048576
+
+-- A slice of a run is over, and the run goes on: all that its steps wrote was written.
+pub record RunsOn (old new : Standing) (before after : Output) : Type 0 where
+  pub steps : ℕ
+  pub led : new ≡ ahead old steps
+  pub running : 0 < depth_of new
+  pub wrote : WritesAll (lines_between old new) before after
+
+-- a slice after which the run goes on, or with which it ended
+abbrev pub HasRunSlice : Option RunEnd → Standing → Standing → Output → Output → Type 0
+HasRunSlice None old new before after = RunsOn old new before after
+HasRunSlice (Some end) old new before after = HasRun end old new before after

@@ -65,3 +65,8 @@ pub record AreRows (drawn : Bool) (m : Standing) (from count : ℕ) (rows : List
   pub each : (i : ℕ) (row : Row) → slice_get rows i ≡ Some row → IsRow drawn (at_position m (from + i)) row
   pub most : length rows ≤ count
   pub whole : length rows < count → depth_of (at_position m (from + length rows)) ≡ 0
+
+-- the first of these rows
+pub record AreFirstRows (drawn : Bool) (m : Standing) (from count : ℕ) (rows : List Row) : Type 0 where
+  pub each : (i : ℕ) (row : Row) → slice_get rows i ≡ Some row → IsRow drawn (at_position m (from + i)) row
+  pub most : length rows ≤ count

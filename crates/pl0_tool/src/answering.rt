@@ -2,17 +2,17 @@
 
 ghost use Rattle.std.specs.Prelude.{MatchResult};
 ghost use Rattle.byte_streams.specs.Streams.{output as output_at, supply};
-ghost use Rattle.pl0_tool.specs.Executing.{Adds, Answers, GivesUp, Reads, RunsOut, files_of, origins, plain_text};
+ghost use Rattle.pl0_tool.specs.Executing.{Adds, AreDone, GivesUp, HasRead, Reads, RunsOut, files_of, origins, plain_text};
 
 use crate::arguments::{Request, Task};
 use crate::commands::{nothing_told, perform};
-use crate::files::Opener;
+use crate::files::{FileFault, Opener};
 use crate::report::{Ending, Report};
 use byte_streams::{ReadFault, Sink, Source, read_beginning};
 use std::alloc::{AllocError, Global};
 use std::sync::Wait;
 
-/// Does what is asked for with each file, up to the first that can't be read, and returns what is to be told of all.
+/// Does what is asked for with each file that can be read, and returns what is to be told of all.
 pub(crate) fn answer<R, F, I, O>(
     rt: &R,
     request: &Request<'_>,
@@ -27,11 +27,10 @@ where
     I: Source,
     O: Sink,
     ensures { MatchResult result
-        (λ report. Answers F.opens (λ file. supply (F.File.left file) (F.File.failures file))
-        request.now.task (files_of request.now) report
+        (λ report. AreDone F.opens (λ file. supply (F.File.left file) (F.File.failures file)) request.now.task
         (origins files.old (supply (I.left input.old) (I.failures input.old)))
+        (output_at (O.written output.old) (O.failures output.old)) (files_of request.now) report
         (origins files.new (supply (I.left input.new) (I.failures input.new)))
-        (output_at (O.written output.old) (O.failures output.old))
         (output_at (O.written output.new) (O.failures output.new)))
         (λ _. GivesUp F.opens (λ file. supply (F.File.left file) (F.File.failures file))
         request.now.task (files_of request.now)
@@ -45,16 +44,14 @@ where
     let mut report = nothing_told(rt.alloc());
     for name in names {
         match add_answer(rt, task, name, files, input, output, room, &mut report) {
-            Ok(true) => {}
-            Ok(false) => return Ok(report),
+            Ok(()) => {}
             Err(AllocError) => return Err(AllocError),
         }
     }
     Ok(report)
 }
 
-/// Does a task with the text of one file, and puts what is to be told of it behind `report`. Returns whether the file could be
-/// read.
+/// Does a task with the text of one file, and puts what is to be told of it, or that the file can't be read, behind `report`.
 fn add_answer<R, F, I, O>(
     rt: &R,
     task: Task,
@@ -64,15 +61,14 @@ fn add_answer<R, F, I, O>(
     output: &mut O,
     room: usize,
     report: &mut Report,
-) -> Result<bool, AllocError>
+) -> Result<(), AllocError>
 where
     R: Wait + AllocGlobal,
     F: Opener,
     I: Source,
     O: Sink,
     ensures { MatchResult result
-        (λ could. Adds F.opens (λ file. supply (F.File.left file) (F.File.failures file))
-        could task name.now report.old report.new
+        (λ _. Adds F.opens (λ file. supply (F.File.left file) (F.File.failures file)) task name.now report.old report.new
         (origins files.old (supply (I.left input.old) (I.failures input.old)))
         (origins files.new (supply (I.left input.new) (I.failures input.new)))
         (output_at (O.written output.old) (O.failures output.old))
@@ -87,27 +83,44 @@ where
     match text_of(rt, files, input, name) {
         Ok(text) => {
             report.add(perform(rt, alloc, task, name, text.as_slice(), output, room)?)?;
-            Ok(true)
+            Ok(())
         }
-        Err(ReadFault::NoMemory) => Err(AllocError),
-        Err(ReadFault::CannotRead) => {
-            report.add(unread(alloc, name)?)?;
-            Ok(false)
+        Err(fault) => {
+            report.add(unread(alloc, name, fault)?)?;
+            Ok(())
         }
     }
 }
 
-ghost use Rattle.std.specs.Prelude.{IfOk, []};
+ghost use Rattle.std.specs.Prelude.{◌≡◌, ◌≢◌, IfOk, []};
+ghost use Rattle.pl0_tool.specs.declared.files.FileFault.TheVariants.{NoMemory};
 ghost use Rattle.pl0_tool.specs.declared.report.Ending.TheVariants.{Failure};
 ghost use Rattle.pl0_tool.specs.Commands.{IsReport};
-ghost use Rattle.pl0_tool.specs.Executing.{unread_line};
+ghost use Rattle.pl0_tool.specs.Executing.{reason, unread_line};
 
-/// Returns what is told of a file that can't be read.
-fn unread(alloc: Global, name: &str) -> Result<Report, AllocError>
-    ensures { IfOk result (IsReport [] (unread_line name.now) Failure) }
+/// Returns what is told of a file that can't be read. Where memory ran out at it, nothing is.
+fn unread(alloc: Global, name: &str, fault: FileFault) -> Result<Report, AllocError>
+    ensures told { IfOk result (IsReport [] (unread_line name.now fault) Failure) }
+    ensures memory { IfOk result (λ _. fault ≢ NoMemory) }
 {
-    let line = format!(in alloc; "pl0: cannot read {name}\n")?;
+    if fault == FileFault::NoMemory {
+        return Err(AllocError);
+    }
+    let reason = reason(fault);
+    let line = format!(in alloc; "pl0: cannot read {name}{reason}\n")?;
     Ok(Report::new(Vec::new(alloc), line.into_bytes(), Ending::Failure))
+}
+
+/// Returns what says why a file can't be read; nothing where that isn't known.
+fn reason(fault: FileFault) -> &'static str
+    ensures { result.now ≡ reason fault }
+{
+    match fault {
+        FileFault::Missing => ": there is no such file",
+        FileFault::Folder => ": it is a folder",
+        FileFault::Forbidden => ": it is not allowed",
+        FileFault::CannotRead | FileFault::NoMemory => "",
+    }
 }
 
 /// Returns the text of a file, or that of the input for `-`.
@@ -116,16 +129,28 @@ fn text_of<R: Wait + AllocGlobal, F: Opener, I: Source>(
     files: &mut F,
     input: &mut I,
     name: &str,
-) -> Result<Vec<u8>, ReadFault>
+) -> Result<Vec<u8>, FileFault>
     ensures { Reads F.opens (λ file. supply (F.File.left file) (F.File.failures file)) name.now (plain_text result)
         (origins files.old (supply (I.left input.old) (I.failures input.old)))
         (origins files.new (supply (I.left input.new) (I.failures input.new))) }
 {
     if name == "-" {
-        return read_beginning(rt, rt.alloc(), input);
+        return text_in(rt, input);
     }
     match files.open(name) {
-        Ok(mut file) => read_beginning(rt, rt.alloc(), &mut file),
+        Ok(mut file) => text_in(rt, &mut file),
         Err(fault) => Err(fault),
+    }
+}
+
+/// Returns the text that a source has.
+fn text_in<R: Wait + AllocGlobal, I: Source>(rt: &R, source: &mut I) -> Result<Vec<u8>, FileFault>
+    ensures { HasRead (plain_text result)
+        (supply (I.left source.old) (I.failures source.old)) (supply (I.left source.new) (I.failures source.new)) }
+{
+    match read_beginning(rt, rt.alloc(), source) {
+        Ok(text) => Ok(text),
+        Err(ReadFault::CannotRead) => Err(FileFault::CannotRead),
+        Err(ReadFault::NoMemory) => Err(FileFault::NoMemory),
     }
 }

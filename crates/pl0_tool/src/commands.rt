@@ -1,10 +1,11 @@
 //! The commands: what each one makes of a text.
 
-ghost use Rattle.std.specs.Prelude.{◌≡◌, ◌<◌, ◌≤◌, [], IfOk, MatchResult};
+ghost use Rattle.std.specs.Prelude.{◌≡◌, ◌<◌, [], IfOk, MatchResult, string_bytes};
 ghost use Rattle.pl0_machine.specs.Machine.{depth_of};
 ghost use Rattle.byte_streams.specs.Streams.{output as output_at};
 ghost use Rattle.pl0_tool.specs.Commands.{Tells, ProgramTells, RunTells, TraceTells, IsReport, start_of};
-ghost use Rattle.pl0_tool.specs.Commands.{WritesNumbers, ProgramWrites, StartWrites, WritesRun};
+ghost use Rattle.pl0_tool.specs.Commands.{WritesNumbers, ProgramWrites, StartTraces, StartWrites, WritesRun};
+ghost use Rattle.pl0_tool.specs.Commands.{IsTraceReport, goes_on_line};
 ghost use Rattle.pl0_tool.specs.Listing.{listing};
 ghost use Rattle.pl0_tool.specs.declared.report.Ending.TheVariants.{Success};
 
@@ -13,9 +14,9 @@ use crate::fault::fault_report;
 use crate::listing::listing;
 use crate::report::{Ending, Report};
 use crate::running::{RunEnd, run_machine};
-use crate::table::table;
+use crate::table::head;
 use crate::text::load;
-use crate::tracing::trace;
+use crate::tracing::{TraceEnd, trace};
 use byte_streams::Sink;
 use pl0_machine::{Machine, StepOutcome};
 use pl0_mistakes::mistake_line;
@@ -24,12 +25,12 @@ use pl0_unit::Unit;
 use std::alloc::{AllocError, Global};
 use std::sync::{Arc, Wait};
 
-/// Does a task with a text, and returns what is still to be told of it. A run has written its numbers then, of which up
-/// to `room` bytes at a time are kept until they are written together.
+/// Does a task with a text, and returns what is still to be told of it. A run has written its numbers then, and a trace the
+/// first rows of its table, of which up to `room` bytes at a time are kept until they are written together.
 ///
 /// # Errors
 ///
-/// `AllocError`, where an allocation failed. Nothing was written then, or the numbers of the run.
+/// `AllocError`, where an allocation failed. Nothing was written then, or numbers of the run, or a part of the trace.
 pub fn perform<O: Sink>(
     rt: &impl Wait,
     alloc: Global,
@@ -80,7 +81,7 @@ fn perform_program<O: Sink>(
         Task::List => list_program(alloc, &unit),
         Task::Run => run_program(rt, alloc, file, unit, output, room),
         Task::Trace { from, steps, drawn } => {
-            trace_program(rt, alloc, file, unit, from, steps, drawn)
+            trace_program(rt, alloc, file, unit, from, steps, drawn, output, room)
         }
     }
 }
@@ -122,7 +123,7 @@ fn run_program<O: Sink>(
 }
 
 /// Tells some positions of a program's run.
-fn trace_program(
+fn trace_program<O: Sink>(
     rt: &impl Wait,
     alloc: Global,
     file: &str,
@@ -130,15 +131,31 @@ fn trace_program(
     from: u64,
     steps: usize,
     drawn: bool,
+    output: &mut O,
+    room: usize,
 ) -> Result<Report, AllocError>
-    ensures { IfOk result (TraceTells drawn (start_of unit) from steps) }
+    ensures { MatchResult result
+        (λ report. TraceTells drawn (start_of unit) from steps report
+        (output_at (O.written output.old) (O.failures output.old))
+        (output_at (O.written output.new) (O.failures output.new)))
+        (λ _. StartTraces drawn unit from steps
+        (output_at (O.written output.old) (O.failures output.old))
+        (output_at (O.written output.new) (O.failures output.new))) }
 {
-    let unit = Arc::new(alloc, unit)?;
-    let mut machine = Machine::new(alloc, unit.clone()?)?;
-    let rows = trace(rt, alloc, &mut machine, from, steps, drawn)?;
-    let told = table(alloc, &unit, rows.as_slice(), drawn)?;
-    let last = rows.last().map(|row| row.outcome);
-    trace_report(alloc, file, &mut machine, last, told)
+    let mut machine = first_machine(alloc, unit)?;
+    let mut page = Vec::from_slice(alloc, head(drawn).as_bytes())?;
+    let end = trace(
+        rt,
+        alloc,
+        &mut machine,
+        from,
+        steps,
+        drawn,
+        output,
+        &mut page,
+        room,
+    )?;
+    trace_report(alloc, file, &mut machine, end, page)
 }
 
 /// Returns a machine before the first step of a program.
@@ -176,34 +193,64 @@ fn run_whole<O: Sink>(
             let errors = fault_report(alloc, file, machine, fault)?;
             Ok(Report::new(nothing, errors, Ending::Fault))
         }
+        RunEnd::FaultedUnwritten(fault) => {
+            let errors = fault_report(alloc, file, machine, fault)?;
+            Ok(Report::new(nothing, errors, Ending::Unwritten))
+        }
     }
 }
 
-/// Returns a report of what was told of a run, and of where it stopped if it did. `last` is what the last step that was
-/// told did.
+/// Returns a report of what is pending of a table, and of where the run stopped.
 fn trace_report(
     alloc: Global,
     file: &str,
     machine: &mut Machine,
-    last: Option<StepOutcome>,
-    told: Vec<u8>,
+    end: TraceEnd,
+    page: Vec<u8>,
 ) -> Result<Report, AllocError>
-    ensures { IfOk result (λ report. report.output.items ≡ told.items) }
+    ensures { IfOk result (IsTraceReport end machine.old page.items) }
 {
-    let outcome = match last {
-        Some(outcome) => outcome,
-        None if machine.depth() > 0 => machine.step(),
-        None => {
-            let end = machine.position();
-            let line = format!(in alloc; "pl0: the run ends at position {end}\n")?;
-            return Ok(Report::new(told, line.into_bytes(), Ending::Success));
+    match end {
+        TraceEnd::GoesOn => {
+            let line = goes_on_line(alloc, machine.position())?;
+            Ok(Report::new(page, line.into_bytes(), Ending::Success))
         }
-    };
-    match outcome {
-        StepOutcome::Fault(fault) => {
+        TraceEnd::Ended => Ok(Report::new(page, Vec::new(alloc), Ending::Success)),
+        TraceEnd::Faulted(fault) => {
             let errors = fault_report(alloc, file, machine, fault)?;
-            Ok(Report::new(told, errors, Ending::Fault))
+            Ok(Report::new(page, errors, Ending::Fault))
         }
-        _ => Ok(Report::new(told, Vec::new(alloc), Ending::Success)),
+        TraceEnd::Nowhere => nowhere_report(alloc, file, machine, page),
+        TraceEnd::WriteFailed => {
+            let nothing = Vec::new(alloc);
+            Ok(Report::new(nothing, Vec::new(alloc), Ending::Unwritten))
+        }
     }
+}
+
+/// Returns the line that says where a run goes on.
+fn goes_on_line(alloc: Global, position: u64) -> Result<String, AllocError>
+    ensures { IfOk result (λ line. string_bytes line ≡ goes_on_line position) }
+{
+    format!(in alloc; "pl0: the run goes on at position {position}\n")
+}
+
+/// Returns a report of a page, and of where a run ended or faulted before a position.
+fn nowhere_report(
+    alloc: Global,
+    file: &str,
+    machine: &mut Machine,
+    page: Vec<u8>,
+) -> Result<Report, AllocError>
+    ensures { IfOk result (λ report. report.output.items ≡ page.items) }
+{
+    if machine.depth() > 0 {
+        if let StepOutcome::Fault(fault) = machine.step() {
+            let errors = fault_report(alloc, file, machine, fault)?;
+            return Ok(Report::new(page, errors, Ending::Fault));
+        }
+    }
+    let end = machine.position();
+    let line = format!(in alloc; "pl0: the run ends at position {end}\n")?;
+    Ok(Report::new(page, line.into_bytes(), Ending::Success))
 }

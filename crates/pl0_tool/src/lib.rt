@@ -4,9 +4,10 @@
 //! its text, and writes what is to be told, with how that ended. It cites that of [`perform`], which does a task with a text:
 //! of a text that is no program's it tells the first mistake. A run writes the numbers that the program writes by its
 //! meaning, each on a line of its own, up to its end or to the step that faults, or a prefix of them, where the output fails
-//! ([`run_machine`]); of a fault the newest frames are told. [`trace`] tells positions of a run in order, each with the frames,
-//! the step and the number that the meaning has there, and draws the machine, if it is to, as the meaning's frames lie in its
-//! cells. The table of a trace, and a listing, are as defined. [`run`] is all of the program `pl0` but its `main`, which hands
+//! ([`run_machine`]), and at the end of each slice none are kept back ([`run_slice`]); of a fault the newest frames are told.
+//! [`trace`] tells positions of a run in order, each with the frames, the step and the number that the meaning has there, and
+//! draws the machine, if it is to, as the meaning's frames lie in its cells; it writes its table as it goes. The table of a
+//! trace, and a listing, are as defined. [`run`] is all of the program `pl0` but its `main`, which hands
 //! it the arguments, the files and the streams.
 #![tactic(auto)]
 
@@ -31,10 +32,10 @@ mod tracing;
 pub use arguments::Task;
 pub use commands::perform;
 pub use drawing::{Drawing, FrameHead};
-pub use files::{Opener, SystemFiles};
+pub use files::{FileFault, Opener, SystemFiles};
 pub use output::Noticing;
 pub use program::{execute, run};
 pub use report::{Ending, Report};
-pub use running::{RunEnd, run_machine};
+pub use running::{RunEnd, run_machine, run_slice};
 pub use text::load;
-pub use tracing::{FrameRow, Row, trace};
+pub use tracing::{FrameRow, Row, TraceEnd, trace};

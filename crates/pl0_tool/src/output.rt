@@ -106,3 +106,17 @@ pub fn flush<O: Sink>(rt: &impl Wait, output: &mut O, pending: &mut Vec<u8>) -> 
     pending.clear();
     written
 }
+
+/// Writes what is still to be written where that is more than `room` bytes, and returns `false` where the output fails.
+pub fn spill<O: Sink>(rt: &impl Wait, output: &mut O, pending: &mut Vec<u8>, room: usize) -> bool
+    ensures { (before : Output) (text : List ℕ)
+        → Holds before (output_at (O.written output.old) (O.failures output.old)) pending.old.items text
+        → MatchBool result
+        (Holds before (output_at (O.written output.new) (O.failures output.new)) pending.new.items text)
+        (FailsIn text before (output_at (O.written output.new) (O.failures output.new))) }
+{
+    if pending.len() <= room {
+        return true;
+    }
+    flush(rt, output, pending)
+}

@@ -23,7 +23,7 @@ use std::process::ExitCode;
 use std::rt::Clock;
 use std::sync::Wait;
 
-/// How many bytes of numbers are written together, where the output is no terminal.
+/// How many bytes of numbers or rows are written together, where the output is no terminal.
 const ROOM: usize = 65_536;
 
 /// Does what the arguments ask for, as [`execute`] does, and returns the exit code: 0 where all went well, 1 where a run
@@ -149,8 +149,8 @@ where
     }
 }
 
-/// Does what the arguments ask for, the program's name first, and returns how that ended. Of a run's numbers at most `room`
-/// bytes are kept until they are written together; what is told besides is written at the end. A file is read as far as a
+/// Does what the arguments ask for, the program's name first, and returns how that ended. Of a run's numbers, and of the rows
+/// of a trace, at most `room` bytes are kept until they are written together; what is told besides is written at the end. A file is read as far as a
 /// program's text may reach, and one byte more; the name `-` stands for the input. Where memory runs out, that alone is told.
 pub fn execute<R, F, I, O, E>(
     rt: &R,

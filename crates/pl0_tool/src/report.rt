@@ -61,7 +61,7 @@ impl Report {
         }
     }
 
-    /// Puts what another command tells behind this. The ending is that of the other one, unless that was a success.
+    /// Puts what another command tells behind this. The ending is the one of the greater status.
     ///
     /// # Errors
     ///
@@ -71,7 +71,7 @@ impl Report {
     {
         self.output.extend_from_slice(other.output.as_slice())?;
         self.errors.extend_from_slice(other.errors.as_slice())?;
-        if other.ending != Ending::Success {
+        if self.ending.status() < other.ending.status() {
             self.ending = other.ending;
         }
         Ok(())

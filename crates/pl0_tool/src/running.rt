@@ -1,18 +1,17 @@
 //! Running a program.
 
-ghost use Rattle.std.specs.Prelude.{◌≡◌, ◌<◌, ◌⊎◌, ◌++◌, ◌∷◌, [], List, ℕ, MatchBool};
+ghost use Rattle.std.specs.Prelude.{◌≡◌, ◌<◌, ◌≤◌, ◌+◌, ◌⊎◌, ◌++◌, ◌∷◌, [], List, ℕ, None, Some, MatchBool};
 ghost use Rattle.std.specs.Fmt.{signed_decimal};
 ghost use Rattle.pl0_machine.specs.Machine.{depth_of};
 ghost use Rattle.byte_streams.specs.Streams.{Output, WritesAll, FailsIn, output as output_at};
 ghost use Rattle.pl0_tool.specs.Pending.{Holds};
-ghost use Rattle.pl0_tool.specs.Running.{Ran, HasRun};
-ghost use Rattle.pl0_tool.specs.declared.running.RunEnd.TheVariants.{WriteFailed};
+ghost use Rattle.pl0_tool.specs.Running.{HasRun, HasRunSlice, slice_steps};
 
 use crate::output::{flush, put};
 use byte_streams::Sink;
 use itoa::Buffer;
-use pl0_machine::{LAST_POSITION, Machine, StepOutcome};
-use pl0_meaning::RunFault;
+use pl0_machine::{Machine, StepOutcome};
+use pl0_meaning::{RunFault, meaning_laws};
 use std::sync::Wait;
 
 /// How a run ended.
@@ -22,13 +21,19 @@ pub enum RunEnd {
     Ended,
     /// The next step faults.
     Faulted(RunFault),
+    /// The next step faults, and the output failed in the last lines before it.
+    FaultedUnwritten(RunFault),
     /// The output failed.
     WriteFailed,
 }
 
+/// How many steps are taken at most until what is pending is written, so that a run which is stopped from outside keeps
+/// what it wrote before: some milliseconds of them.
+const SLICE: u64 = 1 << 20;
+
 /// Runs a machine to the end of its program, to a step that faults, or until the output fails, and writes each number
 /// on a line of its own. Up to `room` bytes are kept until they are written together, in `pending`, which is empty
-/// then.
+/// then; at the end of each slice ([`run_slice`]) none are.
 pub fn run_machine<O: Sink>(
     rt: &impl Wait,
     machine: &mut Machine,
@@ -42,48 +47,81 @@ pub fn run_machine<O: Sink>(
         (output_at (O.written output.old) (O.failures output.old))
         (output_at (O.written output.new) (O.failures output.new)) }
 {
+    meaning_laws();
+    'slices: for _ in rt.forever() {
+        match run_slice(rt, machine, output, pending, room) {
+            Some(end) => return end,
+            None => {}
+        }
+    }
+    unreachable!()
+}
+
+/// Runs a machine as [`run_machine`] does, for a slice of at most 2^20 steps, and returns `None` where the run goes on.
+/// Nothing is pending then.
+pub fn run_slice<O: Sink>(
+    rt: &impl Wait,
+    machine: &mut Machine,
+    output: &mut O,
+    pending: &mut Vec<u8>,
+    room: usize,
+) -> Option<RunEnd>
+    requires alive { 0 < depth_of machine.old }
+    requires nothing_pending { pending.old.items ≡ [] }
+    ensures ran { HasRunSlice result machine.old machine.new
+        (output_at (O.written output.old) (O.failures output.old))
+        (output_at (O.written output.new) (O.failures output.new)) }
+    ensures within { machine.new.position ≤ machine.old.position + slice_steps }
+    ensures empty { result ≡ None → pending.new.items ≡ [] }
+{
+    let limit = machine.position().saturating_add(SLICE);
     'numbers: for _ in rt.forever() {
-        match run_on(machine) {
-            StepOutcome::Went(None) => {}
-            StepOutcome::Went(Some(number)) => {
+        match machine.run(limit, 0, None) {
+            None => return finish(rt, output, pending, None, RunEnd::WriteFailed),
+            Some(StepOutcome::Went(None)) => {}
+            Some(StepOutcome::Went(Some(number))) => {
                 if !put_line(rt, output, pending, room, number) {
-                    return RunEnd::WriteFailed;
+                    return Some(RunEnd::WriteFailed);
                 }
             }
-            StepOutcome::Done => return finish(rt, output, pending, RunEnd::Ended),
-            StepOutcome::Fault(fault) => {
-                return finish(rt, output, pending, RunEnd::Faulted(fault));
+            Some(StepOutcome::Done) => {
+                let ended = Some(RunEnd::Ended);
+                return finish(rt, output, pending, ended, RunEnd::WriteFailed);
+            }
+            Some(StepOutcome::Fault(fault)) => {
+                let faulted = Some(RunEnd::Faulted(fault));
+                return finish(
+                    rt,
+                    output,
+                    pending,
+                    faulted,
+                    RunEnd::FaultedUnwritten(fault),
+                );
             }
         }
     }
     unreachable!()
 }
 
-/// Runs a machine up to the next step that writes a number, faults or ends the program, and returns what that did.
-fn run_on(machine: &mut Machine) -> StepOutcome
-    requires { 0 < depth_of machine.old }
-    ensures { Ran machine.old machine.new result }
-{
-    if machine.position() == LAST_POSITION {
-        return machine.step();
-    }
-    match machine.run(LAST_POSITION, 0, None) {
-        Some(outcome) => outcome,
-        None => machine.step(),
-    }
-}
-
-/// Writes what is pending at the end of a run, and returns how the run ended, which is `end` unless the output fails.
-fn finish<O: Sink>(rt: &impl Wait, output: &mut O, pending: &mut Vec<u8>, end: RunEnd) -> RunEnd
-    ensures { (before : Output) (text : List ℕ)
+/// Writes what is pending at the end of a slice or of a run, and returns how it ended, which is `end`, or `failed` where
+/// the output fails.
+fn finish<O: Sink>(
+    rt: &impl Wait,
+    output: &mut O,
+    pending: &mut Vec<u8>,
+    end: Option<RunEnd>,
+    failed: RunEnd,
+) -> Option<RunEnd>
+    ensures empty { pending.new.items ≡ [] }
+    ensures written { (before : Output) (text : List ℕ)
         → Holds before (output_at (O.written output.old) (O.failures output.old)) pending.old.items text
         → ((result ≡ end) × WritesAll text before (output_at (O.written output.new) (O.failures output.new)))
-        ⊎ ((result ≡ WriteFailed) × FailsIn text before (output_at (O.written output.new) (O.failures output.new))) }
+        ⊎ ((result ≡ Some failed) × FailsIn text before (output_at (O.written output.new) (O.failures output.new))) }
 {
     if flush(rt, output, pending) {
         end
     } else {
-        RunEnd::WriteFailed
+        Some(failed)
     }
 }
 

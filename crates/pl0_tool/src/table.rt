@@ -28,32 +28,21 @@ const MACHINE_HEAD: &str =
     "position  place    source                          writes       P       B       T
               cell  static link  dynamic link  return address  frame\n";
 
-/// Returns the table of a trace of this program: position, place and source of the step that comes next, the number
-/// that it writes, and the frames before it, with their variables. They stand in the same line, the oldest first, or
-/// under it, the newest first, where the machine is drawn.
-///
-/// # Errors
-///
-/// `AllocError`, where an allocation failed.
-pub fn table(alloc: Global, unit: &Unit, rows: &[Row], drawn: bool) -> Result<Vec<u8>, AllocError>
-    ensures { IfOk result (λ page. page.items ≡ table unit.now drawn rows.now) }
-{
-    let mut page = Vec::from_slice(alloc, head(drawn).as_bytes())?;
-    for row in rows {
-        put_row(alloc, &mut page, unit, row)?;
-    }
-    Ok(page)
-}
-
-/// Returns the head of the table.
-fn head(drawn: bool) -> &'static str
+/// Returns the head of the table of a trace: position, place and source of the step that comes next, the number that it
+/// writes, and the frames before it, with their variables. They stand in the same line, the oldest first, or under it, the
+/// newest first, where the machine is drawn.
+pub fn head(drawn: bool) -> &'static str
     ensures { result.now ≡ head drawn }
 {
     if drawn { MACHINE_HEAD } else { HEAD }
 }
 
 /// Appends what is told of a position.
-fn put_row(alloc: Global, page: &mut Vec<u8>, unit: &Unit, row: &Row) -> Result<(), AllocError>
+///
+/// # Errors
+///
+/// `AllocError`, where an allocation failed.
+pub fn put_row(alloc: Global, page: &mut Vec<u8>, unit: &Unit, row: &Row) -> Result<(), AllocError>
     ensures { OnOk result (page.new.items ≡ page.old.items ++ row_text unit.now row.now) }
 {
     put_step(alloc, page, unit.tree.text.as_slice(), row)?;

@@ -1,11 +1,18 @@
 //! Telling a run position by position.
 
-ghost use Rattle.std.specs.Prelude.{◌≡◌, ◌<◌, ◌≤◌, ℕ, IfOk, MatchBool};
+ghost use Rattle.std.specs.Prelude.{◌≡◌, ◌<◌, ◌≤◌, ℕ, IfOk, MatchBool, MatchResult};
+ghost use Rattle.byte_streams.specs.Streams.{output as output_at};
 ghost use Rattle.pl0_machine.specs.Machine.{program, frame_of, depth_of, variables_of, outcome_of, Stepped};
-ghost use Rattle.pl0_tool.specs.Tracing.{IsFrameRow, AreFrameRows, IsRow, AreRows, at_position, numbers_in};
+ghost use Rattle.pl0_tool.specs.Traced.{HasPart, HasTraced, PutsRow};
+ghost use Rattle.pl0_tool.specs.Tracing.{IsFrameRow, AreFrameRows, IsRow, at_position, numbers_in};
+ghost use Rattle.pl0_tool.specs.Table.{head};
 
 use crate::drawing::{Drawing, draw_if};
+use crate::output::spill;
+use crate::table::put_row;
+use byte_streams::Sink;
 use pl0_machine::{Machine, StepOutcome};
+use pl0_meaning::RunFault;
 use pl0_syntax::block;
 use pl0_tree::{Place, StepKind};
 use pl0_unit::Unit;
@@ -37,29 +44,92 @@ pub struct Row {
     pub outcome: StepOutcome,
 }
 
-/// Tells up to `count` positions of a run, from `from` on, in order. There are fewer only where the run ends or faults.
-/// The machine goes to `from` without telling anything, and then stands at the end, at the step that faults, or behind
-/// what was told.
+/// How a trace ended.
+#[derive(Clone, Copy, Debug, PartialEq, Eq)]
+pub enum TraceEnd {
+    /// As many positions were told as were asked for, and the run goes on at the next one.
+    GoesOn,
+    /// The run ended with the last position that was told.
+    Ended,
+    /// The step of the last position that was told faults.
+    Faulted(RunFault),
+    /// The run ended or faulted before the first position that was asked for.
+    Nowhere,
+    /// The output failed.
+    WriteFailed,
+}
+
+/// Tells up to `count` positions of a run, from `from` on, in order, in a table of which `page` has the head. There are fewer
+/// only where the run ends or faults. Where more than `room` bytes of the table are pending in `page` they are written. The
+/// machine goes to `from` without telling anything, and then stands at the end, at the step that faults, or behind what
+/// was told.
 ///
 /// # Errors
 ///
 /// `AllocError`, where an allocation failed.
-pub fn trace(
+pub fn trace<O: Sink>(
     rt: &impl Wait,
     alloc: Global,
     machine: &mut Machine,
     from: u64,
     count: usize,
     drawn: bool,
-) -> Result<Vec<Row>, AllocError>
+    output: &mut O,
+    page: &mut Vec<u8>,
+    room: usize,
+) -> Result<TraceEnd, AllocError>
     requires alive { 0 < depth_of machine.old }
     requires within { machine.old.position ≤ from }
-    ensures { IfOk result (λ rows. AreRows drawn machine.old from count rows.items) }
+    requires head { page.old.items ≡ head drawn }
+    ensures { MatchResult result
+        (λ end. HasTraced end drawn machine.old from count machine.new
+        (output_at (O.written output.old) (O.failures output.old))
+        (output_at (O.written output.new) (O.failures output.new)) page.new.items)
+        (λ _. HasPart drawn machine.old from count
+        (output_at (O.written output.old) (O.failures output.old))
+        (output_at (O.written output.new) (O.failures output.new))) }
 {
-    if go_to(rt, machine, from) {
-        rows_of(alloc, machine, count, drawn)
+    if !go_to(rt, machine, from) {
+        return Ok(TraceEnd::Nowhere);
+    }
+    for index in 0..count {
+        match tell_row(rt, alloc, machine, drawn, output, page, room) {
+            Ok(None) => return Ok(TraceEnd::WriteFailed),
+            Ok(Some(StepOutcome::Went(_))) => {}
+            Ok(Some(StepOutcome::Done)) => return Ok(TraceEnd::Ended),
+            Ok(Some(StepOutcome::Fault(fault))) => return Ok(TraceEnd::Faulted(fault)),
+            Err(AllocError) => return Err(AllocError),
+        }
+    }
+    Ok(TraceEnd::GoesOn)
+}
+
+/// Tells the position of a machine, in a row behind what is pending in `page`, and takes its step. Where more than `room`
+/// bytes are pending then, they are written. Returns what the step did, or `None` where the output failed.
+fn tell_row<O: Sink>(
+    rt: &impl Wait,
+    alloc: Global,
+    machine: &mut Machine,
+    drawn: bool,
+    output: &mut O,
+    page: &mut Vec<u8>,
+    room: usize,
+) -> Result<Option<StepOutcome>, AllocError>
+    requires { 0 < depth_of machine.old }
+    ensures { MatchResult result
+        (λ told. PutsRow told drawn machine.old machine.new page.old.items page.new.items
+        (output_at (O.written output.old) (O.failures output.old))
+        (output_at (O.written output.new) (O.failures output.new)))
+        (λ _. output_at (O.written output.new) (O.failures output.new)
+        ≡ output_at (O.written output.old) (O.failures output.old)) }
+{
+    let row = next_row(alloc, machine, drawn)?;
+    let unit: &Unit = machine.unit();
+    put_row(alloc, page, unit, &row)?;
+    if spill(rt, output, page, room) {
+        Ok(Some(row.outcome))
     } else {
-        Ok(Vec::new(alloc))
+        Ok(None)
     }
 }
 
@@ -80,30 +150,6 @@ fn go_to(rt: &impl Wait, machine: &mut Machine, position: u64) -> bool
         }
     }
     unreachable!()
-}
-
-/// Tells up to `count` positions from that of a machine on.
-fn rows_of(
-    alloc: Global,
-    machine: &mut Machine,
-    count: usize,
-    drawn: bool,
-) -> Result<Vec<Row>, AllocError>
-    requires { 0 < depth_of machine.old }
-    ensures { IfOk result (λ rows. AreRows drawn machine.old machine.old.position count rows.items) }
-{
-    let mut rows = Vec::new(alloc);
-    for index in 0..count {
-        let row = next_row(alloc, machine, drawn)?;
-        let outcome = row.outcome;
-        rows.push(row)?;
-        match outcome {
-            StepOutcome::Went(_) => {}
-            StepOutcome::Done => return Ok(rows),
-            StepOutcome::Fault(_) => return Ok(rows),
-        }
-    }
-    Ok(rows)
 }
 
 /// Tells the position of a machine, and takes its step.

@@ -1,4 +1,4 @@
-use Rattle.std.proofs.Common.{Ok, refl}
+use Rattle.std.proofs.Common.{Ok, inl, inr, refl}
 use Rattle.pl0_tool.proofs.CommandTells.{text_writes, told_err}
 use Rattle.pl0_tool.proofs.answering.add_answer.Goals as goal
 
@@ -22,21 +22,23 @@ returns-in_err-add-in-Ok g c =
 pub returns-in_ok-add-in-Ok : goal.returns-in_ok-add-in-Ok
 returns-in_ok-add-in-Ok g c = (
   c.in_ok-perform-in-Ok.field-0,
-  record {
+  inl (record {
     text = c.in-Ok.text.items;
     reads = c.in-Ok.ensures;
     tells = rw c.as_slice.ensures.value at c.in_ok-perform-in-Ok.ensures;
-  },
+  }),
   c.in_ok-add-in-Ok.ensures,
 )
 
-pub returns-in_ok-add-in-Err-CannotRead : goal.returns-in_ok-add-in-Err-CannotRead
-returns-in_ok-add-in-Err-CannotRead g c = (
-  c.in_ok-unread-in-Err-CannotRead.field-0,
-  record {
-    reads = rw c.in-Err-CannotRead.field-0-is at c.in-Err-CannotRead.ensures;
-    tells = c.in_ok-unread-in-Err-CannotRead.ensures;
+pub returns-in_ok-add-in-Err : goal.returns-in_ok-add-in-Err
+returns-in_ok-add-in-Err g c = (
+  c.in_ok-unread-in-Err.field-0,
+  inr (record {
+    fault = c.in-Err.fault;
+    reads = c.in-Err.ensures;
+    no_memory = c.in_ok-unread-in-Err.ensures.memory;
+    tells = c.in_ok-unread-in-Err.ensures.told;
     kept = refl;
-  },
-  c.in_ok-add-in-Err-CannotRead.ensures,
+  }),
+  c.in_ok-add-in-Err.ensures,
 )

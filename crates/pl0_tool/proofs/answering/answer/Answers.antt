@@ -1,7 +1,7 @@
 use Rattle.std.proofs.lemmas.List.{get_or_default}
 use Rattle.byte_streams.specs.Streams.{supply}
 use Rattle.pl0_tool.specs.Executing.{none}
-use Rattle.pl0_tool.proofs.FilesDone.{all_done, one_given_up, one_more, one_unread}
+use Rattle.pl0_tool.proofs.FilesDone.{all_done, one_given_up, one_more}
 use Rattle.pl0_tool.proofs.answering.answer.Goals as goal
 
 pub loop-name-init : goal.loop-name-init
@@ -14,17 +14,7 @@ loop-name-preserved g c =
     one_more (λ name. name.now) g.F.Opener.opens
     (λ file. supply (g.F.File.Source.left file) (g.F.File.Source.failures file))
     c.args.request.now.task names i _ c.loop-name-test.true (get_or_default names i _ _ c.loop-name-test.true) _ _ _ _ _
-    c.loop-name.invariant _ _ _ (rw c.in-Ok-true.field-0-test at c.in-Ok-true.ensures)
-
-pub returns-in-Ok-false : goal.returns-in-Ok-false
-returns-in-Ok-false g c =
-    let names = c.as_slice-names.result.now in
-    let i = c.loop-name.name-index in
-    rw c.as_slice-names.ensures.value at
-    (one_unread (λ name. name.now) g.F.Opener.opens
-    (λ file. supply (g.F.File.Source.left file) (g.F.File.Source.failures file))
-    c.args.request.now.task names i _ c.loop-name-test.true (get_or_default names i _ _ c.loop-name-test.true) _ _ _ _ _
-    c.loop-name.invariant _ _ _ (rw c.in-Ok-false.field-0-test at c.in-Ok-false.ensures))
+    c.loop-name.invariant _ _ _ c.in-Ok.ensures
 
 pub returns-in-Err : goal.returns-in-Err
 returns-in-Err g c =

@@ -1,12 +1,11 @@
 use Rattle.std.proofs.Common.{◌≢◌, codes, inl, inr, refl, rules}
 use Rattle.byte_streams.specs.Streams.{supply}
-use Rattle.pl0_tool.proofs.FilesDone.{has_read}
 use Rattle.pl0_tool.proofs.answering.text_of.Goals as goal
 
 pub returns-in-Ok : goal.returns-in-Ok
 returns-in-Ok g c =
     let differs : c.args.name.now ≢ codes "-" = search rules in
-    let read = c.read_beginning-in-Ok in
+    let read = c.text_in-in-Ok in
     inr (
       differs,
       inl (
@@ -14,8 +13,7 @@ returns-in-Ok g c =
         c.in-Ok.ensures,
         (
           supply (g.F.File.Source.left read.new.source) (g.F.File.Source.failures read.new.source),
-          has_read read.result _ _ _ _ read.ensures.bytes read.ensures.ok read.ensures.cannot_read
-              read.ensures.no_memory,
+          read.ensures,
         ),
       ),
       refl,

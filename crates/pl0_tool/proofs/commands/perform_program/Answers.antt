@@ -16,4 +16,4 @@ returns-in-Run g c =
 pub returns-in-Trace : goal.returns-in-Trace
 returns-in-Trace g c =
     traced_program c.args.task c.in-Trace.from c.in-Trace.steps c.in-Trace.drawn c.args.file.now c.args.unit
-    c.trace_program.result _ c.in-Trace.is c.trace_program.ensures
+    c.trace_program.result _ _ c.in-Trace.is c.trace_program.ensures

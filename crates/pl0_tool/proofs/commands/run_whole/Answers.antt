@@ -25,8 +25,8 @@ returns-in-WriteFailed g c =
     ∙ c.new-in-WriteFailed.ensures.items ∙ ap (λ e. end_errors file last e) (sym c.in-WriteFailed.is))
     (c.new-in-WriteFailed-2.ensures.ending ∙ ap (λ e. end_ending e) (sym c.in-WriteFailed.is))
 
-pub returns : goal.returns
-returns g c =
+pub returns-in-Faulted : goal.returns-in-Faulted
+returns-in-Faulted g c =
     let end = c.run_machine.result in
     let file = c.args.file.now in
     let last = c.run_machine.new.machine in
@@ -39,4 +39,21 @@ returns g c =
 pub returns-in_err-errors-in-Faulted : goal.returns-in_err-errors-in-Faulted
 returns-in_err-errors-in-Faulted g c =
     told_err _ _ c.from_residual.result c.from_residual.ensures.1
+    (c.run_machine.result, c.run_machine.new.machine, c.run_machine.ensures)
+
+pub returns : goal.returns
+returns g c =
+    let end = c.run_machine.result in
+    let file = c.args.file.now in
+    let last = c.run_machine.new.machine in
+    run_told end file c.args.machine.now last c.new-in-FaultedUnwritten.result _ _ c.run_machine.ensures
+    (ap (λ (v : Vec ℕ Global). v.items) c.new-in-FaultedUnwritten.ensures.output ∙ c.new-nothing.ensures.items)
+    (ap (λ (v : Vec ℕ Global). v.items) c.new-in-FaultedUnwritten.ensures.errors
+    ∙ c.in_ok-errors-in-FaultedUnwritten.ensures ∙ ap (λ e. end_errors file last e) (sym c.in-FaultedUnwritten.is))
+    (c.new-in-FaultedUnwritten.ensures.ending ∙ ap (λ e. end_ending e) (sym c.in-FaultedUnwritten.is))
+
+pub returns-in_err-errors-in-FaultedUnwritten : goal.returns-in_err-errors-in-FaultedUnwritten
+returns-in_err-errors-in-FaultedUnwritten g c =
+    told_err _ _ c.from_residual-in_err-errors-in-FaultedUnwritten.result
+    c.from_residual-in_err-errors-in-FaultedUnwritten.ensures.1
     (c.run_machine.result, c.run_machine.new.machine, c.run_machine.ensures)

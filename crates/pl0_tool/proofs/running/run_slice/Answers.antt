@@ -1,0 +1,112 @@
+use Rattle.pl0_tool.proofs.Common.{[], ap, Done, FailsIn, Fault, FitsSigned, Holds, lines_between, None, output, Ran, RanOn, refl, rules, signed_decimal, Some, subst, sym, to_z-of_z, w64, Went, ◌++◌, ◌∙◌, ◌∷◌}
+use Rattle.pl0_tool.proofs.RunLines.{before_limit, came_on, failed_so, held_on, held_still, ran_on, running_on, slice_ended, slice_faulted, slice_over, wrote_on}
+use Rattle.pl0_tool.proofs.running.run_slice.Goals as goal
+
+pub returns-in-None-run-clause-ran : goal.returns-in-None-run-clause-ran
+returns-in-None-run-clause-ran g c =
+    let start = c.args.machine.now in
+    let now = c.numbers.machine in
+    let new = c.run.new.self in
+    let came = c.numbers.invariant.1 in
+    let before = output (g.O.Sink.written c.args.output.now) (g.O.Sink.failures c.args.output.now) in
+    let s = c.in-None-run.ensures.0 in
+    slice_over start now new c.finish.result before _ came s
+    (c.finish.ensures.written before (lines_between start new)
+    (held_still start now new before _ _ came s c.numbers.invariant.3))
+
+pub numbers-preserved-in-Some-Went-None : goal.numbers-preserved-in-Some-Went-None
+numbers-preserved-in-Some-Went-None g c =
+    let start = c.args.machine.now in
+    let now = c.numbers.machine in
+    let new = c.run.new.self in
+    let came = c.numbers.invariant.1 in
+    let limit = c.saturating_add-limit.result in
+    let arm = c.in-Some-Went-None in
+    let before = output (g.O.Sink.written c.args.output.now) (g.O.Sink.failures c.args.output.now) in
+    let out = output (g.O.Sink.written c.numbers.output) (g.O.Sink.failures c.numbers.output) in
+    let told : RanOn limit 0 None now (Some (Went None)) new =
+    subst (λ o. RanOn limit 0 None now (Some o) new) (arm.field-0-is ∙ ap Went arm.field-0-0-is) arm.ensures in
+    let ran = ran_on limit now new (Went None) told in (
+      running_on now new None ran,
+      came_on start now new (Went None) came ran,
+      before_limit limit now new (Went None) told,
+      held_on start now new (Went None) before out c.numbers.pending.items refl came ran c.numbers.invariant.3,
+    )
+
+pub returns-then-not-put_line-clause-ran : goal.returns-then-not-put_line-clause-ran
+returns-then-not-put_line-clause-ran g c =
+    let start = c.args.machine.now in
+    let now = c.numbers.machine in
+    let new = c.run.new.self in
+    let came = c.numbers.invariant.1 in
+    let limit = c.saturating_add-limit.result in
+    let arm = c.in-Some-Went-Some in
+    let number = arm.number in
+    let fits : FitsSigned w64 number = search rules in
+    let before = output (g.O.Sink.written c.args.output.now) (g.O.Sink.failures c.args.output.now) in
+    let out = output (g.O.Sink.written c.put_line.new.output) (g.O.Sink.failures c.put_line.new.output) in
+    let told : RanOn limit 0 None now (Some (Went (Some number))) new =
+    subst (λ o. RanOn limit 0 None now (Some o) new) (arm.field-0-is ∙ ap Went arm.field-0-0-is) arm.ensures in
+    let ran = ran_on limit now new (Went (Some number)) told in
+    failed_so start now new (Went (Some number)) before out came ran
+    (subst (λ l. FailsIn l before out) (sym (wrote_on start now new (Went (Some number)) came ran))
+    (subst (λ n. FailsIn (lines_between start now ++ (signed_decimal n ++ (10 ∷ []))) before out)
+    (to_z-of_z w64 number fits) (c.if-not-put_line.ensures before (lines_between start now) c.numbers.invariant.3)))
+
+pub numbers-preserved : goal.numbers-preserved
+numbers-preserved g c =
+    let start = c.args.machine.now in
+    let now = c.numbers.machine in
+    let new = c.run.new.self in
+    let came = c.numbers.invariant.1 in
+    let limit = c.saturating_add-limit.result in
+    let arm = c.in-Some-Went-Some in
+    let number = arm.number in
+    let fits : FitsSigned w64 number = search rules in
+    let before = output (g.O.Sink.written c.args.output.now) (g.O.Sink.failures c.args.output.now) in
+    let out = output (g.O.Sink.written c.put_line.new.output) (g.O.Sink.failures c.put_line.new.output) in
+    let told : RanOn limit 0 None now (Some (Went (Some number))) new =
+    subst (λ o. RanOn limit 0 None now (Some o) new) (arm.field-0-is ∙ ap Went arm.field-0-0-is) arm.ensures in
+    let ran = ran_on limit now new (Went (Some number)) told in (
+      running_on now new (Some number) ran,
+      came_on start now new (Went (Some number)) came ran,
+      before_limit limit now new (Went (Some number)) told,
+      subst (Holds before out c.put_line.new.pending.items)
+          (sym (wrote_on start now new (Went (Some number)) came ran))
+          (subst (λ n. Holds before out c.put_line.new.pending.items
+          (lines_between start now ++ (signed_decimal n ++ (10 ∷ [])))) (to_z-of_z w64 number fits)
+          (c.if-not-put_line.ensures before (lines_between start now) c.numbers.invariant.3)),
+    )
+
+pub returns-in-Some-Done-clause-ran : goal.returns-in-Some-Done-clause-ran
+returns-in-Some-Done-clause-ran g c =
+    let start = c.args.machine.now in
+    let now = c.numbers.machine in
+    let new = c.run.new.self in
+    let came = c.numbers.invariant.1 in
+    let limit = c.saturating_add-limit.result in
+    let arm = c.in-Some-Done in
+    let before = output (g.O.Sink.written c.args.output.now) (g.O.Sink.failures c.args.output.now) in
+    let mid = output (g.O.Sink.written c.numbers.output) (g.O.Sink.failures c.numbers.output) in
+    let ran : Ran now new Done =
+    ran_on limit now new Done (subst (λ o. RanOn limit 0 None now (Some o) new) arm.field-0-is arm.ensures) in
+    slice_ended start now new c.finish-in-Some-Done.result before _ came ran
+    (c.finish-in-Some-Done.ensures.written before (lines_between start new)
+    (held_on start now new Done before mid c.numbers.pending.items refl came ran c.numbers.invariant.3))
+
+pub returns-in-Some-Fault-clause-ran : goal.returns-in-Some-Fault-clause-ran
+returns-in-Some-Fault-clause-ran g c =
+    let start = c.args.machine.now in
+    let now = c.numbers.machine in
+    let new = c.run.new.self in
+    let came = c.numbers.invariant.1 in
+    let limit = c.saturating_add-limit.result in
+    let arm = c.in-Some-Fault in
+    let fault = arm.fault in
+    let before = output (g.O.Sink.written c.args.output.now) (g.O.Sink.failures c.args.output.now) in
+    let mid = output (g.O.Sink.written c.numbers.output) (g.O.Sink.failures c.numbers.output) in
+    let ran : Ran now new (Fault fault) =
+    ran_on limit now new (Fault fault) (subst (λ o. RanOn limit 0 None now (Some o) new) arm.field-0-is arm.ensures) in
+    slice_faulted start now new fault c.finish-in-Some-Fault.result before _ came ran
+    (c.finish-in-Some-Fault.ensures.written before (lines_between start new)
+    (held_on start now new (Fault fault) before mid c.numbers.pending.items refl came ran c.numbers.invariant.3))

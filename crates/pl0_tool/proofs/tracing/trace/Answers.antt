@@ -1,0 +1,133 @@
+use Rattle.pl0_tool.proofs.Common.{arith, ap, Done, Fault, length, None, output, Some, subst, Went, ◌+◌, ◌∙◌, ◌≡◌}
+use Rattle.pl0_machine.specs.declared.outcome.StepOutcome.{StepOutcome}
+use Rattle.pl0_tool.specs.Traced.{PutsRow}
+use Rattle.pl0_tool.proofs.TracedRows.{dead_there, part_there, stands, table_there, tells_none, told_all, told_failed, told_last, told_nowhere, told_on, told_part}
+use Rattle.pl0_tool.proofs.tracing.trace.Goals as goal
+
+pub returns-then-not-go_to : goal.returns-then-not-go_to
+returns-then-not-go_to g c =
+    told_nowhere c.args.drawn c.args.machine.now c.args.from c.args.count _ _ c.requires.head c.if-not-go_to.ensures
+
+pub loop-index-init : goal.loop-index-init
+loop-index-init g c =
+    let there = c.if-not-go_to.ensures in (
+      there.0,
+      stands c.args.machine.now c.go_to.new.machine c.args.from there.1,
+      tells_none c.args.drawn c.go_to.new.machine c.args.from _ _ c.requires.head,
+    )
+
+pub returns-in-Err : goal.returns-in-Err
+returns-in-Err g c =
+    let mid = c.go_to.new.machine in
+    part_there c.args.drawn c.args.machine.now mid c.args.from c.args.count _ _ c.if-not-go_to.ensures.1
+    (told_part c.args.drawn mid c.args.from c.loop-index.index c.args.count _ _ _ _ c.loop-index-test.true
+    c.in-Err.ensures c.loop-index.invariant.2)
+
+pub returns-in-Ok-None : goal.returns-in-Ok-None
+returns-in-Ok-None g c =
+    let start = c.args.machine.now in
+    let mid = c.go_to.new.machine in
+    let now = c.loop-index.machine in
+    let new = c.tell_row.new.machine in
+    let pending = c.loop-index.page.items in
+    let left = c.tell_row.new.page.items in
+    let before = output (g.O.Sink.written c.args.output.now) (g.O.Sink.failures c.args.output.now) in
+    let at = output (g.O.Sink.written c.loop-index.output) (g.O.Sink.failures c.loop-index.output) in
+    let after = output (g.O.Sink.written c.tell_row.new.output) (g.O.Sink.failures c.tell_row.new.output) in
+    let given : PutsRow c.in-Ok-None.field-0 c.args.drawn now new pending left at after =
+    c.in-Ok-None.ensures in
+    let is : c.in-Ok-None.field-0 ≡ None = c.in-Ok-None.field-0-is in
+    let puts : PutsRow None c.args.drawn now new pending left at after =
+    subst (λ told. PutsRow told c.args.drawn now new pending left at after) is given in
+    let failed = told_failed c.args.drawn mid now new c.args.from c.loop-index.index c.args.count
+    before at after pending
+    left c.loop-index-test.true c.loop-index.invariant.1 c.loop-index.invariant.2 puts in (
+      part_there c.args.drawn start mid c.args.from c.args.count before after c.if-not-go_to.ensures.1 failed.0,
+      failed.1,
+    )
+
+pub returns-in-Ok-Some-Done : goal.returns-in-Ok-Some-Done
+returns-in-Ok-Some-Done g c =
+    let start = c.args.machine.now in
+    let mid = c.go_to.new.machine in
+    let now = c.loop-index.machine in
+    let new = c.tell_row.new.machine in
+    let pending = c.loop-index.page.items in
+    let left = c.tell_row.new.page.items in
+    let before = output (g.O.Sink.written c.args.output.now) (g.O.Sink.failures c.args.output.now) in
+    let at = output (g.O.Sink.written c.loop-index.output) (g.O.Sink.failures c.loop-index.output) in
+    let after = output (g.O.Sink.written c.tell_row.new.output) (g.O.Sink.failures c.tell_row.new.output) in
+    let given : PutsRow c.in-Ok-Some-Done.field-0 c.args.drawn now new pending left at after =
+    c.in-Ok-Some-Done.ensures in
+    let is : c.in-Ok-Some-Done.field-0 ≡ Some Done =
+    c.in-Ok-Some-Done.field-0-is ∙ ap (λ (o : StepOutcome). Some o) c.in-Ok-Some-Done.field-0-0-is in
+    let puts : PutsRow (Some Done) c.args.drawn now new pending left at after =
+    subst (λ told. PutsRow told c.args.drawn now new pending left at after) is given in
+    let last = told_last c.args.drawn mid now new c.args.from c.loop-index.index c.args.count before at after
+    pending left
+    Done c.loop-index-test.true c.loop-index.invariant.1
+    c.loop-index.invariant.2 puts tt in (
+      last.0,
+      table_there c.args.drawn start mid c.args.from c.args.count before after left last.0
+          c.if-not-go_to.ensures.1 last.1,
+      dead_there start mid c.args.from (c.args.from + length last.0) c.if-not-go_to.ensures.1 last.2,
+    )
+
+pub returns-in-Ok-Some-Fault : goal.returns-in-Ok-Some-Fault
+returns-in-Ok-Some-Fault g c =
+    let start = c.args.machine.now in
+    let mid = c.go_to.new.machine in
+    let now = c.loop-index.machine in
+    let new = c.tell_row.new.machine in
+    let pending = c.loop-index.page.items in
+    let left = c.tell_row.new.page.items in
+    let before = output (g.O.Sink.written c.args.output.now) (g.O.Sink.failures c.args.output.now) in
+    let at = output (g.O.Sink.written c.loop-index.output) (g.O.Sink.failures c.loop-index.output) in
+    let after = output (g.O.Sink.written c.tell_row.new.output) (g.O.Sink.failures c.tell_row.new.output) in
+    let given : PutsRow c.in-Ok-Some-Fault.field-0 c.args.drawn now new pending left at after =
+    c.in-Ok-Some-Fault.ensures in
+    let is : c.in-Ok-Some-Fault.field-0 ≡ Some (Fault c.in-Ok-Some-Fault.fault) =
+    c.in-Ok-Some-Fault.field-0-is ∙ ap (λ (o : StepOutcome). Some o) c.in-Ok-Some-Fault.field-0-0-is in
+    let puts : PutsRow (Some (Fault c.in-Ok-Some-Fault.fault)) c.args.drawn now new pending left at after =
+    subst (λ told. PutsRow told c.args.drawn now new pending left at after) is given in
+    let last = told_last c.args.drawn mid now new c.args.from c.loop-index.index c.args.count before at after
+    pending left
+    (Fault c.in-Ok-Some-Fault.fault) c.loop-index-test.true c.loop-index.invariant.1
+    c.loop-index.invariant.2 puts tt in (
+      last.0,
+      table_there c.args.drawn start mid c.args.from c.args.count before after left last.0
+          c.if-not-go_to.ensures.1 last.1,
+      dead_there start mid c.args.from (c.args.from + length last.0) c.if-not-go_to.ensures.1 last.2,
+    )
+
+pub loop-index-preserved : goal.loop-index-preserved
+loop-index-preserved g c =
+    let start = c.args.machine.now in
+    let mid = c.go_to.new.machine in
+    let now = c.loop-index.machine in
+    let new = c.tell_row.new.machine in
+    let pending = c.loop-index.page.items in
+    let left = c.tell_row.new.page.items in
+    let before = output (g.O.Sink.written c.args.output.now) (g.O.Sink.failures c.args.output.now) in
+    let at = output (g.O.Sink.written c.loop-index.output) (g.O.Sink.failures c.loop-index.output) in
+    let after = output (g.O.Sink.written c.tell_row.new.output) (g.O.Sink.failures c.tell_row.new.output) in
+    let given : PutsRow c.in-Ok-Some-Went.field-0 c.args.drawn now new pending left at after =
+    c.in-Ok-Some-Went.ensures in
+    let is : c.in-Ok-Some-Went.field-0 ≡ Some (Went c.in-Ok-Some-Went.field-0-0-0) =
+    c.in-Ok-Some-Went.field-0-is ∙ ap (λ (o : StepOutcome). Some o) c.in-Ok-Some-Went.field-0-0-is in
+    let puts : PutsRow (Some (Went c.in-Ok-Some-Went.field-0-0-0)) c.args.drawn now new pending left at after =
+    subst (λ told. PutsRow told c.args.drawn now new pending left at after) is given in
+    told_on c.args.drawn mid now new c.args.from c.loop-index.index before at after pending left
+    c.in-Ok-Some-Went.field-0-0-0 c.loop-index.invariant.1 c.loop-index.invariant.2 puts
+
+pub returns : goal.returns
+returns g c =
+    let start = c.args.machine.now in
+    let mid = c.go_to.new.machine in
+    let end : c.loop-index.index ≡ c.args.count = omega (arith, c.loop-index.auto.index-end, c.loop-index-test.false) in
+    let all = told_all c.args.drawn mid c.loop-index.machine c.args.from c.loop-index.index c.args.count _ _ _ end
+    c.loop-index.invariant.1 c.loop-index.invariant.2 in (
+      all.0,
+      table_there c.args.drawn start mid c.args.from c.args.count _ _ _ all.0 c.if-not-go_to.ensures.1 all.1,
+      all.2,
+    )

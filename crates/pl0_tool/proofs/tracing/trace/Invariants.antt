@@ -1,0 +1,11 @@
+use Rattle.pl0_tool.proofs.Common.{at_position, depth_of, output, ◌+◌, ◌<◌, ◌≡◌}
+use Rattle.pl0_tool.proofs.TracedRows.{Tells}
+use Rattle.pl0_tool.proofs.tracing.trace.Given as goal
+
+abbrev pub invariant-loop-index : goal.invariant-loop-index
+invariant-loop-index g l =
+    (0 < depth_of l.machine)
+    × (l.machine ≡ at_position l.initial.machine (l.from + l.index))
+    × Tells l.drawn l.initial.machine l.from l.index
+    (output (g.O.Sink.written l.initial.output) (g.O.Sink.failures l.initial.output))
+    (output (g.O.Sink.written l.output) (g.O.Sink.failures l.output)) l.page.items

@@ -1,0 +1,44 @@
+-- What is written of a trace: its table, row by row.
+use Rattle.std.specs.Prelude.{◌≡◌, ◌<◌, ◌+◌, ◌++◌, ℕ, Bool, List, length, Option, Some, None}
+use Rattle.pl0_machine.specs.declared.outcome.StepOutcome.{StepOutcome}
+use Rattle.pl0_machine.specs.Machine.{Standing, depth_of, outcome_of, Stepped}
+use Rattle.byte_streams.specs.Streams.{AppendsPart, FailsIn, Output}
+use Rattle.pl0_tool.specs.declared.tracing.Row.{Row}
+use Rattle.pl0_tool.specs.declared.tracing.TraceEnd.{TraceEnd}
+use Rattle.pl0_tool.specs.declared.tracing.TraceEnd.TheVariants.{GoesOn, WriteFailed}
+use Rattle.pl0_tool.specs.Pending.{Holds}
+use Rattle.pl0_tool.specs.Table.{row_text, table}
+use Rattle.pl0_tool.specs.Tracing.{AreFirstRows, AreRows, IsRow, at_position}
+
+-- A machine's position was told, and its step taken. The row was put behind what is pending, or the output failed in
+-- it.
+abbrev pub PutsRow : Option StepOutcome → Bool → Standing → Standing → List ℕ → List ℕ → Output → Output → Type 0
+PutsRow (Some outcome) drawn m new pending left before after =
+    (row : Row) × IsRow drawn m row × Stepped (outcome_of m) m outcome new
+    × ((first : Output) (text : List ℕ) → Holds first before pending text
+    → Holds first after left (text ++ row_text m.unit row))
+PutsRow None drawn m new pending left before after =
+    (row : Row) × IsRow drawn m row × ((first : Output) (text : List ℕ) → Holds first before pending text
+    → FailsIn (text ++ row_text m.unit row) first after)
+
+-- Positions were told. Of their table the first part was written, and the rest is pending.
+pub record HasTable (drawn : Bool) (m : Standing) (from count : ℕ) (before now : Output) (pending : List ℕ)
+    (rows : List Row) : Type 0 where
+  pub rows_are : AreRows drawn m from count rows
+  pub holds : Holds before now pending (table m.unit drawn rows)
+
+-- Some of the positions were told, and a part of the table was written.
+pub record HasPart (drawn : Bool) (m : Standing) (from count : ℕ) (before now : Output) : Type 0 where
+  pub rows : List Row
+  pub rows_are : AreFirstRows drawn m from count rows
+  pub part : AppendsPart before.written now.written (table m.unit drawn rows)
+
+-- The positions were told, and the run goes on at the next one; or it is over there; or the output failed.
+abbrev pub HasTraced : TraceEnd → Bool → Standing → ℕ → ℕ → Standing → Output → Output → List ℕ → Type 0
+HasTraced GoesOn drawn m from count new before now pending =
+    (rows : List Row) × HasTable drawn m from count before now pending rows × (new.position ≡ from + length rows)
+HasTraced WriteFailed drawn m from count new before now pending =
+    HasPart drawn m from count before now × (before.failures < now.failures)
+HasTraced end drawn m from count new before now pending =
+    (rows : List Row) × HasTable drawn m from count before now pending rows
+    × (depth_of (at_position m (from + length rows)) ≡ 0)
