@@ -1,17 +1,20 @@
 #!/usr/bin/env python3
-"""Runs the programs again and again, with another allocation, thread, read or write refused each time, and judges how they end.
+"""Runs the programs again and again, with calls refused or hindered, and judges how they end.
 
 usage: refusals.py [--speed SPEED] [--pl0 PL0] PROGRAM..
 
-PROGRAM is pl0dap or pl0dap_from_zero; SPEED is the program `speed`, which runs a text by the machine alone, in slices under a plan,
-and by the runner; PL0 is the program `pl0`. Each allocation is refused in turn, up to the first run that asks for none more, and then each thread, read and
-write of PROGRAM. What is written may differ from the whole answer only by what is missing at its end, of a session by whole frames,
-and the program must say why. But a run in slices may also end by the report that there was no memory for its first one, and
-must at least once; and where the file of a launch can't be read, the launch must be refused, and the session goes on.
+PROGRAM is pl0dap or pl0dap_from_zero; SPEED is the program `speed`, which runs a text by the machine alone, in slices
+under a plan, and by the runner; PL0 is the program `pl0`. Each allocation is refused in turn, up to the first run that
+asks for none more, and then each thread, read and write; but of SPEED allocations alone. In PROGRAM and PL0 each is
+refused once, and then again with all later ones of its kind. What is written may differ from the whole answer only by
+what is missing at its end, of a session by whole frames, and the program must say why. But a run in slices may also end
+by the report that there was no memory for its first one, and must at least once; and where the file of a launch can't
+be read, the launch must be refused, and the session goes on. At last reads and writes take few bytes, are interrupted
+or would block, by some seeds: nothing may be missing.
 
-The threads of a session take turns as they like, so which call is the Nth differs from one time to the next: each end must be
-one that is allowed, and none must hang. Before a thread was asked for nothing may be written where the session gives up. It
-needs clang.
+The threads of a session take turns as they like, so which call is the Nth differs from one time to the next: each end
+must be one that is allowed, and none must hang. Before a thread was asked for nothing may be written where the session
+gives up. It needs clang.
 """
 from __future__ import annotations
 
@@ -52,17 +55,25 @@ SESSION_ENDS = {
     "read": [(0, ""), (1, "pl0dap: read failed")],
     "write": WRITE_ENDS,
 }
-# A drawing of positions 9 to 11 says where the run goes on.
-PL0_ENDS = {
-    "allocation": [(0, ""), (0, "pl0: the run goes on at position 12"), (3, "pl0: no memory")],
-    "write": [
-        (3, "pl0: cannot write the output"),
-        (3, "pl0: the run goes on at position 12 pl0: cannot write the output"),
-    ],
-}
 LISTING_ENDS = {"allocation": ALLOCATION_ENDS, "read": [(1, "pl0dap: cannot read")], "write": WRITE_ENDS}
+
+
+def pl0_ends(file: str) -> dict[str, list[tuple[int, str]]]:
+    """How a run of pl0 may end in which something was refused. A drawing of positions 9 to 11 says where the run goes on."""
+    return {
+        "allocation": [(0, ""), (0, "pl0: the run goes on at position 12"), (3, "pl0: no memory")],
+        "read": [(3, f"pl0: cannot read {file}")],
+        "write": [
+            (3, "pl0: cannot write the output"),
+            (3, "pl0: the run goes on at position 12 pl0: cannot write the output"),
+        ],
+    }
+
+
 # What a session with a program that can't be read is called.
 UNREAD = "launch refused"
+# By so many seeds the reads and writes of a run are hindered.
+SEEDS = 20
 # In a loop without end a call is asked for again and again. After EACH, a few more are refused up to MOST.
 EACH, MOST = 500, 20_000
 # After this many runs that ended as they may not, no more are tried.
@@ -110,21 +121,31 @@ class Run:
     exchanges: list[notation.Exchange] | None = None
     # Whether it runs for as long as the client likes.
     is_endless: bool = False
-    # What it must write in place of the whole at some refusal of a kind, with status 0, and what that is called.
-    instead: dict[str, dict[bytes, str]] = dataclasses.field(default_factory=dict)
+    # Of which kind one refusal must make it write other pieces, with status 0, which these are, and what that is called.
+    instead: tuple[str, list[bytes], str] = ("", [], "")
+    # Whether calls are also refused from one on, and hindered.
+    is_whole_program: bool = True
 
     def whole(self) -> bytes:
         return b"".join(self.pieces)
 
-    def is_beginning(self, written: bytes) -> bool:
-        return written in itertools.accumulate(self.pieces, initial=b"")
+    def is_beginning(self, written: bytes, kind: str) -> bool:
+        """Whether some pieces were written that may be where a call of a kind is refused."""
+        lists = [self.pieces, self.instead[1]] if kind == self.instead[0] else [self.pieces]
+        return any(written in itertools.accumulate(pieces, initial=b"") for pieces in lists)
+
+    def unseen(self, kind: str, ends: collections.Counter[str]) -> str:
+        """What is said of an end that has to be among those where one call of a kind is refused, and isn't."""
+        other, _, name = self.instead
+        return f"; never {name}" if kind == other and name not in ends else ""
 
     def end(self, kind: str, outcome: "Outcome") -> str | None:
         """How a run ended in which something of a kind was refused, in words; None where it may not end so."""
         written, status, said = outcome.written, outcome.status, outcome.said
-        if (status, said) == (0, "") and written in self.instead.get(kind, {}):
-            return self.instead[kind][written]
-        if (status, said) not in self.ends[kind] or not self.is_beginning(written):
+        other, pieces, name = self.instead
+        if (status, said) == (0, "") and kind == other and written == b"".join(pieces):
+            return name
+        if (status, said) not in self.ends[kind] or not self.is_beginning(written, kind):
             return None
         if status == 0 and written != self.whole():
             return None
@@ -144,10 +165,10 @@ def by_bytes(text: bytes) -> list[bytes]:
     return [bytes([byte]) for byte in text]
 
 
-def no_memory(after: str) -> dict[str, dict[bytes, str]]:
+def no_memory(after: str) -> tuple[str, list[bytes], str]:
     """What a run writes where there is no memory for its first slice. The others take its room, as it wrote nothing."""
     text = f"NoMemory after 0 steps{after}"
-    return {"allocation": {f"{text}\n".encode(): text}}
+    return "allocation", [f"{text}\n".encode()], text
 
 
 def stored_session(program: str) -> Run:
@@ -157,7 +178,7 @@ def stored_session(program: str) -> Run:
 
 
 def fed_session(program: str, session: feeding.Session, is_endless: bool = False) -> Run:
-    unread = {"read": {b"".join(session.unread): UNREAD}}
+    unread = "read", session.unread, UNREAD
     exchanges = session.exchanges
     return Run([program], session.frames(), SESSION_ENDS, exchanges=exchanges, is_endless=is_endless, instead=unread)
 
@@ -179,19 +200,24 @@ def runs_of_texts(speed: str) -> dict[str, Run]:
     under = f" under {LINES} breakpoints"
     return {
         "a machine": Run(
-            [speed, "machine", RECURSION], [f"Done after {STEPS} steps\n".encode()], {"allocation": MACHINE_ENDS}
+            [speed, "machine", RECURSION],
+            [f"Done after {STEPS} steps\n".encode()],
+            {"allocation": MACHINE_ENDS},
+            is_whole_program=False,
         ),
         "a run in slices": Run(
             [speed, "slices", RECURSION, "1", str(LINES), CONDITION],
             [f"Due(Breakpoint) after {STOP} steps{under}\n".encode()],
             {"allocation": SLICES_ENDS},
             instead=no_memory(under),
+            is_whole_program=False,
         ),
         "a run by the runner": Run(
             [speed, "work", RECURSION],
             [f"Done after {STEPS} steps\n".encode()],
             {"allocation": WORK_ENDS},
             instead=no_memory(""),
+            is_whole_program=False,
         ),
     }
 
@@ -215,13 +241,15 @@ def runs_of_pl0(pl0: str) -> dict[str, Run]:
         "a trace by pl0": stored_run("pl0 trace procedures.pl0"),
         "a drawing by pl0": stored_run("pl0 trace --machine --from 9 --steps 3 procedures.pl0"),
     }
-    return {name: Run([pl0, *arguments], by_bytes(text), PL0_ENDS) for name, (arguments, text) in given.items()}
+    return {
+        name: Run([pl0, *arguments], by_bytes(text), pl0_ends(arguments[-1])) for name, (arguments, text) in given.items()
+    }
 
 
 @dataclasses.dataclass
 class Outcome:
-    """What a run wrote, its status, what it said on standard error beside its log, whether a call was refused, and whether no
-    thread had been asked for then."""
+    """What a run wrote, its status, what it said on standard error beside its log, whether a call was refused, and whether
+    no thread had been asked for then."""
 
     written: bytes
     status: int
@@ -266,38 +294,64 @@ def numbers(run: Run) -> Iterator[int]:
         number += 1 if not run.is_endless or number < EACH else number // 20
 
 
-def judged(run: Run, kind: str, number: int, library: str) -> tuple[Outcome, str | None]:
-    """Refuses a call, and answers how the run ended, in words too where it may end so. It is waited longer where it seems that
-    the input was closed too soon."""
+def judged(run: Run, kind: str, later: str, number: int, library: str) -> tuple[Outcome, str | None]:
+    """Refuses a call, and answers how the run ended, in words too where it may end so. It is waited longer where it
+    seems that the input was closed too soon."""
     for patience in (1, PATIENCE):
-        outcome = play(run, {"LD_PRELOAD": library, "REFUSES": kind, "REFUSED": str(number)}, patience)
+        outcome = play(run, {"LD_PRELOAD": library, "REFUSES": kind + later, "REFUSED": str(number)}, patience)
         end = run.end(kind, outcome)
         if end is not None or not outcome.refused or outcome.status < 0:
             break
     return outcome, end
 
 
-def is_judged(name: str, run: Run, kind: str, library: str) -> bool:
-    """Refuses each call of a kind in turn, prints how the runs ended, and answers whether all ended as they may."""
+def is_judged(name: str, run: Run, kind: str, later: str, library: str) -> bool:
+    """Refuses each call of a kind in turn, with an s for `later` also all after it; prints how the runs ended, and answers
+    whether all ended as they may."""
     ends: collections.Counter[str] = collections.Counter()
     wrong = unasked = early = 0
     for number in numbers(run):
-        outcome, end = judged(run, kind, number, library)
+        outcome, end = judged(run, kind, later, number, library)
         unasked = 0 if outcome.refused else unasked + 1
         if unasked == UNASKED or wrong == MOST_WRONG:
             break
         if outcome.refused and end is None:
-            print(f"{name}, {kind} {number}: {outcome}", flush=True)
+            print(f"{name}, {kind} {number}{' and all later' if later else ''}: {outcome}", flush=True)
             wrong += 1
         elif outcome.refused:
             ends[end] += 1
             early += outcome.early and end == "pl0dap: refused 2"
-    unseen = [end for end in run.instead.get(kind, {}).values() if end not in ends]
+    unseen = "" if later else run.unseen(kind, ends)
     said = ", ".join(f"{count} times {end}" for end, count in ends.items())
     before = f"; {early} times refused 2 before any thread" if early else ""
-    none = f"; never {unseen}" if unseen else ""
-    print(f"{name}, {kind} refused {sum(ends.values()) + wrong} times, up to {number}: {said}{before}{none}", flush=True)
+    all_later = " with all later ones" if later else ""
+    times = sum(ends.values()) + wrong
+    print(f"{name}, {kind} refused{all_later} {times} times, up to {number}: {said}{before}{unseen}", flush=True)
     return not wrong and not unseen and (kind != "allocation" or run.ends is not SESSION_ENDS or early > 0)
+
+
+def is_whole_hindered(name: str, run: Run, library: str) -> bool:
+    """Hinders reads and writes by some seeds, and answers whether nothing was missing."""
+    for seed in range(1, SEEDS + 1):
+        outcome = play(run, {"LD_PRELOAD": library, "REFUSES": "hindrance", "REFUSED": str(seed)})
+        if outcome != Outcome(run.whole(), 0, ""):
+            print(f"{name}, hindered by seed {seed}: {outcome}", flush=True)
+            return False
+    print(f"{name}, hindered by {SEEDS} seeds: nothing missing", flush=True)
+    return True
+
+
+def is_good(name: str, run: Run, library: str) -> bool:
+    """Whether a run is whole where nothing is refused, and ends as it may where something is."""
+    outcome = play(run)
+    good = outcome == Outcome(run.whole(), 0, "")
+    if not good:
+        print(f"{name}, nothing refused: {outcome}")
+    for kind, later in itertools.product(run.ends, ["", "s"] if run.is_whole_program else [""]):
+        good &= is_judged(name, run, kind, later, library)
+    if run.is_whole_program:
+        good &= is_whole_hindered(name, run, library)
+    return good
 
 
 def runs_of_programs(programs: list[str]) -> dict[str, Run]:
@@ -313,7 +367,6 @@ def main() -> int:
     parser.add_argument("--pl0")
     parser.add_argument("programs", nargs="+")
     given = parser.parse_args()
-    good = True
     with tempfile.TemporaryDirectory() as folder:
         library = os.path.join(folder, "refuse.so")
         subprocess.run(["clang", "-shared", "-fPIC", "-o", library, os.path.join(HERE, "refuse.c")], check=True)
@@ -322,14 +375,8 @@ def main() -> int:
             played |= runs_of_texts(os.path.abspath(given.speed))
         if given.pl0:
             played |= runs_of_pl0(os.path.abspath(given.pl0))
-        for name, run in played.items():
-            outcome = play(run)
-            if outcome != Outcome(run.whole(), 0, ""):
-                print(f"{name}, nothing refused: {outcome}")
-                good = False
-            for kind in run.ends:
-                good &= is_judged(name, run, kind, library)
-    return 0 if good else 1
+        good = [is_good(name, run, library) for name, run in played.items()]
+    return 0 if all(good) else 1
 
 
 if __name__ == "__main__":
