@@ -76,6 +76,7 @@ class Client(protocol.Client):
         return content
 
     def put(self, frame: bytes) -> None:
+        """Writes all of a frame."""
         while frame:
             frame = frame[os.write(self.child.stdin.fileno(), frame):]
 
@@ -100,6 +101,7 @@ class Client(protocol.Client):
         return taken
 
     def launch(self, path: str, on_entry: bool) -> None:
+        """Launches a program, up to the event `initialized`."""
         self.ask("initialize", {})
         self.ask("launch", {"program": path, "stopOnEntry": on_entry})
         self.content()
@@ -112,10 +114,12 @@ class Client(protocol.Client):
             sys.exit(f"not {event}: {content.decode()}")
 
     def kibibytes(self, name: str) -> int:
+        """How many KiB the process has by one of its counts, such as `VmHWM`."""
         with open(f"/proc/{self.child.pid}/status", encoding="ascii") as file:
             return next(int(line.split()[1]) for line in file if line.startswith(name))
 
     def end(self) -> None:
+        """Ends the input, and waits for the process."""
         self.end_input()
         self.child.stdout.close()
         self.child.wait()
@@ -142,6 +146,8 @@ class Stop:
 
 @dataclasses.dataclass
 class Question:
+    """A question that is asked COUNT times at a stop, with the name of its row."""
+
     name: str
     stop: Stop
     command: str
@@ -235,6 +241,7 @@ class Journey:
 
 
 def journeys() -> list[Journey]:
+    """How long it takes from a request to a stop: one row each."""
     return [
         Journey("from `continue` to the stop, 1 step away", paused(), "continue"),
         Journey("from `continue` to the stop, 10,000 steps away", spaced(), "continue"),
@@ -243,6 +250,7 @@ def journeys() -> list[Journey]:
 
 
 def questions() -> list[Question]:
+    """What is asked at a stop: one row each."""
     some = {"threadId": 1, "levels": 20}
     expression = {"expression": "n * (n - 1) + 2", "frameId": DEPTH}
     return [
@@ -490,6 +498,7 @@ def commands(program: str, speed: str | None, folder: str) -> dict[str, list[str
 
 
 def loops() -> dict[str, Loop]:
+    """Under which breakpoints a program runs in a loop, by their names."""
     return {
         "no breakpoint": Loop([]),
         "a false condition in the loop": Loop(in_the_loop(FALSE)),

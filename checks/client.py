@@ -30,6 +30,7 @@ class Wrong(Exception):
 
 
 def frame(content: bytes) -> bytes:
+    """The frame of a content."""
     return b"Content-Length: %d\r\n\r\n%s" % (len(content), content)
 
 
@@ -53,6 +54,7 @@ class Frames:
         self.rest = bytearray()
 
     def take(self, piece: bytes) -> None:
+        """Takes some bytes more."""
         self.rest += piece
 
     def next(self) -> bytes | None:
@@ -122,6 +124,7 @@ class Client:
         self.write(b"".join(self.framed(*one) for one in requests))
 
     def end_input(self) -> None:
+        """Ends the input: the process reads nothing more."""
         self.child.stdin.close()
 
     # Receiving
@@ -196,6 +199,7 @@ class Client:
 
 
 def put_files(folder: str, files: dict[str, bytes]) -> None:
+    """Writes files into a folder, each under its name."""
     for name, text in files.items():
         with open(os.path.join(folder, name), "wb") as file:
             file.write(text)

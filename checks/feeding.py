@@ -52,6 +52,7 @@ class Session(NamedTuple):
     unread: list[bytes]
 
     def frames(self) -> list[bytes]:
+        """The frames that are written."""
         return [frame(content) for exchange in self.exchanges for content in exchange.answers]
 
 

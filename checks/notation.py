@@ -68,10 +68,13 @@ class Exchange(NamedTuple):
     answers: list[bytes]
 
     def piece(self) -> bytes:
+        """The frames of the requests, joined."""
         return b"".join(map(frame, self.requests))
 
 
 class Session(NamedTuple):
+    """A session, the program that it launches, and what is asked and answered in it."""
+
     name: str
     program: bytes
     exchanges: list[Exchange]
@@ -79,6 +82,7 @@ class Session(NamedTuple):
     waits: bool
 
     def answers(self) -> list[bytes]:
+        """All that must come."""
         return [content for exchange in self.exchanges for content in exchange.answers]
 
 
@@ -277,4 +281,5 @@ def said_of(came: bytes | None) -> str:
 
 
 def name_in(came: bytes) -> str | None:
+    """The name in a content: of its event, or its command."""
     return name_of(json.loads(came))

@@ -421,6 +421,7 @@ class Session:
         )
 
     def is_closed(self) -> bool:
+        """Whether nothing more is taken."""
         return self.situation == "Closed"
 
     def put(self, message: dict) -> None:
@@ -452,6 +453,7 @@ class Session:
             self.situation = "Closed"
 
     def take_content(self, content: bytes) -> None:
+        """Takes a content, and sends what it causes, if it is a request."""
         request = request_of(content)
         if request is None:
             return
@@ -635,6 +637,7 @@ class Session:
                 self.slice()
 
     def may_be_held(self) -> bool:
+        """Whether the run can be held now: a pause or breakpoints wait, and it has sent a report."""
         return self.situation == "Running" and self.is_held and self.slices > 0
 
     def slice(self) -> None:

@@ -41,6 +41,7 @@ class Row(NamedTuple):
     last: str = ""
 
     def output(self) -> bytes:
+        """The frames of all that must come, joined."""
         return b"".join(frame(content) for contents in self.answers for content in contents)
 
 

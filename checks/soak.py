@@ -164,10 +164,12 @@ class Session(Client):
 
 
 def threads(process: int) -> int:
+    """How many threads a process has."""
     return len(os.listdir(f"/proc/{process}/task"))
 
 
 def open_files(process: int | str = "self") -> list[str]:
+    """The numbers of the files that a process has open."""
     return sorted(os.listdir(f"/proc/{process}/fd"))
 
 

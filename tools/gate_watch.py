@@ -25,6 +25,8 @@ WHOLE_MINUTES, CRATE_MINUTES = 190, 10
 
 
 class Process(NamedTuple):
+    """What the system tells of a process."""
+
     parent: int
     started: str
     seconds: float

@@ -75,6 +75,7 @@ class Session:
 
 
 def differs(what: str, found: object, wanted: object) -> Iterator[str]:
+    """What is said where something was found in place of what is wanted."""
     if found != wanted:
         yield f"{what}: {found}, and not {wanted}"
 

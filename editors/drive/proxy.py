@@ -38,11 +38,13 @@ class Transcript:
         self.last = time.monotonic()
 
     def line(self, text: str) -> None:
+        """Writes a line, with a name for the folder."""
         with self.lock:
             self.file.write((text.replace(self.folder, "${folder}") if self.folder else text) + "\n")
             self.file.flush()
 
     def content(self, arrow: str, content: str) -> None:
+        """Writes a content on one line, behind an arrow."""
         with self.lock:
             if "\n" in content:
                 content = self.joined(content)
