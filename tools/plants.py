@@ -1,7 +1,7 @@
 #!/usr/bin/env python3
 """Tries planted bugs: edits that the prover must refuse, and that the merge gate leaves out to save time.
 
-usage: plants.py [--jobs N] [CRATE..]
+usage: plants.py [--jobs N] [--outdated] [CRATE..]
 
 The edits of `crates/CRATE/plants/` have the form of those of `must-fail/`. For each crate that is named, a copy of the
 crate is given its plants in place of its must-fail edits, and `rt must-fail` tries them over the work that is kept in
@@ -11,7 +11,7 @@ refused, those that got through and those that were not judged.
 What was found is written to tools/plants.txt: a row for each crate, with a checksum of the kit, of the crate with its
 plants, and of the sources and definitions of the crates below. Where no crate is named, those with plants are tried
 whose row is of another sum, so a run that is broken off goes on where it was, and the last line counts the rows of all.
-The status is 1 where an edit was not refused.
+The status is 1 where an edit was not refused. With `--outdated` nothing is tried, and those crates are named.
 """
 from __future__ import annotations
 
@@ -122,19 +122,33 @@ def try_plants(name: str) -> Row:
     return row
 
 
-def still_to_try() -> list[str]:
-    """The crates with plants that the record doesn't have as they are, with each plant judged."""
+def outdated(row: Row | None, name: str) -> str:
+    """Why the plants of a crate have to be tried, by the row that the record has of it; nothing where they don't."""
+    if row is None:
+        return "never tried"
+    if row.sum != sum_of(name):
+        return f"tried on another tree, on {row.day}"
+    return f"{row.unjudged} not judged" if row.unjudged else ""
+
+
+def still_to_try() -> dict[str, str]:
+    """The crates with plants that the record doesn't have as they are, with each plant judged; and why."""
     rows = recorded()
-    names = [name for name in crate_lines() if plants_of(name)]
-    return [name for name in names if name not in rows or rows[name].unjudged or rows[name].sum != sum_of(name)]
+    found = {name: outdated(rows.get(name), name) for name in crate_lines() if plants_of(name)}
+    return {name: why for name, why in found.items() if why}
 
 
 def main() -> int:
     parser = argparse.ArgumentParser(usage=__doc__.split("\n\n")[1].replace("usage: ", "", 1))
     parser.add_argument("--jobs", type=int, default=1)
+    parser.add_argument("--outdated", action="store_true")
     parser.add_argument("crates", nargs="*")
     given = parser.parse_args()
-    names = crate_names(given.crates) or still_to_try()
+    if given.outdated:
+        for name, why in still_to_try().items():
+            print(f"{name}: {why}, {len(plants_of(name))} plants")
+        return 0
+    names = crate_names(given.crates) or [*still_to_try()]
     with ThreadPoolExecutor(given.jobs) as pool:
         rows = [*pool.map(try_plants, names)]
     if not given.crates:
