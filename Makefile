@@ -105,7 +105,7 @@ soak: $(PROGRAM) $(FROM_ZERO)
 sessions: $(PROGRAM)
 	python3 checks/sessions.py $(PROGRAM) $(SESSIONS)
 
-# Random sessions whose bytes are compared with what the session puts over memory, in one thread.
+# Random sessions whose bytes and status are compared with what the session puts over memory, in one thread, and how it ends.
 beside: $(PROGRAM) $(SPEED)
 	python3 checks/beside.py $(PROGRAM) $(SPEED) 200
 
@@ -158,7 +158,8 @@ misuse:
 	@$(NEEDS_KIT)
 	python3 misuse/check.py
 
-# Each allocation, read and write of the programs refused in turn, and each allocation of the runs that step a text.
+# Each allocation, thread, read and write of the programs refused in turn, once and from there on; short, interrupted and
+# would-block reads and writes; and each allocation of the runs that step a text.
 refusals: $(PROGRAM) $(FROM_ZERO) $(SPEED) $(PL0)
 	python3 checks/refusals.py --speed $(SPEED) --pl0 $(PL0) $(PROGRAM) $(FROM_ZERO)
 

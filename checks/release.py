@@ -58,7 +58,7 @@ CHECKS = [
     Check("editors", "editors and their sessions", partly=(2,)),
     Check("beside", "random sessions beside the session over memory"),
     Check("sessions", "2,000 random sessions beside a plain model", ("SESSIONS=2000",), is_long=True),
-    Check("refusals", "each allocation, thread, read and write refused, all programs", is_long=True),
+    Check("refusals", "each allocation, thread, read and write refused or hindered, all programs", is_long=True),
     Check("soak", "sessions that leave nothing over, for an hour", ("SOAK=3600",), is_long=True, is_beside=True),
     Check("bench", "times and instructions", is_long=True),
     Check("plants", "planted bugs, whole", is_long=True),
