@@ -48,12 +48,19 @@ fn run<R: Wait + Files + Print + AllocGlobal>(rt: &R, arguments: &[String]) -> R
     }
 }
 
-/// Prints the frames that a session puts.
+/// Prints the frames that a session puts, one after another. Fails, after these, where the session gives up.
 fn print_session<R: Wait + Files + Print + AllocGlobal>(rt: &R, sent: &[u8]) -> Result<()> {
-    let frames = session::run(rt, rt.alloc(), sent)?;
+    let outcome = session::run(rt, rt.alloc(), sent);
+    let frames = outcome
+        .output(rt.alloc())
+        .context("no room for the frames")?;
     io::writer(rt)
         .write_all(frames.as_slice())
-        .context("no output")
+        .context("no output")?;
+    match outcome.end {
+        Ok(_) => Ok(()),
+        Err(fault) => Err(anyhow!("the session gave up: {fault:?}")),
+    }
 }
 
 /// Prints how and where the run of a program ended.

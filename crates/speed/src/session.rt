@@ -1,18 +1,18 @@
 //! A session over memory, in one thread: what a client sends byte by byte, and a run before the next byte.
 
-use anyhow::{Context, Result, anyhow};
 use dap_session::{Event, LoadFault, LoadLog, Loader};
 use std::alloc::Global;
 use std::fs;
+use std::io::ErrorKind;
 use std::rt::Files;
 use std::sync::Wait;
-use test_kit::{Events, Room, Shared, run_session};
+use test_kit::{Events, Outcome, Room, Shared, run_session};
 
 /// A program's text has at most one byte less.
 const MOST: usize = 65_537;
 
-/// Drives a session by what a client sends: the frames that it puts, joined.
-pub fn run<R: Wait + Files + AllocGlobal>(rt: &R, alloc: Global, sent: &[u8]) -> Result<Vec<u8>> {
+/// Drives a session by what a client sends.
+pub fn run<R: Wait + Files + AllocGlobal>(rt: &R, alloc: Global, sent: &[u8]) -> Outcome {
     let shared = Shared::new();
     let client = Client {
         alloc,
@@ -23,11 +23,7 @@ pub fn run<R: Wait + Files + AllocGlobal>(rt: &R, alloc: Global, sent: &[u8]) ->
         rt,
         log: LoadLog::new(),
     };
-    let outcome = run_session(rt, alloc, &shared, client, &mut loader, Room::AMPLE);
-    if let Err(fault) = outcome.end {
-        return Err(anyhow!("the session gave up: {fault:?}"));
-    }
-    outcome.output(alloc).context("no room for the frames")
+    run_session(rt, alloc, &shared, client, &mut loader, Room::AMPLE)
 }
 
 /// The next report of the run that is on, or else the next byte.
@@ -72,7 +68,8 @@ impl<R: Files + AllocGlobal> Loader for Disk<'_, R> {
                 text.truncate(MOST);
                 Ok(text)
             }
-            Err(_) => Err(LoadFault::NoMemory),
+            Err(error) if error.kind() == ErrorKind::OutOfMemory => Err(LoadFault::NoMemory),
+            Err(_) => Err(LoadFault::CannotRead),
         };
         self.log.note(path, answer)
     }
