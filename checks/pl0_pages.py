@@ -19,13 +19,17 @@ import pathlib
 import re
 import subprocess
 import sys
+import threading
 
 TOP = pathlib.Path(__file__).resolve().parent.parent
 ROW = re.compile(r"^\| (\d+) \| \w+ \| .* \| (.*) \| `([^`]*)` \| `(\d+) (\d+) (\d+)` \|$")
 HINT = re.compile(r"^\| ([^|]*) \| [^|]* \| `([^`]*)` \|$")
 ENDLESS = b"var n; while 0 = 0 do begin n := n + 1; ! n end.\n"
 FAULTY = b"var n; begin n := n; ! 1 / n end.\n"
-STUCK = b"begin ! 1; ! 2; while 1 = 1 do end.\n"
+WRITES_AND_FAULTS = b"var n; begin ! 1; ! 1 / n end.\n"
+# How many seconds a run that isn't proved may take to its first slice's end, where other processes are busy.
+PATIENCE = 180
+STUCK = b"var n; begin ! 1; ! 2; while 1 = 1 do n := 1 end.\n"
 UNREAD = [b"there is no such file", b"it is a folder"]
 LONG = b"var n; while n < 200000 do begin n := n + 1; ! n end.\n"
 
@@ -169,15 +173,17 @@ def wrong_stops(pl0: str):
     """What is wrong with a run that is ended from outside, with a fault whose output fails, and with files that can't be read."""
     pipe = subprocess.PIPE
     with subprocess.Popen([pl0, "run", "-"], stdin=pipe, stdout=pipe) as program:
-        try:
-            written, _ = program.communicate(STUCK, timeout=5)
-        except subprocess.TimeoutExpired:
-            program.kill()
-            written, _ = program.communicate()
+        program.stdin.write(STUCK)
+        program.stdin.close()
+        alarm = threading.Timer(PATIENCE, program.kill)
+        alarm.start()
+        written = program.stdout.read(4)
+        alarm.cancel()
+        program.kill()
     if written != b"1\n2\n":
         yield f"a run that was stopped: {written!r}"
     with open("/dev/full", "wb") as full:
-        told = run(pl0, "run", "-", text=FAULTY, stdout=full, stderr=pipe)
+        told = run(pl0, "run", "-", text=WRITES_AND_FAULTS, stdout=full, stderr=pipe)
     if not (b": fault: division by zero\n" in told.stderr and told.stderr.endswith(b"pl0: cannot write the output\n")):
         yield f"a fault, with a full disk: {told}"
     told = run(pl0, "check", "missing", str(TOP / "docs"), str(TOP / "checks" / "mistakes" / "mod.pl0"))
