@@ -1,8 +1,8 @@
 -- The conversation goes on by one content more, or breaks off at it.
-use Rattle.std.proofs.Common.{take, length, ◌<◌, ◌+◌, ◌≡◌, ℕ, true, List, [], ◌∷◌, ◌++◌, refl, sym, ◌∙◌, ap, subst, append_assoc, append-nil, Option, None, Some, inr}
-use Rattle.std.proofs.KnownBytes.{Appends-nil, Appends-trans, Consumes-trans}
+use Rattle.std.proofs.Common.{◌≡◌, ℕ, true, List, [], ◌∷◌, ◌++◌, refl, sym, ◌∙◌, ap, subst, append_assoc, append-nil, Option, None, Some}
+use Rattle.std.proofs.KnownBytes.{Appends-nil, Appends-trans}
 use Rattle.std.specs.Prelude.{codes, not, ◌≢◌, MatchOption, Result, Ok, Err, IfErr}
-use Rattle.std.specs.Io.KnownBytes.{Appends, Consumes, IsAtEnd}
+use Rattle.std.specs.Io.KnownBytes.{Appends}
 use Rattle.std.specs.Str.{bytes_eq}
 use Rattle.serde_json.specs.Data.{Data}
 use Rattle.serde_json.specs.Find.{get}
@@ -11,7 +11,7 @@ use Rattle.dap_frame.specs.declared.fault.FramingFault.{FramingFault}
 use Rattle.dap_server.specs.Requests.{Request, IsReadAs, request_of, is_request, seq_of, command_of}
 use Rattle.dap_server.specs.Messages.{PlainReply, messages, frames_of, Adds}
 use Rattle.dap_server.specs.Conversation.{State, state, Replies, Conversation, Progress, Answers, Turns}
-use Rattle.dap_server.specs.Serving.{IsLeftTo, FailsAt, FailsIn, IsDone, Breaks, Failures, HasFailed}
+use Rattle.dap_server.specs.Serving.{IsLeftTo, FailsAt, FailsIn, IsDone, BreaksWithin}
 use Rattle.dap_server.specs.declared.ending.ServeFault.{ServeFault}
 use Rattle.dap_server.specs.declared.ending.ServeFault.TheVariants as fault
 use Rattle.dap_server.proofs.Adding.{frames_of-append}
@@ -20,7 +20,7 @@ use Rattle.dap_server.proofs.Once.{each_is_read}
 -- ---- frames
 
 -- frames, and then the frames of what follows them
-frames_join : (a b c : List ℕ) (cs ds : List (List ℕ)) → Frames a cs b → Frames b ds c → Frames a (cs ++ ds) c
+pub frames_join : (a b c : List ℕ) (cs ds : List (List ℕ)) → Frames a cs b → Frames b ds c → Frames a (cs ++ ds) c
 frames_join a b c [] ds first later = subst (λ l. Frames l ds c) (sym first) later
 frames_join a b c (content ∷ cs) ds first later = (first.0, first.1, frames_join first.0 b c cs ds first.2 later)
 
@@ -34,7 +34,7 @@ frame_longer bytes content rest piece front = record {
 }
 
 -- more of the stream has come
-frames_longer : (stream rest piece : List ℕ) (contents : List (List ℕ)) → Frames stream contents rest
+pub frames_longer : (stream rest piece : List ℕ) (contents : List (List ℕ)) → Frames stream contents rest
     → Frames (stream ++ piece) contents (rest ++ piece)
 frames_longer stream rest piece [] cut = ap (λ l. l ++ piece) cut
 frames_longer stream rest piece (content ∷ contents) cut =
@@ -206,33 +206,13 @@ not_empty (Some f) P Q front piece is told same = absurd (let e : ⊥ = cc in e)
 pub breaks_in : {S : Type 0} (f : ServeFault) (replies : Replies S) (b : State S) (rest more content : List ℕ)
     (adapter : S)
     (written later : Option (List ℕ)) → IsFrameInFront rest content more
-    → FailsIn f replies b content adapter written later → Breaks f replies b rest adapter written later
+    → FailsIn f replies b content adapter written later → BreaksWithin f replies b rest adapter written later
 breaks_in fault.Input replies b rest more content adapter written later front fails = absurd fails.2
 breaks_in fault.Output replies b rest more content adapter written later front fails = (content, more, front, fails)
 breaks_in (fault.Framing f) replies b rest more content adapter written later front fails = absurd fails.2
-breaks_in fault.NoMemory replies b rest more content adapter written later front fails =
-    inr (content, more, front, fails)
+breaks_in fault.NoMemory replies b rest more content adapter written later front fails = (content, more, front, fails)
 breaks_in fault.NoSeq replies b rest more content adapter written later front fails = (content, more, front, fails)
-
--- the failures of the input, which none was added to, and of the output, where the session ends early at what was read
-pub failures_at : (f : ServeFault) (i j m n : ℕ) → j ≡ i → HasFailed f m n → Failures (Err f) i j m n
-failures_at fault.Input i j m n same failed = absurd failed
-failures_at fault.Output i j m n same failed = (same, failed)
-failures_at (fault.Framing f) i j m n same failed = (same, failed)
-failures_at fault.NoMemory i j m n same failed = (same, failed)
-failures_at fault.NoSeq i j m n same failed = (same, failed)
 
 pub if_err_weaker : {A E : Type 0} (r : Result A E) (P Q : E → Type 0) → ((e : E) → P e → Q e) → IfErr r P → IfErr r Q
 if_err_weaker (Ok x) P Q f h = h
 if_err_weaker (Err e) P Q f h = f e h
-
--- ---- what was read
-
--- at the end nothing more is taken
-pub taken_all : (a b c : Option (List ℕ)) (taken room : List ℕ) (n : ℕ) → n ≡ 0 → 0 < length room → Consumes a b taken
-    → Consumes b c (take n room) → (n ≡ 0 → 0 < length room → IsAtEnd c) → Consumes a c taken × IsAtEnd c
-taken_all a b c taken room n none there before read at_end = (
-  subst (Consumes a c) (append-nil taken)
-      (Consumes-trans a b c taken [] before (subst (λ k. Consumes b c (take k room)) none read)),
-  at_end none there,
-)

@@ -4,7 +4,11 @@ pub mod Requests
 pub mod Messages
 -- the conversation: requests answered, one after another
 pub mod Conversation
+-- what comes to a session, and what is sent for it
+pub mod Inbox
 -- what is read, answered and written, and how it ends: the contract of `serve`
 pub mod Serving
+-- how a session over an inbox ends: the contract of `serve_inbox`
+pub mod ServingInbox
 -- what holds of all contents
 pub mod Laws

@@ -62,18 +62,21 @@ IsDone b adapter written later = (adapter ≡ b.adapter) × (later ≡ written)
 abbrev pub LosesBytes : List ℕ → Type 0
 LosesBytes rest = (before : List ℕ) × (piece : List ℕ) × (rest ≡ before ++ piece) × IsOpen before × (piece ≢ [])
 
+-- why a session ends early at what stands in the rest
+abbrev pub BreaksWithin : {S : Type 0} → ServeFault → Replies S → State S → List ℕ → S → Option (List ℕ)
+    → Option (List ℕ) → Type 0
+BreaksWithin (fault.Framing f) replies b rest adapter written later =
+    IsDone b adapter written later × FaultAt rest f
+BreaksWithin f replies b rest adapter written later = FailsInFront f replies b rest adapter written later
+
 -- why a session ends early
 abbrev pub Breaks : {S : Type 0} → ServeFault → Replies S → State S → List ℕ → S → Option (List ℕ) → Option (List ℕ)
     → Type 0
 Breaks fault.Input replies b rest adapter written later = IsDone b adapter written later × IsOpen rest
-Breaks (fault.Framing f) replies b rest adapter written later = IsDone b adapter written later × FaultAt rest f
-Breaks fault.Output replies b rest adapter written later =
-    FailsInFront fault.Output replies b rest adapter written later
-Breaks fault.NoSeq replies b rest adapter written later =
-    FailsInFront fault.NoSeq replies b rest adapter written later
 Breaks fault.NoMemory replies b rest adapter written later =
     (IsDone b adapter written later × LosesBytes rest)
-    ⊎ FailsInFront fault.NoMemory replies b rest adapter written later
+    ⊎ BreaksWithin fault.NoMemory replies b rest adapter written later
+Breaks f replies b rest adapter written later = BreaksWithin f replies b rest adapter written later
 
 -- how a session ends: when the client has left, with the input, of which no whole frame is left, or early
 abbrev pub Ends : {S : Type 0} → Result Ending ServeFault → Replies S → State S → List ℕ → Option (List ℕ) → S
@@ -131,4 +134,4 @@ pub record Stops {S : Type 0} (f : ServeFault) (replies : Replies S) (a : State 
   pub answers : Option (List ℕ)
   pub progress : Progress replies a reached stream rest (Appends written answers)
   pub there : reached.present ≡ true
-  pub breaks : Breaks f replies reached rest adapter answers later
+  pub breaks : BreaksWithin f replies reached rest adapter answers later

@@ -41,6 +41,7 @@
 #![tactic(auto)]
 
 mod ending;
+mod inbox;
 mod laws;
 mod messages;
 mod reading;
@@ -49,7 +50,8 @@ mod responder;
 mod serving;
 
 pub use ending::{Ending, ServeFault};
+pub use inbox::{Inbox, Item};
 pub use laws::request_laws;
 pub use reply::{Event, Reply};
 pub use responder::Responder;
-pub use serving::serve;
+pub use serving::{serve, serve_inbox};

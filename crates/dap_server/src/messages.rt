@@ -33,6 +33,22 @@ pub(crate) fn frames_of(
     Ok(bytes)
 }
 
+/// Returns the frame of an event that no request asked for, numbered `next`.
+pub(crate) fn frame_of_event(
+    alloc: Global,
+    unasked: Event,
+    next: &mut u64,
+) -> Result<Vec<u8>, ServeFault>
+    ensures ok { IfOk result (λ bytes. Adds
+        (event_value (plain_event unasked) next.old ∷ []) next.old next.new [] bytes.items) }
+    ensures err { IfErr result (λ fault. Unmade fault (next.old + 1)) }
+{
+    let mut bytes = Vec::new(alloc);
+    let message = event(alloc, unasked, *next)?;
+    add(alloc, &message, next, &mut bytes)?;
+    Ok(bytes)
+}
+
 /// Returns the events that are sent after the answer to this command: none where the client leaves with it.
 fn events_after(alloc: Global, command: &str, events: Vec<Event>) -> Vec<Event>
     ensures { map plain_event result.items ≡ events_after command.now (map plain_event events.items) }

@@ -6,22 +6,24 @@ ghost use Rattle.std.specs.Io.KnownBytes.{Appends};
 ghost use Rattle.serde_json.specs.View.{view};
 ghost use Rattle.dap_frame.specs.Frame.{IsOpen};
 ghost use Rattle.dap_server.specs.Requests.{request_of, IsReadAs};
+ghost use Rattle.dap_server.specs.Messages.{plain_event};
 ghost use Rattle.dap_server.specs.Conversation.{state, Answers, Turns, Progress};
+ghost use Rattle.dap_server.specs.Inbox.{Tells};
+ghost use Rattle.dap_server.specs.ServingInbox.{ServedInbox, OutputFailures, CannotTell};
 ghost use Rattle.dap_server.specs.Serving.{stays, FailsAt, FailsIn, HasFailed, Failures, Stops, Served};
 ghost use Rattle.dap_server.specs.declared.serving.Client.TheVariants.{Stays};
 
 use crate::ending::{Ending, ServeFault};
-use crate::messages::frames_of;
+use crate::inbox::{Inbox, Item};
+use crate::messages::{frame_of_event, frames_of};
 use crate::reading::{command_of, is_request, seq_of};
+use crate::reply::Event;
 use crate::responder::Responder;
-use byte_streams::{IoFault, Sink, Source, write_all};
+use byte_streams::{Sink, Source, write_all};
 use dap_frame::{Decoder, frame_laws};
 use serde_json::Value;
 use std::alloc::{AllocError, Global};
 use std::sync::Wait;
-
-/// The bytes that one read of the input takes at most.
-const PIECE: usize = 4096;
 
 /// Whether the client is still there.
 #[derive(Clone, Copy)]
@@ -49,31 +51,77 @@ pub fn serve<R: Responder, I: Source, O: Sink>(
     ensures failures { Failures result (I.failures input.old) (I.failures input.new)
         (O.failures output.old) (O.failures output.new) }
 {
+    serve_inbox(rt, alloc, responder, input, output)
+}
+
+/// Serves a client until its `disconnect` is answered or no more comes, and sends the events of the inbox, each when it is
+/// taken: after the answers to all requests that had come whole before it, and before any later one's.
+///
+/// # Errors
+///
+/// As [`serve`]. `NoSeq`, `NoMemory` and `Output` also where an event can't be sent.
+pub fn serve_inbox<R: Responder, I: Inbox, O: Sink>(
+    rt: &impl Wait,
+    alloc: Global,
+    responder: &mut R,
+    inbox: &mut I,
+    output: &mut O,
+) -> Result<Ending, ServeFault>
+    ensures served { ServedInbox R.replies I.gives responder.old responder.new inbox.old inbox.new
+        (O.written output.old) (O.written output.new) result }
+    ensures failures { OutputFailures result (O.failures output.old) (O.failures output.new) }
+{
     let mut decoder = Decoder::new(alloc);
     let mut next = 1;
-    let mut room = [0; PIECE];
     for _ in rt.forever() {
-        let client = match answer_all(rt, alloc, responder, &mut decoder, &mut next, output) {
-            Ok(client) => client,
-            Err(fault) => return Err(fault),
-        };
-        match client {
-            Client::Stays => {}
-            Client::Left => return Ok(Ending::Left),
-        }
-        match input.read(&mut room) {
-            Ok(0) => return Ok(Ending::InputEnded),
-            Ok(count) => {
-                match decoder.feed(room.split_at(count).0) {
+        match inbox.next(rt, alloc) {
+            Item::Bytes(bytes) => {
+                match decoder.feed(bytes.as_slice()) {
                     Ok(()) => {}
                     Err(_) => return Err(ServeFault::NoMemory),
                 }
+                let client = answer_all(rt, alloc, responder, &mut decoder, &mut next, output)?;
+                match client {
+                    Client::Stays => {}
+                    Client::Left => return Ok(Ending::Left),
+                }
             }
-            Err(IoFault::Interrupted) => {}
-            Err(IoFault::Failed) => return Err(ServeFault::Input),
+            Item::Unasked(event) => match tell(rt, alloc, event, &mut next, output) {
+                Ok(()) => {}
+                Err(fault) => return Err(fault),
+            },
+            Item::End => return Ok(Ending::InputEnded),
+            Item::Failed => return Err(ServeFault::Input),
+            Item::NoMemory => return Err(ServeFault::NoMemory),
         }
     }
     unreachable!()
+}
+
+/// Sends an event.
+fn tell<O: Sink>(
+    rt: &impl Wait,
+    alloc: Global,
+    event: Event,
+    next: &mut u64,
+    output: &mut O,
+) -> Result<(), ServeFault>
+    ensures ok { OnOk result (Tells (plain_event event) next.old next.new
+        (Appends (O.written output.old) (O.written output.new))) }
+    ensures count { OnOk result (O.failures output.new ≡ O.failures output.old) }
+    ensures err { IfErr result (λ fault. CannotTell fault (plain_event event) next.old (O.written output.old)
+        (O.written output.new)) }
+    ensures failed { IfErr result (λ fault. HasFailed fault (O.failures output.old) (O.failures output.new)) }
+{
+    let frame = match frame_of_event(alloc, event, next) {
+        Ok(frame) => frame,
+        Err(fault) => return Err(fault),
+    };
+    if write_all(rt, output, frame.as_slice()) {
+        Ok(())
+    } else {
+        Err(ServeFault::Output)
+    }
 }
 
 /// Answers each request that has come whole.
