@@ -4,5 +4,5 @@ mod Adding
 mod Once
 -- The conversation goes on by one content more, or breaks off at it; for the functions of `serving`.
 mod Conversing
--- Items are taken one after another, and what a source gives is read; for `serve_inbox`, `serve` and the inbox of sources.
+-- Items are taken one after another, and what a source gives is read; for `serve_inbox`, `serve` and `Inbox`.
 mod Taking

@@ -141,7 +141,7 @@ pub ended_by : {S I : Type 0} (replies : Replies S) (gives : Gives I) (before af
     → Session replies gives (state before 1 true) b rest inbox mid (Appends written now) → gives mid item left
     → b.present ≡ true → IsOpen rest → EndsBy item result b after now later
     → ServedInbox replies gives before after inbox left written later result
-ended_by replies gives before after b rest inbox mid left item written now later result session gave there is_open ends =
+ended_by replies gives before after b rest inbox mid left item old now new result session gave there is_open ends =
     record {
       reached = b;
       rest = rest;
@@ -213,7 +213,8 @@ read_all replies supply_of a b rest later [] texts inbox left given taken = reco
 }
 read_all replies supply_of a b rest later (Bytes bytes ∷ items) texts inbox left given taken =
     let step = taken.2.4 in
-    let others = read_all replies supply_of taken.2.0 b taken.2.1 later items taken.2.3 given.0 left given.2 taken.2.5 in
+    let others =
+    read_all replies supply_of taken.2.0 b taken.2.1 later items taken.2.3 given.0 left given.2 taken.2.5 in
     record {
       bytes = bytes ++ others.bytes;
       contents = step.0 ++ others.contents;
@@ -413,5 +414,5 @@ pub source_failures : {S I : Type 0} (replies : Replies S) (supply_of : I → Su
 source_failures replies supply_of before after inbox left written later result m n is out =
     ended_failures replies supply_of is.reached is.rest after (supply_of inbox).failures is.taken left is.answers later
     result is.last m n
-    (so_far replies supply_of (state before 1 true) is.reached is.rest inbox is.taken written is.answers is.session).kept
-    is.ends out
+    (so_far replies supply_of (state before 1 true) is.reached is.rest inbox is.taken written is.answers
+    is.session).kept is.ends out

@@ -40,9 +40,10 @@ Reads a End b = Consumes a.left b.left [] × IsAtEnd b.left × (b.failures ≡ a
 Reads a Failed b = Consumes a.left b.left [] × (a.failures < b.failures)
 Reads a NoMemory b = (lost : List ℕ) × Consumes a.left b.left lost × (lost ≢ []) × (b.failures ≡ a.failures)
 
--- An item is taken: the contents of the frames that bytes complete are handled in order; an event is sent, with the next
--- number. No other item is taken.
-abbrev pub Takes : {S : Type 0} → Replies S → State S → List ℕ → PlainItem → List (List ℕ) → State S → List ℕ → Type 0
+-- An item is taken: the contents of the frames that bytes complete are handled in order; an event is sent, with the
+-- next number. No other item is taken.
+abbrev pub Takes : {S : Type 0} → Replies S → State S → List ℕ → PlainItem → List (List ℕ) → State S → List ℕ
+    → Type 0
 Takes replies a rest (Bytes bytes) texts b later =
     (contents : List (List ℕ)) × Frames (rest ++ bytes) contents later × Conversation replies a contents texts b
 Takes replies a rest (Unasked event) texts b later =

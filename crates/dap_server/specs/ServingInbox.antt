@@ -42,15 +42,15 @@ EndsWithin (Err f) replies b rest adapter written later =
     (b.present ≡ true) × BreaksWithin f replies b rest adapter written later
 
 -- the session ends, with the item that was given last or before a further one is
-abbrev pub EndsAt : {S I : Type 0} → Option PlainItem → Gives I → I → I → Result Ending ServeFault → Replies S → State S
-    → List ℕ → S → Option (List ℕ) → Option (List ℕ) → Type 0
+abbrev pub EndsAt : {S I : Type 0} → Option PlainItem → Gives I → I → I → Result Ending ServeFault → Replies S
+    → State S → List ℕ → S → Option (List ℕ) → Option (List ℕ) → Type 0
 EndsAt None gives inbox after_ result replies b rest adapter written later =
     (after_ ≡ inbox) × EndsWithin result replies b rest adapter written later
 EndsAt (Some item) gives inbox after_ result replies b rest adapter written later =
     gives inbox item after_ × (b.present ≡ true) × IsOpen rest × EndsBy item result b adapter written later
 
--- The items that the inbox gave were taken in order, each request in them was answered, once, each event was sent, once,
--- and then the session ended.
+-- The items that the inbox gave were taken in order, each request in them was answered, once, each event was sent,
+-- once, and then the session ended.
 pub record ServedInbox {S I : Type 0} (replies : Replies S) (gives : Gives I) (before after : S) (inbox left : I)
     (written later : Option (List ℕ)) (result : Result Ending ServeFault) : Type 0 where
   pub reached : State S

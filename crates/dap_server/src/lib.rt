@@ -33,11 +33,14 @@
 //! }
 //! ```
 //!
-//! The one contract is that of [`serve`] (`Served` in `specs/Serving.antt`): what was read is the frames of some contents
+//! The contract is that of [`serve`] (`Served` in `specs/Serving.antt`): what was read is the frames of some contents
 //! and a rest; each content that is a request was answered once, under its own `seq` and command, with what the
 //! [`Responder`] replied, its events after it, and no other content was; the messages are numbered 1, 2, 3; and what was
 //! written is their frames. Each [`Ending`] and each [`ServeFault`] says what the rest is, and what of it is unanswered.
 //! What a reply says is the adapter's own promise, its ghost member `replies`.
+//!
+//! [`serve_inbox`] takes items of an [`Inbox`] in place of bytes, among them events that no request asked for
+//! (`ServedInbox` in `specs/ServingInbox.antt`).
 #![tactic(auto)]
 
 mod ending;
