@@ -156,7 +156,7 @@ stays taken events (e ∷ back) mid between new left history over all =
 
 -- ---- requests
 
-asked_are : (items : List Item) → filter_map asked (filter_map read_as items) ≡ filter_map request_of_item items
+pub asked_are : (items : List Item) → filter_map asked (filter_map read_as items) ≡ filter_map request_of_item items
 asked_are [] = refl
 asked_are (Content None ∷ items) = asked_are items
 asked_are (Content (Some request) ∷ items) =
@@ -169,7 +169,7 @@ asked_are (InputEnd ∷ items) = asked_are items
 asked_are (ReadFailure ∷ items) = asked_are items
 asked_are (MemoryFailure ∷ items) = asked_are items
 
-abbrev items_of : History → List Item
+abbrev pub items_of : History → List Item
 items_of past = map (λ (step : Step). step.item) past
 
 -- one more item that is no request

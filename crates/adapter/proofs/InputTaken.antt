@@ -302,6 +302,34 @@ input_taken_whole f wrote before after driven = by_drives session.drives
           nothing_after = all.nothing_after;
         }
 
+-- ---- a prefix of what was read
+
+-- the pieces that a session took, joined, are a prefix of what was read of the input
+pub record BeginsRead (events : List Incoming) (old later : Supply) : Type 0 where
+  pub read : List ℕ
+  pub consumed : Consumes old.left later.left read
+  pub begins : IsPrefixOf (stream_of events) read
+
+pub begins_read : (f : FirstSeq) (events given client : List Incoming) (loads : List Load) (end : ReadEnd)
+    (old later : Supply) → Interleaves f [] events given loads → IsReadUntil end client old later
+    → IsPrefixOf (from_client given) client → BeginsRead events old later
+begins_read f events given client loads end old later from read taken = record {
+  read = stream_of client ++ stream_of read.lost;
+  consumed =
+      consumes_both old.left read.mid.left later.left (stream_of client) (stream_of read.lost)
+      (read_stream client old read.mid read.read) (lost_stream end read.lost read.mid later read.loses);
+  begins = (
+    stream_of taken.0 ++ stream_of read.lost,
+    sym (append_assoc (stream_of events) (stream_of taken.0) (stream_of read.lost))
+        ∙ ap (λ l. l ++ stream_of read.lost) client_is,
+  );
+}
+  where
+    client_is : stream_of events ++ stream_of taken.0 ≡ stream_of client
+    client_is =
+        ap (λ l. l ++ stream_of taken.0) (sym (inbox_stream f [] events given loads from) ∙ sym (client_stream given))
+        ∙ sym (stream_append (from_client given) taken.0) ∙ ap stream_of taken.1
+
 -- ---- closed by a `disconnect`
 
 record IsFound {A B : Type 0} (f : A → Option B) (xs : List A) (y : B) : Type 0 where
@@ -357,23 +385,14 @@ not_none : {A : Type 0} (xs : List A) (x : A) → ¬ (xs ++ x ∷ [] ≡ [])
 not_none [] x is = absurd cc
 not_none (y ∷ xs) x is = absurd cc
 
-module _ (last : DisconnectIsLast) (f : FirstSeq) (events given client : List Incoming) (loads : List Load)
-    (end : ReadEnd)
-    (old later : Supply)
-    (from : Interleaves f [] events given loads) (read : IsReadUntil end client old later)
-    (taken : IsPrefixOf (from_client given) client) where
+module _ (last : DisconnectIsLast) (f : FirstSeq) (events : List Incoming) (old later : Supply)
+    (all : BeginsRead events old later) where
   first_disconnect : (past : History) (rest : Rest) → rest.first ≡ f → IsHistoryOf events past rest
       → ending_of past ≡ Some (ending.Closed closed.Disconnected) → TakesFirstDisconnect f events old later
   first_disconnect past rest same_first history is = record {
-    read = stream_of client ++ stream_of read.lost;
-    consumed =
-        consumes_both old.left read.mid.left later.left (stream_of client) (stream_of read.lost)
-        (read_stream client old read.mid read.read) lost;
-    begins = (
-      stream_of taken.0 ++ stream_of read.lost,
-      sym (append_assoc (stream_of events) (stream_of taken.0) (stream_of read.lost))
-          ∙ ap (λ l. l ++ stream_of read.lost) client_is,
-    );
+    read = all.read;
+    consumed = all.consumed;
+    begins = all.begins;
     before = closer.front;
     step = closer.found;
     rest = rest;
@@ -386,14 +405,6 @@ module _ (last : DisconnectIsLast) (f : FirstSeq) (events given client : List In
         others.1).0;
   }
     where
-      lost : Consumes read.mid.left later.left (stream_of read.lost)
-      lost = lost_stream end read.lost read.mid later read.loses
-
-      client_is : stream_of events ++ stream_of taken.0 ≡ stream_of client
-      client_is =
-          ap (λ l. l ++ stream_of taken.0) (sym (inbox_stream f [] events given loads from) ∙ sym (client_stream given))
-          ∙ sym (stream_append (from_client given) taken.0) ∙ ap stream_of taken.1
-
       closer : IsFound (λ (step : Step). closing step.item) past (ending.Closed closed.Disconnected)
       closer = find (λ (step : Step). closing step.item) past (ending.Closed closed.Disconnected) is
 
@@ -415,6 +426,7 @@ first_disconnect_closes last f wrote before after driven = by_drives session.dri
         (Ok closed.Disconnected)
         → TakesFirstDisconnect f session.events (input_of before.streams) (input_of after.streams)
     by_drives (closes from serves) =
-        first_disconnect last f session.events driven.given driven.reader.client session.loaded driven.reader.end
-        (input_of before.streams) (input_of after.streams) from driven.reader.read driven.reader.client_taken
+        first_disconnect last f session.events (input_of before.streams) (input_of after.streams)
+        (begins_read f session.events driven.given driven.reader.client session.loaded driven.reader.end
+        (input_of before.streams) (input_of after.streams) from driven.reader.read driven.reader.client_taken)
         serves.past serves.rest serves.first_is serves.history serves.ending_is

@@ -10,8 +10,13 @@ mod InputTaken
 -- All that was read is answered, where the input's end or a failed read closed the session; for the clause `answered`
 -- of `serving_laws`.
 mod AllRead
+-- A framing fault that ended a session stands in front of what wasn't taken; for the clause `fault` of `serving_laws`.
+mod FaultStands
+-- What was read up to a `disconnect` or a framing fault is answered; for the clauses `disconnected` and `fault` of
+-- `serving_laws`.
+mod UpTo
 -- `serve` never reports that its runner or its writer is gone, and `OrdersFull` only where four orders were pushed; for
--- the clauses `gone` and `full` of `serving_laws`.
+-- the clauses `gone`, `full` and `fault` of `serving_laws`.
 mod SessionFaults
 -- Which runs the runner reports, by the number of the run that it took last; for `serving_laws`.
 mod RunNumbers

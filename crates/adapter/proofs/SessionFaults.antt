@@ -1,15 +1,17 @@
 -- What closed a session, and which faults of it are answered, by what is returned.
-use Rattle.std.proofs.Common.{◌≡◌, true, false, true≢false, Option, Some, Result, Ok, Err, refl, sym, ap, ◌∙◌, subst}
+use Rattle.std.proofs.Common.{◌≡◌, false, true≢false, Some, Result, Ok, Err, refl, sym, ap, ◌∙◌, subst}
 use Rattle.std.specs.Result.{is_err}
+use Rattle.dap_frame.specs.declared.fault.FramingFault.{FramingFault}
+use Rattle.dap_msg.specs.declared.request.FirstSeq.{FirstSeq}
 use Rattle.dap_history.specs.declared.fault.SessionFault.{SessionFault}
-use Rattle.dap_history.specs.declared.fault.SessionFault.TheVariants.{OrdersFull, RunnerGone, WriterGone}
+use Rattle.dap_history.specs.declared.fault.SessionFault.TheVariants.{Frame, OrdersFull, RunnerGone, WriterGone}
 use Rattle.dap_history.specs.declared.ending.Closed.{Closed}
 use Rattle.dap_history.specs.declared.ending.Closed.TheVariants as closed
 use Rattle.dap_session.specs.Serving.{SessionOutcome}
 use Rattle.dap_wires.specs.declared.writing.WriteFailed.{WriteFailed}
 use Rattle.adapter.specs.declared.serving.ServeFault.TheVariants.{Session}
 use Rattle.adapter.specs.Laws.{closed_of, OutcomeIsOfSession, NobodyIsGone, FullAfterFour}
-use Rattle.adapter.specs.Serving.{nothing_sent, outcome_of, TasksEnd, tasks_ended, had_no_memory, had_no_thread}
+use Rattle.adapter.specs.Serving.{World, nothing_sent, outcome_of, TasksEnd, IsServed, tasks_ended, had_no_memory, had_no_thread}
 use Rattle.adapter.proofs.Gathered.{found_runner_gone}
 
 -- what is returned tells what closed the session
@@ -39,6 +41,15 @@ answers (Ok done) (Ok closed.Disconnected) fault is = absurd cc
 answers (Ok done) (Ok closed.InputEnded) fault is = absurd cc
 answers (Ok done) (Ok closed.ReadFailed) fault is = absurd cc
 answers (Ok done) (Err f) fault is = (refl, let same : f ≡ fault = cc in ap Err same)
+
+-- where it answers a framing fault, that ended the session, and all that was put was written
+pub ends_at_framing_fault : (f : FirstSeq) (k : FramingFault) (before after : World)
+    → IsServed f (Err (Session (Frame k))) before after → TasksEnd f (Ok tt) (Err (Frame k)) before after
+ends_at_framing_fault f k before after (tasks_ended (Ok done) result is driven) =
+    subst (λ r. TasksEnd f (Ok done) r before after) (answers (Ok done) result (Frame k) (sym is)).1 driven
+ends_at_framing_fault f k before after (tasks_ended (Err failed) result is driven) = absurd cc
+ends_at_framing_fault f k before after (had_no_memory is same) = absurd cc
+ends_at_framing_fault f k before after (had_no_thread is same) = absurd cc
 
 pub nobody_is_gone : NobodyIsGone
 nobody_is_gone f outcome before after (tasks_ended wrote result is driven) = (

@@ -5,6 +5,8 @@ pub mod Serving
 pub mod Laws
 -- What is answered where the input ends or a read fails.
 pub mod AllRead
+-- What is answered up to a `disconnect`, or up to a framing fault.
+pub mod UpTo
 -- The exit status and the last line on standard error.
 pub mod ExitReasons
 -- What a loader of files reads.

@@ -1,6 +1,7 @@
 //! The laws of serving.
 
 ghost use Rattle.adapter.specs.AllRead.{AllReadIsAnswered};
+ghost use Rattle.adapter.specs.UpTo.{DisconnectIsAnswered, AllBeforeFaultIsAnswered};
 ghost use Rattle.adapter.specs.Laws.{OutcomeIsOfSession, InputIsTakenWhole, FirstDisconnectCloses, RunsEndOnce, NobodyIsGone, FullAfterFour};
 
 use dap_history::{command_laws, history_laws};
@@ -12,6 +13,8 @@ pub fn serving_laws()
     ensures outcome { OutcomeIsOfSession }
     ensures input { InputIsTakenWhole }
     ensures answered { AllReadIsAnswered }
+    ensures disconnected { DisconnectIsAnswered }
+    ensures fault { AllBeforeFaultIsAnswered }
     ensures disconnect { FirstDisconnectCloses }
     ensures runs { RunsEndOnce }
     ensures gone { NobodyIsGone }

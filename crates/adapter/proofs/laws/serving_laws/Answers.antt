@@ -2,6 +2,7 @@ use Rattle.adapter.proofs.AllRead.{all_read_is_answered}
 use Rattle.adapter.proofs.InputTaken.{input_taken_whole, first_disconnect_closes}
 use Rattle.adapter.proofs.RunsEnd.{runs_end_once}
 use Rattle.adapter.proofs.SessionFaults.{outcome_is_of_session, nobody_is_gone, full_after_four}
+use Rattle.adapter.proofs.UpTo.{disconnect_is_answered, all_before_fault_is_answered}
 use Rattle.adapter.proofs.laws.serving_laws.Goals as goal
 
 pub returns-clause-outcome : goal.returns-clause-outcome
@@ -20,6 +21,14 @@ returns-clause-answered c = all_read_is_answered (record {
   taken = c.command_laws.ensures.taken;
   ends = c.command_laws.ensures.ends;
 })
+
+pub returns-clause-disconnected : goal.returns-clause-disconnected
+returns-clause-disconnected c =
+    disconnect_is_answered c.history_laws.ensures.one c.history_laws.ensures.contents c.history_laws.ensures.answered
+    c.history_laws.ensures.last
+
+pub returns-clause-fault : goal.returns-clause-fault
+returns-clause-fault c = all_before_fault_is_answered c.history_laws.ensures.contents c.history_laws.ensures.answered
 
 pub returns-clause-disconnect : goal.returns-clause-disconnect
 returns-clause-disconnect c = first_disconnect_closes c.history_laws.ensures.last

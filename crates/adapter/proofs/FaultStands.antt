@@ -1,0 +1,187 @@
+-- A framing fault that ended a session stands in front of what the session has not taken, however much comes after it.
+use Rattle.std.proofs.Common.{◌≡◌, inl, inr, ℕ, List, [], ◌∷◌, ◌++◌, Option, None, Some, Result, Ok, Err, refl, sym, ap, ◌∙◌, subst}
+use Rattle.dap_frame.specs.Header.{FaultAt}
+use Rattle.dap_frame.specs.declared.fault.FramingFault.{FramingFault}
+use Rattle.dap_msg.specs.declared.command.Command.{Command}
+use Rattle.dap_msg.specs.declared.command.Command.TheVariants as command
+use Rattle.dap_msg.specs.declared.request.FirstSeq.{FirstSeq}
+use Rattle.dbg_runner.specs.Plain.{PlainReport}
+use Rattle.dbg_runner.specs.declared.outcome.SliceOutcome.{SliceOutcome}
+use Rattle.dbg_runner.specs.declared.outcome.SliceOutcome.TheVariants as slice
+use Rattle.dap_history.specs.declared.ending.Ending.TheVariants as ending
+use Rattle.dap_history.specs.declared.fault.LoadFault.{LoadFault}
+use Rattle.dap_history.specs.declared.fault.LoadFault.TheVariants as load_fault
+use Rattle.dap_history.specs.declared.fault.SessionFault.TheVariants.{Frame}
+use Rattle.dap_history.specs.declared.launch.Launch.{Launch}
+use Rattle.dap_history.specs.History.{Item, Content, Loaded, Accepted, Fault, InputEnd, ReadFailure, MemoryFailure, History}
+use Rattle.dap_history.specs.Readings.{closing_command, closing_report, closing, ending_of}
+use Rattle.dap_history.specs.Emission.{IsAfter}
+use Rattle.dap_history.specs.Events.{Incoming, Piece, End, ReadFailed, File, Report, Rest, only_bytes, IsTaking, Takes, one_more, closed, open_ended, faulty, waits, MayTake, LeadsByPiece, LeadsByFile, LeadsByReport, LeadsByEvent, LeadsByEvents, IsHistoryOf}
+use Rattle.dap_history.specs.Events.{NoMemory as NoMemoryCame}
+use Rattle.dap_history.proofs.Common.{arith, length-append, line_of, lines_of, or_else, HasFaultyLine}
+use Rattle.std.proofs.lemmas.List.{append_assoc, take-append-le}
+use Rattle.dap_frame.specs.declared.fault.FramingFault.TheVariants.{HeaderTooLong, BadField, NoLength, TwoLengths, BadLength, TooLarge, NoMemory as NoRoom}
+use Rattle.dap_frame.specs.Header.{IsTooLong, header_limit}
+use Rattle.dap_history.proofs.Readings.{or_else-none, ending_of-snoc}
+
+-- ---- more bytes after those there are
+
+line_more : (bytes more : List ℕ) (k : FramingFault) → HasFaultyLine bytes k → HasFaultyLine (bytes ++ more) k
+line_more bytes more k is = record {
+  fields = is.fields;
+  line = is.line;
+  after = is.after ++ more;
+  faultless = is.faultless;
+  spelled = ap (λ b. b ++ more) is.spelled ∙ append_assoc (lines_of is.fields) (line_of is.line ++ is.after) more
+      ∙ ap (λ b. lines_of is.fields ++ b) (append_assoc (line_of is.line) is.after more);
+  one_line = is.one_line;
+  within = is.within;
+  faulty = is.faulty;
+}
+
+long_more : (bytes more : List ℕ) → IsTooLong bytes → IsTooLong (bytes ++ more)
+long_more bytes more is = record {
+  fields = is.fields;
+  part = is.part;
+  faultless = is.faultless;
+  there = let a = is.there in let b = length-append bytes more in omega (arith, a, b);
+  spelled = take-append-le header_limit bytes more is.there ∙ is.spelled;
+  incomplete = is.incomplete;
+}
+
+pub fault_more : (bytes more : List ℕ) (k : FramingFault) → FaultAt bytes k → FaultAt (bytes ++ more) k
+fault_more bytes more HeaderTooLong is = long_more bytes more is
+fault_more bytes more BadField is = line_more bytes more BadField is
+fault_more bytes more NoLength is = line_more bytes more NoLength is
+fault_more bytes more TwoLengths is = line_more bytes more TwoLengths is
+fault_more bytes more BadLength is = line_more bytes more BadLength is
+fault_more bytes more TooLarge is = line_more bytes more TooLarge is
+fault_more bytes more NoRoom is = absurd is
+
+-- ---- which item ends a session so
+
+-- how a session stands after an item that it took
+ends_by : (past : History) (item : Item) (new : History) → IsTaking past → IsAfter past item new
+    → ending_of new ≡ closing item
+ends_by past item new taking after =
+    ap ending_of after.new_is ∙ ending_of-snoc past after.step
+    ∙ ap (λ i. or_else (closing i) (ending_of past)) after.item_is
+    ∙ ap (λ o. or_else (closing item) o) taking ∙ or_else-none (closing item)
+
+abbrev IsNoFault : Item → Type 0
+IsNoFault (Fault k) = ⊥
+IsNoFault _ = Unit {0}
+
+command_not : (c : Command) (k : FramingFault) → ¬ (closing_command c ≡ Some (ending.Fault (Frame k)))
+command_not command.Disconnect k is = absurd cc
+command_not _ k is = absurd cc
+
+report_not : (outcome : SliceOutcome) (k : FramingFault) → ¬ (closing_report outcome ≡ Some (ending.Fault (Frame k)))
+report_not slice.NoMemory k is = absurd cc
+report_not _ k is = absurd cc
+
+item_not : (item : Item) (k : FramingFault) → IsNoFault item → ¬ (closing item ≡ Some (ending.Fault (Frame k)))
+item_not (Content None) k other is = absurd cc
+item_not (Content (Some request)) k other is = command_not request.body k is
+item_not (Loaded launch file) k other is = absurd cc
+item_not (Accepted r) k other is = report_not r.outcome k is
+item_not (Fault j) k other is = other
+item_not InputEnd k other is = absurd cc
+item_not ReadFailure k other is = absurd cc
+item_not MemoryFailure k other is = absurd cc
+
+-- ---- along the events
+
+-- the fault that ended the session stands in front of the rest, and no launch waits
+abbrev pub FaultStands : History → Rest → Type 0
+FaultStands past rest =
+    (k : FramingFault) → ending_of past ≡ Some (ending.Fault (Frame k)) → (rest.launch ≡ None) × FaultAt rest.bytes k
+
+none_ended : (past : History) (rest : Rest) → IsTaking past → FaultStands past rest
+none_ended past rest taking k is = let e = sym taking ∙ is in absurd cc
+
+other_item : (past : History) (item : Item) (new : History) (rest : Rest) → IsTaking past → IsAfter past item new
+    → IsNoFault item → FaultStands new rest
+other_item past item new rest taking after other k is =
+    absurd (item_not item k other (sym (ends_by past item new taking after) ∙ is))
+
+same_there : (past new : History) (rest left : Rest) → new ≡ past → left ≡ rest → FaultStands past rest
+    → FaultStands new left
+same_there past new rest left same_past same_rest here =
+    subst (λ h. FaultStands h left) (sym same_past) (subst (FaultStands past) (sym same_rest) here)
+
+takes_stand : {first : FirstSeq} {past : History} {bytes : List ℕ} {new : History} {rest : Rest}
+    → Takes first past bytes new rest → FaultStands past (only_bytes first bytes) → FaultStands new rest
+takes_stand {first = first} {past = past} (one_more {mid = mid} {more = more} request taking front unwanted after taken)
+    here =
+    takes_stand taken (other_item past (Content request) mid (only_bytes first more) taking after tt)
+takes_stand (closed not) here = here
+takes_stand (open_ended taking is) here = here
+takes_stand {past = past} {bytes = bytes} (faulty k new taking fault after) here = λ j is.
+    let e : Some (ending.Fault (Frame k)) ≡ Some (ending.Fault (Frame j)) =
+    sym (ends_by past (Fault k) new taking after) ∙ is in
+    let same : k ≡ j = cc in
+    (refl, subst (FaultAt bytes) same fault)
+takes_stand (waits request launch more taking front wanted) here = λ k is. let e = sym taking ∙ is in absurd cc
+
+may_stand : (past : History) (item : Item) (new : History) (rest : Rest) → IsNoFault item → MayTake past item new
+    → FaultStands past rest → FaultStands new rest
+may_stand past item new rest other (inl over) here = same_there past new rest rest over.1 refl here
+may_stand past item new rest other (inr is) here = other_item past item new rest is.0 is.1 other
+
+piece_stands : (past : History) (rest : Rest) (launch : Option Launch) (piece : List ℕ) (new : History) (left : Rest)
+    → rest.launch ≡ launch → LeadsByPiece rest.first past launch (rest.bytes ++ piece) new left → FaultStands past rest
+    → FaultStands new left
+piece_stands past rest None piece new left same leads here =
+    takes_stand leads (λ k is. (refl, fault_more rest.bytes piece k (here k is).1))
+piece_stands past rest (Some launch) piece new left same leads here = λ k is.
+    let e = sym same ∙ (here k (sym (ap ending_of leads.0) ∙ is)).0 in absurd cc
+
+file_stands : (past : History) (rest : Rest) (launch : Option Launch) (file : Result (List ℕ) LoadFault)
+    (new : History) (left : Rest) → LeadsByFile past rest launch file new left → FaultStands past rest
+    → FaultStands new left
+file_stands past rest None file new left leads here = same_there past new rest left leads.0 leads.1 here
+file_stands past rest (Some launch) (Ok file) new left (inl over) here =
+    same_there past new rest left over.1 over.2 here
+file_stands past rest (Some launch) (Ok file) new left (inr loads) here =
+    takes_stand loads.after
+    (other_item past (Loaded launch (Some file)) loads.mid (only_bytes rest.first rest.bytes) loads.taking loads.loaded
+    tt)
+file_stands past rest (Some launch) (Err load_fault.CannotRead) new left (inl over) here =
+    same_there past new rest left over.1 over.2 here
+file_stands past rest (Some launch) (Err load_fault.CannotRead) new left (inr loads) here =
+    takes_stand loads.after
+    (other_item past (Loaded launch None) loads.mid (only_bytes rest.first rest.bytes) loads.taking loads.loaded tt)
+file_stands past rest (Some launch) (Err load_fault.NoMemory) new left leads here =
+    subst (FaultStands new) (sym leads.1) (may_stand past MemoryFailure new rest tt leads.0 here)
+
+report_stands : (past : History) (rest : Rest) (r : PlainReport) (new : History) → LeadsByReport past r new
+    → FaultStands past rest → FaultStands new rest
+report_stands past rest r new (inl over) here = same_there past new rest rest over.1 refl here
+report_stands past rest r new (inr is) here = other_item past (Accepted r) new rest is.0 is.2 tt
+
+event_stands : (past : History) (rest : Rest) (e : Incoming) (new : History) (left : Rest)
+    → LeadsByEvent past rest e new left → FaultStands past rest → FaultStands new left
+event_stands past rest (Piece piece) new left leads here =
+    piece_stands past rest rest.launch piece new left refl leads here
+event_stands past rest End new left leads here =
+    subst (FaultStands new) (sym leads.1) (may_stand past InputEnd new rest tt leads.0 here)
+event_stands past rest ReadFailed new left leads here =
+    subst (FaultStands new) (sym leads.1) (may_stand past ReadFailure new rest tt leads.0 here)
+event_stands past rest NoMemoryCame new left leads here =
+    subst (FaultStands new) (sym leads.1) (may_stand past MemoryFailure new rest tt leads.0 here)
+event_stands past rest (File file) new left leads here = file_stands past rest rest.launch file new left leads here
+event_stands past rest (Report r) new left leads here =
+    subst (FaultStands new) (sym leads.1) (report_stands past rest r new leads.0 here)
+
+events_stand : (past : History) (rest : Rest) (events : List Incoming) (new : History) (left : Rest)
+    → LeadsByEvents past rest events new left → FaultStands past rest → FaultStands new left
+events_stand past rest [] new left all here = same_there past new rest left all.0 all.1 here
+events_stand past rest (e ∷ events) new left all here =
+    events_stand all.0 all.1 events new left all.3 (event_stands past rest e all.0 all.1 all.2 here)
+
+pub fault_stands : (events : List Incoming) (past : History) (rest : Rest) → IsHistoryOf events past rest
+    → FaultStands past rest
+fault_stands events past rest history =
+    events_stand [] (only_bytes rest.first []) events past rest history
+    (none_ended [] (only_bytes rest.first []) refl)
