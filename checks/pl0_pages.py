@@ -23,7 +23,7 @@ import threading
 
 TOP = pathlib.Path(__file__).resolve().parent.parent
 ROW = re.compile(r"^\| (\d+) \| \w+ \| .* \| (.*) \| `([^`]*)` \| `(\d+) (\d+) (\d+)` \|$")
-HINT = re.compile(r"^\| ([^|]*) \| [^|]* \| `([^`]*)` \|$")
+HINT = re.compile(r"^\| ([^|]*) \| `([^`]*)` \|$")
 ENDLESS = b"var n; while 0 = 0 do begin n := n + 1; ! n end.\n"
 FAULTY = b"var n; begin n := n; ! 1 / n end.\n"
 WRITES_AND_FAULTS = b"var n; begin ! 1; ! 1 / n end.\n"
