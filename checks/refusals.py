@@ -55,18 +55,17 @@ SESSION_ENDS = {
     "read": [(0, ""), (1, "pl0dap: read failed")],
     "write": WRITE_ENDS,
 }
+# Where `trace` tells a part of a run, it says where that goes on: a drawing of positions 9 to 11 does.
+GOES_ON = "pl0: the run goes on at position 12"
 LISTING_ENDS = {"allocation": ALLOCATION_ENDS, "read": [(1, "pl0dap: cannot read")], "write": WRITE_ENDS}
 
 
 def pl0_ends(file: str) -> dict[str, list[tuple[int, str]]]:
-    """How a run of pl0 may end in which something was refused. A drawing of positions 9 to 11 says where the run goes on."""
+    """How a run of pl0 may end in which something was refused."""
     return {
-        "allocation": [(0, ""), (0, "pl0: the run goes on at position 12"), (3, "pl0: no memory")],
+        "allocation": [(0, ""), (0, GOES_ON), (3, "pl0: no memory")],
         "read": [(3, f"pl0: cannot read {file}")],
-        "write": [
-            (3, "pl0: cannot write the output"),
-            (3, "pl0: the run goes on at position 12 pl0: cannot write the output"),
-        ],
+        "write": [(3, "pl0: cannot write the output"), (3, f"{GOES_ON} pl0: cannot write the output")],
     }
 
 
