@@ -59,7 +59,7 @@ HasRun WriteFailed old new before after =
 
 -- how many steps are taken at most until all that they wrote is written
 abbrev pub slice_steps : ℕ
-slice_steps = 1048576
+slice_steps = 65536
 
 -- A slice of a run is over, and the run goes on: all that its steps wrote was written.
 pub record RunsOn (old new : Standing) (before after : Output) : Type 0 where

@@ -28,8 +28,8 @@ pub enum RunEnd {
 }
 
 /// How many steps are taken at most until what is pending is written, so that a run which is stopped from outside keeps
-/// what it wrote before: some milliseconds of them.
-const SLICE: u64 = 1 << 20;
+/// what it wrote before.
+const SLICE: u64 = 1 << 16;
 
 /// Runs a machine to the end of its program, to a step that faults, or until the output fails, and writes each number
 /// on a line of its own. Up to `room` bytes are kept until they are written together, in `pending`, which is empty
@@ -57,7 +57,7 @@ pub fn run_machine<O: Sink>(
     unreachable!()
 }
 
-/// Runs a machine as [`run_machine`] does, for a slice of at most 2^20 steps, and returns `None` where the run goes on.
+/// Runs a machine as [`run_machine`] does, for a slice of at most 2^16 steps, and returns `None` where the run goes on.
 /// Nothing is pending then.
 pub fn run_slice<O: Sink>(
     rt: &impl Wait,
