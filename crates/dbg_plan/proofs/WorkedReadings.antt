@@ -1,24 +1,68 @@
 -- What some texts of an editor read as.
-use Rattle.std.specs.Prelude.{◌≡◌, ◌≢◌, ℕ, ℤ, zero, suc, ◌++◌, drop, false, nat_eq, List, [], ◌∷◌, pos, refl, codes}
+use Rattle.std.specs.Prelude.{◌≡◌, ◌≢◌, ◌<◌, ℕ, ℤ, zero, suc, ◌++◌, drop, false, nat_eq, List, [], ◌∷◌, slice_get, Some, None, pos, refl, codes, decimal}
 use Rattle.std.proofs.Common.{arith, ap, subst, sym, get_or, ◌∙◌}
 use Rattle.std.proofs.lemmas.Bool.{eq-eqb, true≢false}
 use Rattle.std.specs.Fmt.{digits}
+use Rattle.std.proofs.lemmas.Fmt.{decimal_injective, first_decimal}
 use Rattle.std.proofs.lemmas.List.Elements.{All-from_recursion, All-head, All-tail}
 use Rattle.std.proofs.lemmas.Option.{same_Some}
 use Rattle.pl0_tree.specs.declared.tree.Place.{Place}
 use Rattle.pl0_tree.specs.declared.tree.Relation.TheVariants.{Equal}
 use Rattle.pl0_tree.specs.Tree.{Variable, Number, Compare, Expression}
-use Rattle.pl0_tree.specs.Tokens.{Token, Named, Numeral}
+use Rattle.pl0_tree.specs.declared.fault.FaultKind.TheVariants.{BadCharacter}
+use Rattle.pl0_tree.specs.Tokens.{Token, Named, Numeral, EndOfText}
 use Rattle.pl0_tree.specs.Reading.{token_at, name_at, equal, ReadsExpression, unsigned, no_term, factors, no_factor, name, number, comparison}
-use Rattle.pl0_tree.specs.Scope.{AreLawfulOutside, IsLawfulOutside, use_of, IsRead}
-use Rattle.pl0_tree.specs.Faults.{IsConditionOf, IsExpressionOf}
+use Rattle.pl0_tree.specs.Scope.{AreLawfulOutside, IsLawfulOutside, condition_uses, use_of, IsRead}
+use Rattle.pl0_tree.specs.Faults.{IsConditionOf, IsExpressionOf, IsFirstExpressionFault, in_tokens, by_itself}
+use Rattle.pl0_tree.specs.Unique.{condition_text_once}
+use Rattle.pl0_syntax.specs.Laws.{FaultExcludesExpressions}
+use Rattle.dbg_plan.specs.declared.breakpoint.Rule.{Rule}
+use Rattle.dbg_plan.specs.declared.breakpoint.Rule.TheVariants.{From, Every}
 use Rattle.dbg_plan.specs.Messages.{Part, Text, Value, ReadsParts, Lacks, braced}
 use Rattle.dbg_plan.specs.WorkedText.{called, nested, place}
-use Rattle.dbg_plan.specs.WorkedReadings.{RulesRead, ConditionsRead, MessagesRead, BracesClose}
+use Rattle.dbg_plan.specs.Resolutions.{ReadsRule}
+use Rattle.dbg_plan.specs.WorkedReadings.{RulesRead, OthersAreNoRules, ConditionsRead, NamesAreOfTheBlock, MessagesRead, BracesClose, BracesAreNotDoubled}
+use Rattle.dbg_plan.proofs.MessageParts.{continues}
 
 pub rules_read : RulesRead
 unfolding digits
 rules_read = ((refl, omega arith, omega arith), (refl, omega arith, omega arith), refl)
+
+-- ---- texts that are no rule
+
+-- what begins below `1`, after a percent sign too, is no rule
+low_is_none : (text : List ℕ) → get_or text 0 0 < 49 → (get_or text 0 0 ≡ 37 → get_or (drop 1 text) 0 0 < 49)
+    → (rule : Rule) → ¬ ReadsRule text (Some rule)
+low_is_none text low next (From k) (is, some, fits) =
+    let first = first_decimal k some (omega arith) in
+    let begins = ap (λ t. get_or t 0 0) is in
+    absurd (omega (arith, low, first, begins))
+low_is_none text low next (Every k) (is, some, fits) =
+    let first = first_decimal k some (omega arith) in
+    let begins = next (ap (λ t. get_or t 0 0) is) in
+    let there = ap (λ t. get_or (drop 1 t) 0 0) is in
+    absurd (omega (arith, begins, first, there))
+
+high_is_none : (rule : Rule) → ¬ ReadsRule (codes "2147483648") (Some rule)
+unfolding digits
+high_is_none (From k) (is, some, fits) =
+    let spelled : decimal 2147483648 ≡ codes "2147483648" = refl in
+    let same = decimal_injective 2147483648 k (omega arith) (omega arith) (spelled ∙ is) in
+    absurd (omega (arith, same))
+high_is_none (Every k) (is, some, fits) =
+    let e : 50 ≡ 37 = ap (λ t. get_or t 0 0) is in absurd (omega (arith, e))
+
+pub others_are_no_rules : OthersAreNoRules
+others_are_no_rules = (
+  low_is_none (codes "0") (omega arith) (λ e. absurd (omega (arith, e))),
+  low_is_none (codes "%0") (omega arith) (λ e. omega arith),
+  low_is_none (codes "03") (omega arith) (λ e. absurd (omega (arith, e))),
+  low_is_none (codes "-3") (omega arith) (λ e. absurd (omega (arith, e))),
+  low_is_none (codes " 3") (omega arith) (λ e. absurd (omega (arith, e))),
+  high_is_none,
+)
+
+-- ---- expressions and conditions
 
 -- a name or a number by itself is an expression
 a_name : {n : ℕ} {word : List ℕ} {p : Place} {rest : List Token} →
@@ -45,6 +89,15 @@ not_empty is = absurd cc
 
 pub conditions_read : ConditionsRead
 conditions_read = (not_empty, refl, k_is_one)
+
+-- k is no name of the main block
+pub names_are_of_the_block : NamesAreOfTheBlock
+names_are_of_the_block c (given, same, is) =
+    let read = condition_text_once is.reads k_is_one.reads in
+    let there = is.lawful 0 (use_of IsRead (called (codes "k") 1 1))
+    (ap (λ d. slice_get (condition_uses d) 0) read) in
+    let e : None ≡ Some there.at = there.found in
+    absurd cc
 
 just_k : IsExpressionOf nested (0 ∷ []) (codes "k") (Variable (called (codes "k") 1 1))
 just_k = record { short = omega arith; reads = (place 1 2, a_name); lawful = k_lawful }
@@ -103,3 +156,32 @@ no_parts Is (Value e ∷ parts) reads = reads
 
 pub braces_close : BracesClose
 braces_close m (given, same, is) = no_parts _ m.parts is.reads
+
+-- ---- doubled braces
+
+-- a brace that opens is a byte that begins no token
+opened_is_faulty : IsFirstExpressionFault nested (0 ∷ []) (codes "{k") BadCharacter (place 1 1)
+opened_is_faulty = in_tokens (omega arith) (record {
+  before = [];
+  token = _;
+  after = _;
+  stands = refl;
+  at = refl;
+  begun = (
+    Named (codes "k") ∷ EndOfText ∷ [],
+    record {
+      tokens = token_at (Named (codes "k")) (place 1 1) ∷ token_at EndOfText (place 1 2) ∷ [];
+      tree = Variable (called (codes "k") 1 1);
+      same = refl;
+      reads = (place 1 2, a_name);
+    },
+  );
+  refused = by_itself;
+})
+
+pub braces_are_not_doubled : FaultExcludesExpressions → BracesAreNotDoubled
+braces_are_not_doubled excludes m (given, same, is) =
+    let c = continues (IsExpressionOf nested (0 ∷ [])) (codes "{{k}}") [] (codes "{k") (codes "}") m.parts refl
+    (All-from_recursion (λ b. b ≢ 123) [] tt)
+    (All-from_recursion (λ b. b ≢ 125) (codes "{k") (differ _ _ refl, (differ _ _ refl, tt))) is.reads in
+    excludes nested (0 ∷ []) (codes "{k") BadCharacter (place 1 1) c.value opened_is_faulty c.reads

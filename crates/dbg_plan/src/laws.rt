@@ -1,9 +1,11 @@
 //! The laws of logs, and worked examples.
 
 ghost use Rattle.dbg_plan.specs.Logs.{EachIsReplaced, LogsAreSaid, ValuesAreArithmetic};
-ghost use Rattle.dbg_plan.specs.WorkedReadings.{RulesRead, ConditionsRead, MessagesRead, BracesClose};
+ghost use Rattle.dbg_plan.specs.WorkedReadings.{RulesRead, OthersAreNoRules, ConditionsRead, NamesAreOfTheBlock, MessagesRead, BracesClose, BracesAreNotDoubled};
 ghost use Rattle.dbg_plan.specs.WorkedRuns.{VariablesBeginAtZero, FramesAreNumbered, NextStepsStand, NamesAreFound, QuotientsAre, OperationsAre, ConditionsAre, RunsEnd};
 ghost use Rattle.dbg_plan.specs.WorkedPlans.{ConditionsStop, OthersDont, ConditionsReadTheNewest, RulesCount, ConditionsCount, CountsBegin, MessagesDontStop, ModesStop, DepthsAre, LogsAre, TextsAre, LogsCount, LogsReadTheNewest, LinesHaveSteps, RetreatsLead};
+
+use pl0_syntax::editor_laws;
 
 /// The text of a log is its message with each expression replaced by its value, if its values are those of the message's
 /// expressions. So the texts of the logs of a position are what the position says. Each value is a number or a fault of
@@ -48,11 +50,16 @@ pub fn worked_runs()
     ensures ends { RunsEnd }
 {}
 
-/// What some texts of an editor read as: hit conditions, a condition, and messages with braces. It does nothing: its
-/// contract is the examples.
+/// What some texts of an editor read as, and which don't: hit conditions, a condition, and messages with braces. It does
+/// nothing: its contract is the examples.
 pub fn worked_readings()
     ensures rules { RulesRead }
+    ensures no_rules { OthersAreNoRules }
     ensures conditions { ConditionsRead }
+    ensures names { NamesAreOfTheBlock }
     ensures messages { MessagesRead }
     ensures braces { BracesClose }
-{}
+    ensures doubled { BracesAreNotDoubled }
+{
+    editor_laws();
+}
