@@ -57,6 +57,10 @@ says_faults =
     Text [] ∷ Value (Binary Divide (Number (pos 1)) (name (codes "x"))) ∷ Text (codes " ")
     ∷ Value (Binary Add (Number (pos 9223372036854775807)) (name (codes "x"))) ∷ Text [] ∷ []
 
+-- "{x - 12}"
+abbrev says_less : List Part
+says_less = Text [] ∷ Value (Binary Subtract (name (codes "x")) (Number (pos 12))) ∷ Text [] ∷ []
+
 -- whether a breakpoint that counts from position t stops the program at these positions
 abbrev pub stops_at : Block → ℕ → List ℕ → Breakpoint → List Bool
 stops_at main t positions b = map (λ m. stops main t m b) positions
@@ -161,13 +165,14 @@ LogsAre =
     ≡ (log 0 (Ok (pos 0) ∷ []) ∷ log 2 (Err DivideByZero ∷ Ok (pos 9223372036854775807) ∷ []) ∷ []) ∷ []
     ∷ (log 0 (Ok (pos 1) ∷ []) ∷ log 2 (Ok (pos 1) ∷ Err Overflow ∷ []) ∷ []) ∷ []
 
--- What they say: each ends with a line feed.
+-- What they say, with a third that says a number below 0: each ends with a line feed.
 abbrev pub TextsAre : Type 0
 TextsAre =
     map (said loop (logging (at_step 1 None None) says_x ∷ at_step 1 None None
-    ∷ logging (at_step 1 None None) says_faults ∷ []) 0) (1 ∷ 2 ∷ 3 ∷ [])
-    ≡ ((codes "x is 0" ++ 10 ∷ []) ∷ (codes "divideByZero 9223372036854775807" ++ 10 ∷ []) ∷ []) ∷ []
-    ∷ ((codes "x is 1" ++ 10 ∷ []) ∷ (codes "1 overflow" ++ 10 ∷ []) ∷ []) ∷ []
+    ∷ logging (at_step 1 None None) says_faults ∷ logging (at_step 1 None None) says_less ∷ []) 0) (1 ∷ 2 ∷ 3 ∷ [])
+    ≡ ((codes "x is 0" ++ 10 ∷ []) ∷ (codes "divideByZero 9223372036854775807" ++ 10 ∷ []) ∷ (codes "-12" ++ 10 ∷ [])
+    ∷ []) ∷ []
+    ∷ ((codes "x is 1" ++ 10 ∷ []) ∷ (codes "1 overflow" ++ 10 ∷ []) ∷ (codes "-11" ++ 10 ∷ []) ∷ []) ∷ []
 
 -- A log is due as a stop is: by the condition, and by how many arrivals there were.
 abbrev pub LogsCount : Type 0

@@ -74,24 +74,29 @@ QuotientsAre =
     ∷ by (negsuc 9223372036854775807) (negsuc 0) ∷ []
     ≡ Ok (pos 3) ∷ Ok (negsuc 2) ∷ Ok (negsuc 2) ∷ Ok (pos 3) ∷ Err DivideByZero ∷ Err Overflow ∷ []
 
--- Of two operands that fault the left one's fault counts.
+-- What doesn't fit is a fault of each operation. Of two operands that fault the left one's counts.
 abbrev pub OperationsAre : Type 0
 OperationsAre =
     map (value loop [] 0)
     (Binary Subtract (Number (pos 2)) (Number (pos 5)) ∷ Binary Multiply (Number (negsuc 2)) (Number (pos 4))
-    ∷ Negate (Number (pos 3)) ∷ Binary Add (Number (pos 9223372036854775807)) (Number (pos 1))
+    ∷ Negate (Number (pos 3)) ∷ Negate (Number (negsuc 9223372036854775807))
+    ∷ Binary Subtract (Number (negsuc 9223372036854775807)) (Number (pos 1))
+    ∷ Binary Multiply (Number (pos 4611686018427387904)) (Number (pos 2))
+    ∷ Binary Add (Number (pos 9223372036854775807)) (Number (pos 1))
     ∷ Binary Add (Binary Divide (Number (pos 1)) (Number (pos 0)))
     (Binary Add (Number (pos 9223372036854775807)) (Number (pos 1))) ∷ [])
-    ≡ Ok (negsuc 2) ∷ Ok (negsuc 11) ∷ Ok (negsuc 2) ∷ Err Overflow ∷ Err DivideByZero ∷ []
+    ≡ Ok (negsuc 2) ∷ Ok (negsuc 11) ∷ Ok (negsuc 2) ∷ Err Overflow ∷ Err Overflow ∷ Err Overflow ∷ Err Overflow
+    ∷ Err DivideByZero ∷ []
 
--- the relations of 2 to 1, 2 and 3, and which numbers are odd
+-- the relations of 2 to 1, 2, 3 and -3, and which numbers are odd
 abbrev pub ConditionsAre : Type 0
 ConditionsAre =
-    (map (λ r. map (λ v. truth loop [] 0 (Compare r (Number (pos 2)) (Number (pos v)))) (1 ∷ 2 ∷ 3 ∷ []))
+    (map (λ r. map (λ v. truth loop [] 0 (Compare r (Number (pos 2)) (Number v)))
+    (pos 1 ∷ pos 2 ∷ pos 3 ∷ negsuc 2 ∷ []))
     (Equal ∷ Unequal ∷ Less ∷ AtMost ∷ Greater ∷ AtLeast ∷ [])
-    ≡ (Ok false ∷ Ok true ∷ Ok false ∷ []) ∷ (Ok true ∷ Ok false ∷ Ok true ∷ [])
-    ∷ (Ok false ∷ Ok false ∷ Ok true ∷ []) ∷ (Ok false ∷ Ok true ∷ Ok true ∷ [])
-    ∷ (Ok true ∷ Ok false ∷ Ok false ∷ []) ∷ (Ok true ∷ Ok true ∷ Ok false ∷ []) ∷ [])
+    ≡ (Ok false ∷ Ok true ∷ Ok false ∷ Ok false ∷ []) ∷ (Ok true ∷ Ok false ∷ Ok true ∷ Ok true ∷ [])
+    ∷ (Ok false ∷ Ok false ∷ Ok true ∷ Ok false ∷ []) ∷ (Ok false ∷ Ok true ∷ Ok true ∷ Ok false ∷ [])
+    ∷ (Ok true ∷ Ok false ∷ Ok false ∷ Ok true ∷ []) ∷ (Ok true ∷ Ok true ∷ Ok false ∷ Ok true ∷ []) ∷ [])
     × (map (λ v. truth loop [] 0 (Odd (Number v))) (pos 0 ∷ pos 3 ∷ negsuc 2 ∷ negsuc 1 ∷ [])
     ≡ Ok false ∷ Ok true ∷ Ok true ∷ Ok false ∷ [])
 
