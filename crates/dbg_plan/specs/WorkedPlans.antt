@@ -132,9 +132,10 @@ MessagesDontStop =
     ((at_step 1 None None ∷ [], Continue) ∷ (logging (at_step 1 None None) says_x ∷ [], Continue)
     ∷ (logging (at_step 1 None None) says_x ∷ at_step 1 None None ∷ [], Continue)
     ∷ (logging (at_step 1 None None) says_x ∷ [], In) ∷ (at_step 1 None None ∷ [], In)
-    ∷ (at_step 0 None None ∷ at_step 1 odd None ∷ [], Continue) ∷ [])
+    ∷ (at_step 0 None None ∷ at_step 1 odd None ∷ [], Continue)
+    ∷ (at_step 1 odd None ∷ at_step 0 None None ∷ [], Continue) ∷ [])
     ≡ Some reason.Breakpoint ∷ None ∷ Some reason.Breakpoint ∷ Some reason.Step ∷ Some reason.Breakpoint
-    ∷ Some reason.Breakpoint ∷ []
+    ∷ Some reason.Breakpoint ∷ Some reason.Breakpoint ∷ []
 
 -- Without breakpoints it is the mode that says so, by the number of frames: at position 3 there are two, at 9 three and
 -- at 10 four.
