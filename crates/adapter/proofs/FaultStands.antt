@@ -18,55 +18,10 @@ use Rattle.dap_history.specs.Readings.{closing_command, closing_report, closing,
 use Rattle.dap_history.specs.Emission.{IsAfter}
 use Rattle.dap_history.specs.Events.{Incoming, Piece, End, ReadFailed, File, Report, Rest, only_bytes, IsTaking, Takes, one_more, closed, open_ended, faulty, waits, MayTake, LeadsByPiece, LeadsByFile, LeadsByReport, LeadsByEvent, LeadsByEvents, IsHistoryOf}
 use Rattle.dap_history.specs.Events.{NoMemory as NoMemoryCame}
-use Rattle.dap_history.proofs.Common.{arith, length-append, line_of, lines_of, or_else, HasFaultyLine}
-use Rattle.std.proofs.lemmas.List.{append_assoc, take-append-le}
-use Rattle.dap_frame.specs.declared.fault.FramingFault.TheVariants.{HeaderTooLong, BadField, NoLength, TwoLengths, BadLength, TooLarge, NoMemory as NoRoom}
-use Rattle.dap_frame.specs.Header.{IsTooLong, header_limit}
-use Rattle.dap_history.proofs.Readings.{or_else-none, ending_of-snoc}
-
--- ---- more bytes after those there are
-
-line_more : (bytes more : List ℕ) (k : FramingFault) → HasFaultyLine bytes k → HasFaultyLine (bytes ++ more) k
-line_more bytes more k is = record {
-  fields = is.fields;
-  line = is.line;
-  after = is.after ++ more;
-  faultless = is.faultless;
-  spelled = ap (λ b. b ++ more) is.spelled ∙ append_assoc (lines_of is.fields) (line_of is.line ++ is.after) more
-      ∙ ap (λ b. lines_of is.fields ++ b) (append_assoc (line_of is.line) is.after more);
-  one_line = is.one_line;
-  within = is.within;
-  faulty = is.faulty;
-}
-
-long_more : (bytes more : List ℕ) → IsTooLong bytes → IsTooLong (bytes ++ more)
-long_more bytes more is = record {
-  fields = is.fields;
-  part = is.part;
-  faultless = is.faultless;
-  there = let a = is.there in let b = length-append bytes more in omega (arith, a, b);
-  spelled = take-append-le header_limit bytes more is.there ∙ is.spelled;
-  incomplete = is.incomplete;
-}
-
-pub fault_more : (bytes more : List ℕ) (k : FramingFault) → FaultAt bytes k → FaultAt (bytes ++ more) k
-fault_more bytes more HeaderTooLong is = long_more bytes more is
-fault_more bytes more BadField is = line_more bytes more BadField is
-fault_more bytes more NoLength is = line_more bytes more NoLength is
-fault_more bytes more TwoLengths is = line_more bytes more TwoLengths is
-fault_more bytes more BadLength is = line_more bytes more BadLength is
-fault_more bytes more TooLarge is = line_more bytes more TooLarge is
-fault_more bytes more NoRoom is = absurd is
+use Rattle.dap_history.proofs.Closings.{ends_by}
+use Rattle.dap_history.proofs.Cuts.{fault_more}
 
 -- ---- which item ends a session so
-
--- how a session stands after an item that it took
-ends_by : (past : History) (item : Item) (new : History) → IsTaking past → IsAfter past item new
-    → ending_of new ≡ closing item
-ends_by past item new taking after =
-    ap ending_of after.new_is ∙ ending_of-snoc past after.step
-    ∙ ap (λ i. or_else (closing i) (ending_of past)) after.item_is
-    ∙ ap (λ o. or_else (closing item) o) taking ∙ or_else-none (closing item)
 
 abbrev IsNoFault : Item → Type 0
 IsNoFault (Fault k) = ⊥

@@ -16,6 +16,7 @@ use Rattle.dap_history.specs.declared.fault.SessionFault.{SessionFault}
 use Rattle.dap_history.specs.declared.fault.SessionFault.TheVariants.{Frame}
 use Rattle.dap_history.specs.History.{Item, Content, Loaded, Accepted, Fault, InputEnd, ReadFailure, MemoryFailure, Step, History, messages_of}
 use Rattle.dap_history.specs.Events.{Incoming, Rest, IsHistoryOf}
+use Rattle.dap_history.proofs.Cuts.{fault_more}
 use Rattle.dap_history.specs.Laws.{stream_of, HistoryIsOne, ContentsAreOfTheStream, EachIsAnsweredOnce, DisconnectIsLast, AreReadAs, answered_request, launch_request, read_as, waiting}
 use Rattle.dap_session.specs.Serving.{SessionOutcome, closes, ends_at_fault, gives_up, CannotSend, no_seq_is_left, orders_are_full, runner_is_gone, writer_is_gone}
 use Rattle.byte_streams.specs.Streams.{WritesAll}
@@ -24,7 +25,7 @@ use Rattle.adapter.specs.Laws.{AsksToDisconnect, TakesFirstDisconnect}
 use Rattle.adapter.specs.Serving.{World, input_of, output_of, nothing_sent, TasksEnd}
 use Rattle.adapter.specs.UpTo.{disconnect, AnswersToDisconnect, AnswersToFault, AnswersRead, DisconnectIsAnswered, AllBeforeFaultIsAnswered}
 use Rattle.adapter.proofs.AllRead.{asked_are, items_of}
-use Rattle.adapter.proofs.FaultStands.{fault_stands, fault_more}
+use Rattle.adapter.proofs.FaultStands.{fault_stands}
 use Rattle.adapter.proofs.InputTaken.{begins_read, first_disconnect_closes}
 use Rattle.adapter.proofs.SessionFaults.{outcome_is_of_session, ends_at_framing_fault}
 

@@ -15,7 +15,7 @@ use Rattle.dap_history.proofs.Reacted.{Reacted, by_setting, by_starting, by_inte
 use Rattle.dap_history.proofs.Along.{IsTaken, IsKept, AllEvents, any_events, along}
 
 -- a session that took the item goes on only where the item doesn't close
-ends_by : (past : History) (item : Item) (new : History) → IsTaking past → IsAfter past item new
+pub ends_by : (past : History) (item : Item) (new : History) → IsTaking past → IsAfter past item new
     → ending_of new ≡ closing item
 ends_by past item new taking after =
     ap ending_of after.new_is ∙ ending_of-snoc past after.step

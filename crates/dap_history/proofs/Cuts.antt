@@ -39,7 +39,7 @@ long_more bytes more is = record {
   incomplete = is.incomplete;
 }
 
-fault_more : (bytes more : List ℕ) (k : FramingFault) → FaultAt bytes k → FaultAt (bytes ++ more) k
+pub fault_more : (bytes more : List ℕ) (k : FramingFault) → FaultAt bytes k → FaultAt (bytes ++ more) k
 fault_more bytes more HeaderTooLong is = long_more bytes more is
 fault_more bytes more BadField is = line_more bytes more BadField is
 fault_more bytes more NoLength is = line_more bytes more NoLength is
