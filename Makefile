@@ -79,14 +79,15 @@ demo: $(PROGRAM)
 	python3 demo/session.py demo/back.session $(PROGRAM)
 
 # Worked inputs, whole, a byte at a time and cut at many places, with what must come out; a session that is large in
-# everything; the demo's sessions, one of which stands in docs/PROTOCOL.md; and that the examples are those whose listings the gate
-# compares.
-rows: $(PROGRAM) $(FROM_ZERO) $(PL0)
+# everything; the demo's sessions, one of which stands in docs/PROTOCOL.md; that the examples are those whose listings the gate
+# compares; and pauses of a program of the stack language that runs for ever.
+rows: $(PROGRAM) $(FROM_ZERO) $(PL0) $(STACK)
 	python3 checks/rows.py $(PROGRAM) $(FROM_ZERO)
 	python3 checks/largest.py $(PROGRAM)
 	python3 checks/largest.py $(FROM_ZERO)
 	diff -r -x fault.pl0 -x mistake.pl0 -x procedures.pl0 examples crates/check_runs/data
 	python3 checks/pl0_pages.py $(PL0)
+	python3 checks/stack_pause.py $(STACK)
 
 # Hostile headers, contents, types, numbers, sizes, situations, cuts and ends, with what docs/PROTOCOL.md says of each.
 hostile: $(PROGRAM) $(FROM_ZERO)

@@ -4,8 +4,9 @@
 usage: debugpy_stack.py PROGRAM [ARGUMENT..]
 
 PROGRAM is the example `stack_adapter`. The session has a stop on entry, breakpoints, a step out of a call, frames, scopes, variables,
-an expression, a fault, and a second launch that comes to its end; before them two launches are refused. Prints what is wrong, and
-ends with status 1 where anything is. Status 2: `debugpy.common.messaging` isn't installed (Debian: python3-debugpy).
+an expression, a fault, a second launch that comes to its end, and a third that is paused in a loop without end; before them two
+launches are refused. Prints what is wrong, and ends with status 1 where anything is. Status 2: `debugpy.common.messaging` isn't
+installed (Debian: python3-debugpy).
 """
 import os
 import sys
@@ -14,7 +15,7 @@ from collections.abc import Iterator
 from debugpy_session import LIMIT, TOP, Session, differs, messaging
 
 DATA = os.path.join(TOP, "crates", "stack_adapter", "data")
-COUNTDOWN, SUM, MISTAKE = (os.path.join(DATA, f"{name}.stk") for name in ("countdown", "sum", "mistake"))
+COUNTDOWN, SUM, MISTAKE, LOOP = (os.path.join(DATA, f"{name}.stk") for name in ("countdown", "sum", "mistake", "loop"))
 ARRAY = messaging.json.array()
 
 
@@ -57,6 +58,18 @@ def look(session: Session) -> Iterator[str]:
     yield from differs("no variable", "no variable" in session.refusal("evaluate", expression="n + 1"), True)
 
 
+def pause(session: Session) -> Iterator[str]:
+    """A pause in a loop without end, after which the loop is left to run."""
+    session.ask("launch", program=LOOP)
+    yield from waited(session, "initialized")
+    session.ask("configurationDone")
+    yield from differs("while it runs", "isn't stopped" in session.refusal("stackTrace", threadId=1), True)
+    session.ask("pause", threadId=1)
+    yield from waited(session, "stopped")
+    yield from differs("the frame", len(lines(session)), 1)
+    session.ask("continue", threadId=1)
+
+
 def leave(session: Session) -> Iterator[str]:
     """A fault, another program that comes to its end, and the adapter's end."""
     session.ask("setBreakpoints", source={"path": COUNTDOWN}, breakpoints=[])
@@ -67,6 +80,7 @@ def leave(session: Session) -> Iterator[str]:
     yield from waited(session, "initialized")
     session.ask("configurationDone")
     yield from waited(session, "terminated")
+    yield from pause(session)
     session.ask("disconnect")
     session.channel.close()
     yield from differs("the status", session.child.wait(LIMIT), 0)

@@ -1,8 +1,8 @@
 -- What a run tells, event by event.
-use Rattle.std.proofs.Common.{◌≡◌, false, List, [], ◌∷◌, ◌++◌, Some, None, sym, ◌∙◌, ap, subst, append_assoc, codes}
+use Rattle.std.proofs.Common.{◌≡◌, List, [], ◌∷◌, ◌++◌, Some, None, sym, ◌∙◌, ap, subst, append_assoc, codes}
 use Rattle.serde_json.specs.Data.{Data}
 use Rattle.dap_server.specs.Messages.{PlainEvent, PlainReply}
-use Rattle.stack_adapter.specs.Promises.{AreOutputs, HasPrinted, Goes}
+use Rattle.stack_adapter.specs.Promises.{AreOutputs, HasPrinted, Goes, Rests}
 
 outputs_more : (events : List PlainEvent) (event : PlainEvent) → AreOutputs events → event.name ≡ codes "output"
     → AreOutputs (events ++ event ∷ [])
@@ -22,7 +22,7 @@ printed_more old new event printed same added named = record {
 pub ends : (old mid new : PlainReply) (exited terminated : PlainEvent) (body : Data) → HasPrinted old
     → mid.outcome ≡ old.outcome → mid.events ≡ old.events ++ exited ∷ [] → new.outcome ≡ mid.outcome
     → new.events ≡ mid.events ++ terminated ∷ [] → exited ≡ record { name = codes "exited"; body = Some body }
-    → terminated ≡ record { name = codes "terminated"; body = None } → Goes new false
+    → terminated ≡ record { name = codes "terminated"; body = None } → Goes new Rests
 ends old mid new exited terminated body printed same added same_again added_again is is_too = record {
   body = printed.body;
   done = same_again ∙ same ∙ printed.done;

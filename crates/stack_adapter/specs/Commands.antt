@@ -18,6 +18,7 @@ command_of name =
     else if bytes_eq name (codes "next") then command.Resume resume.Next
     else if bytes_eq name (codes "stepIn") then command.Resume resume.StepIn
     else if bytes_eq name (codes "stepOut") then command.Resume resume.StepOut
+    else if bytes_eq name (codes "pause") then command.Pause
     else if bytes_eq name (codes "stackTrace") then command.Inspect question.StackTrace
     else if bytes_eq name (codes "scopes") then command.Inspect question.Scopes
     else if bytes_eq name (codes "variables") then command.Inspect question.Variables

@@ -9,6 +9,8 @@ pub enum Phase {
     Fresh,
     /// A program is loaded, and the client sets breakpoints. Whether it is to stop at its first line.
     Configuring(Machine, bool),
+    /// The program runs in its thread.
+    Running,
     /// The program is stopped.
     Stopped(Machine),
     /// The program has ended.
@@ -20,7 +22,7 @@ impl Phase {
     pub fn machine(&self) -> Option<&Machine> {
         match self {
             Phase::Configuring(machine, _) | Phase::Stopped(machine) => Some(machine),
-            Phase::Fresh | Phase::Ended => None,
+            Phase::Fresh | Phase::Running | Phase::Ended => None,
         }
     }
 }

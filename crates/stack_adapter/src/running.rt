@@ -1,16 +1,17 @@
-//! Running the program while its request is answered.
+//! Running the program, some steps at a time.
 
 ghost use Rattle.std.specs.Prelude.{IfOk, OnOk};
 ghost use Rattle.dap_server.specs.Messages.{plain_reply};
-ghost use Rattle.stack_adapter.specs.Promises.{is_stopped, HasPrinted, Goes};
+ghost use Rattle.stack_adapter.specs.Promises.{standing_of, HasPrinted, Goes};
 
 use crate::machine::{Fault, Machine, Outcome};
-use crate::telling::{Went, end, output, stop};
+use crate::telling::{Leg, Went, end, output, stop};
 use dap_server::Reply;
 use std::alloc::{AllocError, Global};
 
-/// The most steps that are taken for one request. The program stops then, as after `pause`.
-const STEPS: u32 = 100_000;
+/// The most steps that are taken at once: while a request is answered, and by the program's thread before it looks whether
+/// the program is to pause.
+const STEPS: u32 = 1000;
 
 /// What a run is to lead to.
 #[derive(Clone, Copy)]
@@ -31,7 +32,7 @@ pub fn start(
     stop_on_entry: bool,
     breakpoints: &[usize],
 ) -> Result<Went, AllocError>
-    ensures { IfOk result (λ went. Goes (plain_reply went.reply) (is_stopped went.phase)) }
+    ensures { IfOk result (λ went. Goes (plain_reply went.reply) (standing_of went.leg)) }
 {
     let reply = Reply::done(alloc);
     if stop_on_entry {
@@ -43,7 +44,7 @@ pub fn start(
     run(alloc, machine, Goal::Breakpoint, breakpoints, reply)
 }
 
-/// Runs the program until it stops or ends, and adds what happens to the reply.
+/// Runs the program for some steps, or until it stops or ends, and adds what happens to the reply.
 ///
 /// # Errors
 ///
@@ -56,7 +57,7 @@ pub fn run(
     mut reply: Reply,
 ) -> Result<Went, AllocError>
     requires { HasPrinted (plain_reply reply) }
-    ensures { IfOk result (λ went. Goes (plain_reply went.reply) (is_stopped went.phase)) }
+    ensures { IfOk result (λ went. Goes (plain_reply went.reply) (standing_of went.leg)) }
 {
     for _ in 0..STEPS {
         match take_step(alloc, &mut machine, &mut reply)? {
@@ -70,7 +71,10 @@ pub fn run(
             return stop(alloc, machine, reason, None, reply);
         }
     }
-    stop(alloc, machine, "pause", None, reply)
+    Ok(Went {
+        reply,
+        leg: Leg::Running(machine),
+    })
 }
 
 /// Takes a step, and adds what it prints to the reply.

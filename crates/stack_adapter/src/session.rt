@@ -2,7 +2,12 @@
 
 mod requests;
 
+ghost use Rattle.std.specs.Prelude.{IfOk};
+ghost use Rattle.dap_server.specs.Messages.{plain_reply};
+ghost use Rattle.stack_adapter.specs.Promises.{standing, Replies};
+
 use crate::command::{Command, command_of};
+use crate::link::Link;
 use crate::phase::Phase;
 use dap_server::{Reply, Responder};
 use serde_json::{Value, json};
@@ -18,14 +23,16 @@ pub struct Session<'a, R: Wait + Files + Clock> {
     path: String,
     /// The lines of breakpoints, of which the first is 0.
     breakpoints: Vec<usize>,
+    /// Where the program runs that takes more than some steps.
+    link: Link,
 }
 
 impl<R: Wait + Files + Clock> Responder for Session<'_, R> {
     ghost use Rattle.stack_adapter.specs.Commands.{command_of};
-    ghost use Rattle.stack_adapter.specs.Promises.{is_stopped, Replies};
+    ghost use Rattle.stack_adapter.specs.Promises.{standing, Answers};
 
     ghost replies = { λ before command _ reply after.
-        Replies (command_of command) (is_stopped before.phase) reply (is_stopped after.phase) };
+        Answers (command_of command) (standing before.phase) reply (standing after.phase) };
 
     fn respond(
         &mut self,
@@ -33,7 +40,34 @@ impl<R: Wait + Files + Clock> Responder for Session<'_, R> {
         command: &str,
         arguments: Option<&Value>,
     ) -> Result<Reply, AllocError> {
-        match command_of(command) {
+        self.settle();
+        self.reply_to(alloc, command_of(command), arguments)
+    }
+}
+
+impl<'a, R: Wait + Files + Clock> Session<'a, R> {
+    /// Returns a session in which no program is loaded.
+    pub fn new(rt: &'a R, alloc: Global, link: Link) -> Session<'a, R> {
+        Session {
+            rt,
+            phase: Phase::Fresh,
+            path: String::new(alloc),
+            breakpoints: Vec::new(alloc),
+            link,
+        }
+    }
+
+    /// Returns what a command is replied to.
+    fn reply_to(
+        &mut self,
+        alloc: Global,
+        command: Command,
+        arguments: Option<&Value>,
+    ) -> Result<Reply, AllocError>
+        ensures { IfOk result (λ reply.
+            Replies command (standing self.old.phase) (plain_reply reply) (standing self.new.phase)) }
+    {
+        match command {
             Command::Initialize => Ok(Reply::with_body(
                 alloc,
                 json!(in alloc; {"supportsConfigurationDoneRequest": true})?,
@@ -46,21 +80,10 @@ impl<R: Wait + Files + Clock> Responder for Session<'_, R> {
                 json!(in alloc; {"threads": [{"id": 1u64, "name": "stack"}]})?,
             )),
             Command::Resume(resume) => self.resume(alloc, resume),
+            Command::Pause => self.pause(alloc),
             Command::Inspect(question) => self.inspect(alloc, question, arguments),
             Command::Disconnect => Ok(Reply::done(alloc)),
             Command::Unsupported => Reply::refused(alloc, "unsupported"),
-        }
-    }
-}
-
-impl<'a, R: Wait + Files + Clock> Session<'a, R> {
-    /// Returns a session in which no program is loaded.
-    pub fn new(rt: &'a R, alloc: Global) -> Session<'a, R> {
-        Session {
-            rt,
-            phase: Phase::Fresh,
-            path: String::new(alloc),
-            breakpoints: Vec::new(alloc),
         }
     }
 }

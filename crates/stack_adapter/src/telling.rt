@@ -2,19 +2,26 @@
 
 ghost use Rattle.std.specs.Prelude.{◌≡◌, codes, IfOk};
 ghost use Rattle.dap_server.specs.Messages.{plain_reply, plain_event};
-ghost use Rattle.stack_adapter.specs.Promises.{is_stopped, HasPrinted, Goes};
+ghost use Rattle.stack_adapter.specs.Promises.{standing_of, HasPrinted, Goes};
 
 use crate::machine::Machine;
-use crate::phase::Phase;
 use dap_server::{Event, Reply};
 use serde_json::{Value, json};
 use std::alloc::{AllocError, Global};
 
-/// The reply to a request that lets the program run, and the phase then.
+/// What some steps of the program came to.
+#[derive(Drop)]
+pub enum Leg {
+    Running(Machine),
+    Stopped(Machine),
+    Ended,
+}
+
+/// What some steps of the program came to, and a reply that tells of them.
 #[derive(Drop)]
 pub struct Went {
     pub reply: Reply,
-    pub phase: Phase,
+    pub leg: Leg,
 }
 
 /// Returns the event that tells a number.
@@ -29,14 +36,14 @@ pub fn output(alloc: Global, number: i64) -> Result<Event, AllocError>
 /// Adds that the program has ended.
 pub fn end(alloc: Global, mut reply: Reply) -> Result<Went, AllocError>
     requires { HasPrinted (plain_reply reply) }
-    ensures { IfOk result (λ went. Goes (plain_reply went.reply) (is_stopped went.phase)) }
+    ensures { IfOk result (λ went. Goes (plain_reply went.reply) (standing_of went.leg)) }
 {
     let body = json!(in alloc; {"exitCode": 0u64})?;
     reply.push(Event::new(alloc, "exited", Some(body))?)?;
     reply.push(Event::new(alloc, "terminated", None)?)?;
     Ok(Went {
         reply,
-        phase: Phase::Ended,
+        leg: Leg::Ended,
     })
 }
 
@@ -49,13 +56,13 @@ pub fn stop(
     mut reply: Reply,
 ) -> Result<Went, AllocError>
     requires { HasPrinted (plain_reply reply) }
-    ensures { IfOk result (λ went. Goes (plain_reply went.reply) (is_stopped went.phase)) }
+    ensures { IfOk result (λ went. Goes (plain_reply went.reply) (standing_of went.leg)) }
 {
     let body = stopped(alloc, reason, text)?;
     reply.push(Event::new(alloc, "stopped", Some(body))?)?;
     Ok(Went {
         reply,
-        phase: Phase::Stopped(machine),
+        leg: Leg::Stopped(machine),
     })
 }
 

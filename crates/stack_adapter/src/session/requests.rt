@@ -1,16 +1,18 @@
 //! What is done at the requests that need the program.
 
-ghost use Rattle.std.specs.Prelude.{IfOk};
+ghost use Rattle.std.specs.Prelude.{◌≡◌, IfOk};
 ghost use Rattle.dap_server.specs.Messages.{plain_reply};
-ghost use Rattle.stack_adapter.specs.Promises.{is_stopped, IsQuiet, LoadsOrNot, HasPrinted, GoesOrNot};
+ghost use Rattle.stack_adapter.specs.Promises.{standing, standing_of, IsQuiet, LoadsOrNot, HasPrinted, GoesOrNot, Settles};
 
 use crate::breakpoints::set_breakpoints;
 use crate::command::{Question, Resume};
 use crate::inspecting::ask;
+use crate::link::{Halt, Order, Run};
 use crate::loading::{Launched, load};
 use crate::phase::Phase;
 use crate::running::{Goal, run, start};
 use crate::session::Session;
+use crate::telling::Leg;
 use dap_server::{Event, Reply};
 use serde_json::{Value, json};
 use std::alloc::{AllocError, Global};
@@ -19,6 +21,19 @@ use std::rt::{Clock, Files};
 use std::sync::Wait;
 
 impl<R: Wait + Files + Clock> Session<'_, R> {
+    /// Takes the program back where it has stopped or ended since it was let go.
+    pub(super) fn settle(&mut self)
+        ensures { Settles (standing self.old.phase) (standing self.new.phase) }
+    {
+        if let Phase::Running = self.phase {
+            match self.link.halt(self.rt) {
+                Some(Halt::Stopped(machine)) => self.phase = Phase::Stopped(machine),
+                Some(Halt::Ended) => self.phase = Phase::Ended,
+                None => {}
+            }
+        }
+    }
+
     /// Loads a program, in the place of the one that there is.
     pub(super) fn launch(
         &mut self,
@@ -26,8 +41,11 @@ impl<R: Wait + Files + Clock> Session<'_, R> {
         arguments: Option<&Value>,
     ) -> Result<Reply, AllocError>
         ensures { IfOk result (λ reply.
-            LoadsOrNot (is_stopped self.old.phase) (plain_reply reply) (is_stopped self.new.phase)) }
+            LoadsOrNot (standing self.old.phase) (plain_reply reply) (standing self.new.phase)) }
     {
+        if let Phase::Running = self.phase {
+            return Reply::refused(alloc, "a program runs");
+        }
         match load(self.rt, alloc, arguments)? {
             Launched::Loaded(loaded) => {
                 self.path = loaded.path;
@@ -47,10 +65,10 @@ impl<R: Wait + Files + Clock> Session<'_, R> {
         arguments: Option<&Value>,
     ) -> Result<Reply, AllocError>
         ensures { IfOk result (λ reply.
-            IsQuiet (is_stopped self.old.phase) (plain_reply reply) (is_stopped self.new.phase)) }
+            IsQuiet (standing self.old.phase) (plain_reply reply) (standing self.new.phase)) }
     {
         let Some(machine) = self.phase.machine() else {
-            return Reply::refused(alloc, "no program is loaded");
+            return Reply::refused(alloc, "no program is loaded, or it runs");
         };
         let set = set_breakpoints(alloc, machine, arguments)?;
         self.breakpoints = set.lines;
@@ -60,13 +78,13 @@ impl<R: Wait + Files + Clock> Session<'_, R> {
     /// Starts the program once the client has set its breakpoints.
     pub(super) fn start(&mut self, alloc: Global) -> Result<Reply, AllocError>
         ensures { IfOk result (λ reply.
-            GoesOrNot (is_stopped self.old.phase) (plain_reply reply) (is_stopped self.new.phase)) }
+            GoesOrNot (standing self.old.phase) (plain_reply reply) (standing self.new.phase)) }
     {
         match mem::replace(&mut self.phase, Phase::Ended) {
             Phase::Configuring(machine, stop_on_entry) => {
                 let breakpoints = self.breakpoints.as_slice();
                 let went = start(alloc, machine, stop_on_entry, breakpoints)?;
-                self.phase = went.phase;
+                self.phase = self.phase_after(alloc, went.leg, Goal::Breakpoint)?;
                 Ok(went.reply)
             }
             phase => {
@@ -79,19 +97,54 @@ impl<R: Wait + Files + Clock> Session<'_, R> {
     /// Lets the program go on.
     pub(super) fn resume(&mut self, alloc: Global, resume: Resume) -> Result<Reply, AllocError>
         ensures { IfOk result (λ reply.
-            GoesOrNot (is_stopped self.old.phase) (plain_reply reply) (is_stopped self.new.phase)) }
+            GoesOrNot (standing self.old.phase) (plain_reply reply) (standing self.new.phase)) }
     {
         match mem::replace(&mut self.phase, Phase::Ended) {
             Phase::Stopped(machine) => {
                 let goal = goal_of(resume, machine.calls().len());
                 let reply = resumed(alloc, resume)?;
                 let went = run(alloc, machine, goal, self.breakpoints.as_slice(), reply)?;
-                self.phase = went.phase;
+                self.phase = self.phase_after(alloc, went.leg, goal)?;
                 Ok(went.reply)
             }
             phase => {
                 self.phase = phase;
                 Reply::refused(alloc, "the program isn't stopped")
+            }
+        }
+    }
+
+    /// Asks the program to stop, which it tells when it has.
+    pub(super) fn pause(&mut self, alloc: Global) -> Result<Reply, AllocError>
+        ensures { IfOk result (λ reply.
+            IsQuiet (standing self.old.phase) (plain_reply reply) (standing self.new.phase)) }
+    {
+        match self.phase {
+            Phase::Running => {
+                self.link.order(self.rt, Order::Pause)?;
+                Ok(Reply::done(alloc))
+            }
+            _ => Reply::refused(alloc, "the program doesn't run"),
+        }
+    }
+
+    /// Returns the phase after some steps. A program that still runs goes on in its thread.
+    fn phase_after(&self, alloc: Global, leg: Leg, goal: Goal) -> Result<Phase, AllocError>
+        ensures { IfOk result (λ phase. standing phase ≡ standing_of leg) }
+    {
+        match leg {
+            Leg::Stopped(machine) => Ok(Phase::Stopped(machine)),
+            Leg::Ended => Ok(Phase::Ended),
+            Leg::Running(machine) => {
+                let mut breakpoints = Vec::new(alloc);
+                breakpoints.extend_from_slice(self.breakpoints.as_slice())?;
+                let run = Run {
+                    machine,
+                    goal,
+                    breakpoints,
+                };
+                self.link.order(self.rt, Order::Run(run))?;
+                Ok(Phase::Running)
             }
         }
     }
@@ -104,7 +157,7 @@ impl<R: Wait + Files + Clock> Session<'_, R> {
         arguments: Option<&Value>,
     ) -> Result<Reply, AllocError>
         ensures { IfOk result (λ reply.
-            IsQuiet (is_stopped self.now.phase) (plain_reply reply) (is_stopped self.now.phase)) }
+            IsQuiet (standing self.now.phase) (plain_reply reply) (standing self.now.phase)) }
     {
         match &self.phase {
             Phase::Stopped(machine) => ask(alloc, machine, self.path.as_str(), question, arguments),
