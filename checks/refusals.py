@@ -60,12 +60,12 @@ GOES_ON = "pl0: the run goes on at position 12"
 LISTING_ENDS = {"allocation": ALLOCATION_ENDS, "read": [(1, "pl0dap: cannot read")], "write": WRITE_ENDS}
 
 
-def pl0_ends(file: str) -> dict[str, list[tuple[int, str]]]:
-    """How a run of pl0 may end in which something was refused."""
+def pl0_ends(file: str, said: str) -> dict[str, list[tuple[int, str]]]:
+    """How a run of pl0 may end in which something was refused, by what it says where nothing is."""
     return {
-        "allocation": [(0, ""), (0, GOES_ON), (3, "pl0: no memory")],
+        "allocation": [(0, said), (3, "pl0: no memory")],
         "read": [(3, f"pl0: cannot read {file}")],
-        "write": [(3, "pl0: cannot write the output"), (3, f"{GOES_ON} pl0: cannot write the output")],
+        "write": [(3, f"{said} pl0: cannot write the output".strip())],
     }
 
 
@@ -105,7 +105,10 @@ WORK_ENDS = MACHINE_ENDS + [
     wants_memory("no room for the debuggee", "memory allocation failed"),
     wants_memory("no room for an order", "memory allocation failed"),
 ]
-SLICES_ENDS = WORK_ENDS + [wants_memory("no lines", "memory allocation failed")]
+SLICES_ENDS = WORK_ENDS + [
+    wants_memory("no lines", "memory allocation failed"),
+    wants_memory("no lines", "0: no room for a text 1: memory allocation failed"),
+]
 
 
 @dataclasses.dataclass
@@ -116,6 +119,8 @@ class Run:
     pieces: list[bytes]
     ends: dict[str, list[tuple[int, str]]]
     source: str = os.devnull
+    # What it says on standard error where nothing is refused.
+    said: str = ""
     # What it is asked over pipes, in place of the source.
     exchanges: list[notation.Exchange] | None = None
     # Whether it runs for as long as the client likes.
@@ -150,7 +155,7 @@ class Run:
             return None
         if status != 0 and written and self.ends is SESSION_ENDS and (outcome.early or kind == "thread"):
             return None
-        return said or "nothing missing"
+        return "nothing missing" if (status, said) == (0, self.said) else said
 
 
 def listing(name: str) -> bytes:
@@ -240,8 +245,10 @@ def runs_of_pl0(pl0: str) -> dict[str, Run]:
         "a trace by pl0": stored_run("pl0 trace procedures.pl0"),
         "a drawing by pl0": stored_run("pl0 trace --machine --from 9 --steps 3 procedures.pl0"),
     }
+    said = {name: GOES_ON if name == "a drawing by pl0" else "" for name in given}
     return {
-        name: Run([pl0, *arguments], by_bytes(text), pl0_ends(arguments[-1])) for name, (arguments, text) in given.items()
+        name: Run([pl0, *arguments], by_bytes(text), pl0_ends(arguments[-1], said[name]), said=said[name])
+        for name, (arguments, text) in given.items()
     }
 
 
@@ -333,7 +340,7 @@ def is_whole_hindered(name: str, run: Run, library: str) -> bool:
     """Hinders reads and writes by some seeds, and answers whether nothing was missing."""
     for seed in range(1, SEEDS + 1):
         outcome = play(run, {"LD_PRELOAD": library, "REFUSES": "hindrance", "REFUSED": str(seed)})
-        if outcome != Outcome(run.whole(), 0, ""):
+        if outcome != Outcome(run.whole(), 0, run.said):
             print(f"{name}, hindered by seed {seed}: {outcome}", flush=True)
             return False
     print(f"{name}, hindered by {SEEDS} seeds: nothing missing", flush=True)
@@ -343,7 +350,7 @@ def is_whole_hindered(name: str, run: Run, library: str) -> bool:
 def is_good(name: str, run: Run, library: str) -> bool:
     """Whether a run is whole where nothing is refused, and ends as it may where something is."""
     outcome = play(run)
-    good = outcome == Outcome(run.whole(), 0, "")
+    good = outcome == Outcome(run.whole(), 0, run.said)
     if not good:
         print(f"{name}, nothing refused: {outcome}")
     for kind, later in itertools.product(run.ends, ["", "s"] if run.is_whole_program else [""]):
