@@ -24,7 +24,7 @@ use Rattle.dap_session.specs.Serving.{SessionOutcome, closes}
 use Rattle.dap_wires.specs.Senders.{from_client}
 use Rattle.dap_wires.specs.Transfer.{IsRead, AreRead}
 use Rattle.byte_streams.specs.Streams.{Supply, WritesAll}
-use Rattle.adapter.specs.AllRead.{asked, AnswersAll, EndsBy, AnswersAllRead, AllReadIsAnswered}
+use Rattle.adapter.specs.AllRead.{asked, AnswersAll, ClosesBy, AnswersAllRead, AllReadIsAnswered}
 use Rattle.adapter.specs.Serving.{World, input_of, output_of, nothing_sent, TasksEnd}
 use Rattle.adapter.proofs.InputTaken.{first_event, later_events, IsLast, no_last_loads, takes_all, read_to_end}
 use Rattle.adapter.proofs.SessionFaults.{outcome_is_of_session}
@@ -346,7 +346,7 @@ answers_all_read : HistoryLaws → (f : FirstSeq) (before after : World) (by : C
     → Closing by own item → (driven : TasksEnd f (Ok tt) (Ok by) before after)
     → from_client driven.given ≡ driven.reader.client
     → ((pieces : List Incoming) → AreRead (pieces ++ own ∷ []) (input_of before.streams) (input_of after.streams)
-    → EndsBy by (input_of before.streams) (input_of after.streams))
+    → ClosesBy by (input_of before.streams) (input_of after.streams))
     → SessionOutcome f driven.session.events driven.given driven.session.loaded nothing_sent driven.sent (Ok by)
     → AnswersAllRead f by before after
 answers_all_read laws f before after by own item closing driven taken ends (closes from serves) =

@@ -21,7 +21,7 @@ use Rattle.dap_session.specs.Sending.{IsPrefixOf, HasTriedQuit, ordered_at}
 use Rattle.dap_session.specs.Serving.{Serves, SessionOutcome, closes, gives_up}
 use Rattle.dbg_runner.specs.Plain.{PlainOrder, PlainReport, Quit}
 use Rattle.dbg_runner.specs.Queues.{order_in, sent_in, handed_back_in, passed_in}
-use Rattle.dbg_runner.specs.Runner.{Act, Runner, Idle, Ended, Does, Leads}
+use Rattle.dbg_runner.specs.Runner.{Act, Runner, Idle, Ended, Does, DoesAll}
 use Rattle.dbg_runner.specs.Runner as runner
 use Rattle.dap_wires.specs.declared.writer_message.WriterMessage.{WriterMessage}
 use Rattle.dap_wires.specs.declared.writer_message.WriterMessage.TheVariants as message
@@ -242,11 +242,11 @@ act_before act acts (inr refused) =
     inr (λ e. refused (ap (λ l. l ++ flat_map handed_back_in acts)
     (sym (append_none (handed_back_in act) (flat_map handed_back_in acts) e)) ∙ e))
 
-ends_by_some : (from : Runner) (act : Act) (acts : List Act) → Leads from (act ∷ acts) Ended → EndsBy (act ∷ acts)
+ends_by_some : (from : Runner) (act : Act) (acts : List Act) → DoesAll from (act ∷ acts) Ended → EndsBy (act ∷ acts)
 ends_by_some from act [] leads = last_act act leads.0 leads.2 (finishes leads.1)
 ends_by_some from act (next ∷ acts) leads = act_before act (next ∷ acts) (ends_by_some leads.0 next acts leads.2)
 
-ends_by : (acts : List Act) → Leads Idle acts Ended → EndsBy acts
+ends_by : (acts : List Act) → DoesAll Idle acts Ended → EndsBy acts
 ends_by [] leads = absurd (search (leads, rules))
 ends_by (act ∷ acts) leads = ends_by_some Idle act acts leads
 
@@ -286,7 +286,7 @@ all_orders f events by sent acts serves begins (inr refused) = inr (begins, refu
 takes_orders : (f : FirstSeq) (result : Result Closed SessionFault) (events given : List Incoming) (loads : List Load)
     (sent : Ports)
     (acts : List Act)
-    → SessionOutcome f events given loads nothing_sent sent result → Leads Idle acts Ended
+    → SessionOutcome f events given loads nothing_sent sent result → DoesAll Idle acts Ended
     → IsPrefixOf (flat_map order_in acts) sent.orders
     → TakenOfPushed result acts sent.orders
 takes_orders f (Ok by) events given loads sent acts (closes from serves) leads begins =
@@ -300,7 +300,7 @@ pub gathers : (f : FirstSeq) (wrote : Result (Unit {0}) WriteFailed) (result : R
     (acts : List Act) (reports : List PlainReport) (orders : List PlainOrder) (taken : List WriterMessage)
     → SessionLeaves f result [] given before.loads after.loads nothing_sent put pushed
     → IsReadUntil end client (input_of before.streams) (input_of after.streams) → IsPrefixOf (from_client given) client
-    → Leads Idle acts Ended → orders ≡ flat_map order_in acts → reports ≡ flat_map sent_in acts
+    → DoesAll Idle acts Ended → orders ≡ flat_map order_in acts → reports ≡ flat_map sent_in acts
     → IsPrefixOf orders pushed.orders → (pushed.fulls ≢ 0 → FourWerePushed pushed.orders)
     → IsPrefixOf (reports_among given) reports
     → after.passed ≡ before.passed ++ flat_map passed_in acts

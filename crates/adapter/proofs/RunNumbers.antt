@@ -8,7 +8,7 @@ use Rattle.dbg_runner.specs.declared.outcome.SliceOutcome.TheVariants as out
 use Rattle.dbg_runner.specs.Laws.{taken_by, KeepsOn, passing, sending, finding_none, finding_hold, IsCut, by_go, by_quit, by_refusal, later}
 use Rattle.dbg_runner.specs.Plain.{Heading, PlainOrder, PlainReport, Go, Hold, Quit}
 use Rattle.dbg_runner.specs.Queues.{order_in, sent_in}
-use Rattle.dbg_runner.specs.Runner.{Act, Waited, Looked, Passed, Sent, HandedBack, Runner, Idle, Ready, Slicing, Looking, Holding, Ended, Does, Leads}
+use Rattle.dbg_runner.specs.Runner.{Act, Waited, Looked, Passed, Sent, HandedBack, Runner, Idle, Ready, Slicing, Looking, Holding, Ended, Does, DoesAll}
 use Rattle.dbg_runner.specs.Runner as runner
 use Rattle.adapter.specs.Laws.{IsCutShort}
 use Rattle.adapter.specs.Laws as short
@@ -155,7 +155,7 @@ does_run k (runner.holds {r = r} of) here number = (tt, at_k k r (ap (λ (h : He
 does_run k (runner.is_refused_held of) here number = (tt, tt)
 
 -- acts report runs from that of their beginning to the last that they take
-leads_run : (k : ℕ) (from : Runner) (acts : List Act) (now : Runner) → Leads from acts now → OfRun k from
+leads_run : (k : ℕ) (from : Runner) (acts : List Act) (now : Runner) → DoesAll from acts now → OfRun k from
     → NumberedFrom k acts
     → OfRun (last_from k acts) now × Within k (last_from k acts) (flat_map sent_in acts)
 leads_run k from [] now leads here numbered = (subst (OfRun k) leads here, tt)
@@ -172,8 +172,8 @@ leads_run k from (act ∷ acts) now leads here numbered =
           (last_from (next_of k (taken_by act)) acts) (flat_map sent_in acts) next (omega arith) onward.1),
     )
 
-leads_split : (from now : Runner) (xs ys : List Act) → Leads from (xs ++ ys) now → (mid : Runner) × Leads from xs mid
-    × Leads mid ys now
+leads_split : (from now : Runner) (xs ys : List Act) → DoesAll from (xs ++ ys) now → (mid : Runner)
+    × DoesAll from xs mid × DoesAll mid ys now
 leads_split from now [] ys leads = (from, refl, leads)
 leads_split from now (act ∷ xs) ys leads =
     let more = leads_split leads.0 now xs ys leads.2 in (more.0, (leads.0, leads.1, more.1), more.2)
@@ -274,7 +274,7 @@ module _ (before : List Act) (act : Act) (h : Heading) (now : Runner) (after : L
   abbrev further : List Act
   further = Looked (Some (Go cut.next)) ∷ cut.rest
 
-  pub cut_run : Leads Idle (before ++ act ∷ after) now → NumberedFrom 0 (before ++ act ∷ after)
+  pub cut_run : DoesAll Idle (before ++ act ∷ after) now → NumberedFrom 0 (before ++ act ∷ after)
       → IsEndless h.run (before ++ act ∷ after)
   cut_run leads numbered = record {
     first = omega (arith, number);
@@ -289,7 +289,7 @@ module _ (before : List Act) (act : Act) (h : Heading) (now : Runner) (after : L
         (omega (arith, number, kept_more)) late.1))));
   }
     where
-      parts : (mid : Runner) × Leads Idle before mid × Leads mid (act ∷ after) now
+      parts : (mid : Runner) × DoesAll Idle before mid × DoesAll mid (act ∷ after) now
       parts = leads_split Idle now before (act ∷ after) leads
 
       numbers : NumberedFrom 0 before × NumberedFrom early (act ∷ after)
@@ -307,8 +307,8 @@ module _ (before : List Act) (act : Act) (h : Heading) (now : Runner) (after : L
       step : Onward early act parts.2.0
       step = does_run early parts.2.1 first_runs.0 numbers.1.0
 
-      inner : (mid : Runner) × Leads parts.2.0 cut.kept mid × Leads mid further now
-      inner = leads_split parts.2.0 now cut.kept further (subst (λ l. Leads parts.2.0 l now) cut.acts_are parts.2.2)
+      inner : (mid : Runner) × DoesAll parts.2.0 cut.kept mid × DoesAll mid further now
+      inner = leads_split parts.2.0 now cut.kept further (subst (λ l. DoesAll parts.2.0 l now) cut.acts_are parts.2.2)
 
       inner_numbers : NumberedFrom begun cut.kept × NumberedFrom kept further
       inner_numbers = numbered_split begun cut.kept further (subst (NumberedFrom begun) cut.acts_are numbers.1.1)

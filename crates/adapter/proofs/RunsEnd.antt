@@ -11,7 +11,7 @@ use Rattle.dbg_runner.specs.declared.outcome.SliceOutcome.TheVariants as slice
 use Rattle.dbg_runner.specs.Laws.{reports_of_run, RunsAreReported, HasLast, IsCut, RunsHaveOneLast}
 use Rattle.dbg_runner.specs.Plain.{Heading, PlainOrder, PlainReport, Go, Hold, Quit}
 use Rattle.dbg_runner.specs.Queues.{order_in, sent_in}
-use Rattle.dbg_runner.specs.Runner.{Act, Idle, Ended, Leads}
+use Rattle.dbg_runner.specs.Runner.{Act, Idle, Ended, DoesAll}
 use Rattle.dap_msg.specs.declared.request.FirstSeq.{FirstSeq}
 use Rattle.dap_history.specs.declared.ending.Closed.{Closed}
 use Rattle.dap_history.specs.declared.launch.Launch.{Launch}
@@ -413,8 +413,8 @@ runs_end_once one_last reported f by wrote before after driven front act back h 
     acts : List Act
     acts = driven.runner.acts
 
-    worked : Leads Idle (front ++ act ∷ back) Ended
-    worked = subst (λ l. Leads Idle l Ended) acts_are driven.runner.worked
+    worked : DoesAll Idle (front ++ act ∷ back) Ended
+    worked = subst (λ l. DoesAll Idle l Ended) acts_are driven.runner.worked
 
     by_drives : SessionOutcome f session.events driven.given session.loaded nothing_sent driven.sent (Ok by)
         → ¬ IsCutByGo back

@@ -35,16 +35,16 @@ pub record AnswersAll (first : FirstSeq) (bytes : List ℕ) (messages : List Out
   pub answers : filter_map answered_request messages ≡ filter_map asked requests
 
 -- no byte is left, or a read failed
-abbrev pub EndsBy : Closed → Supply → Supply → Type 0
-EndsBy closed.Disconnected old later = ⊥
-EndsBy closed.InputEnded old later = IsAtEnd later.left
-EndsBy closed.ReadFailed old later = old.failures < later.failures
+abbrev pub ClosesBy : Closed → Supply → Supply → Type 0
+ClosesBy closed.Disconnected old later = ⊥
+ClosesBy closed.InputEnded old later = IsAtEnd later.left
+ClosesBy closed.ReadFailed old later = old.failures < later.failures
 
 -- All that was read of the input, up to what closed the session, was answered, and all messages were written whole.
 pub record AnswersAllRead (first : FirstSeq) (by : Closed) (before after : World) : Type 0 where
   pub read : List ℕ
   pub consumed : Consumes (input_of before.streams).left (input_of after.streams).left read
-  pub ends : EndsBy by (input_of before.streams) (input_of after.streams)
+  pub ends : ClosesBy by (input_of before.streams) (input_of after.streams)
   pub messages : List Outgoing
   pub answers : AnswersAll first read messages
   pub written : WritesAll (concat (frames_from 1 messages)) (output_of before.streams) (output_of after.streams)

@@ -23,7 +23,7 @@ use Rattle.adapter.specs.Checking.{IsChecked}
 use Rattle.adapter.specs.ExitReasons.{reason_of_serve, reason_of_check, reason_of_reading, last_line}
 use Rattle.adapter.specs.Listing.{line_feed}
 use Rattle.adapter.specs.Serving.{Streams, world, output_of, IsServed}
-use Rattle.byte_streams.specs.Streams.{Output, WritesAll, FailsIn, Says}
+use Rattle.byte_streams.specs.Streams.{Output, WritesAll, FailsIn, WritesOrFails}
 
 -- A client that counts from `first` was served, through a gate that nothing had passed, and the reason says how that
 -- went.
@@ -72,8 +72,8 @@ IsUsage text = (message : List ℕ) × (text ≡ message ++ USAGE.now)
 -- What is written to standard error: nothing at status 0, the usage at status 4, else the last line.
 abbrev pub Reports : ExitReason → Output → Output → Type 0
 Reports Success before after = after ≡ before
-Reports NotUnderstood before after = (text : List ℕ) × IsUsage text × Says text before after
-Reports reason before after = Says (last_line reason ++ line_feed) before after
+Reports NotUnderstood before after = (text : List ℕ) × IsUsage text × WritesOrFails text before after
+Reports reason before after = WritesOrFails (last_line reason ++ line_feed) before after
 
 -- The program did what the arguments ask for, ended as that went, and said so on standard error.
 pub record Executes (first : FirstSeq) (arguments : List Text) (reason : ExitReason) (loads later_loads : List Load)

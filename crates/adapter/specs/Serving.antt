@@ -14,7 +14,7 @@ use Rattle.dap_session.specs.Sending.{IsPrefixOf}
 use Rattle.dap_session.specs.Serving.{SessionOutcome}
 use Rattle.dbg_runner.specs.Plain.{PlainOrder}
 use Rattle.dbg_runner.specs.Queues.{order_in, sent_in, handed_back_in, passed_in}
-use Rattle.dbg_runner.specs.Runner.{Act, Idle, Ended, Leads}
+use Rattle.dbg_runner.specs.Runner.{Act, Idle, Ended, DoesAll}
 use Rattle.adapter.specs.declared.serving.Served.{Served}
 use Rattle.adapter.specs.declared.serving.Served.TheVariants as served
 use Rattle.adapter.specs.declared.serving.ServeFault.{ServeFault}
@@ -108,7 +108,7 @@ pub record ReaderSends (result : Result Closed SessionFault) (given : List Incom
 pub record RunnerActs (result : Result Closed SessionFault) (given : List Incoming) (orders : List PlainOrder)
     (passed later_passed : List (ℕ × ℕ)) : Type 0 where
   pub acts : List Act
-  pub worked : Leads Idle acts Ended
+  pub worked : DoesAll Idle acts Ended
   pub orders_taken : TakenOfPushed result acts orders
   pub reports_taken : IsPrefixOf (reports_among given) (flat_map sent_in acts)
   pub gate_passed : later_passed ≡ passed ++ flat_map passed_in acts

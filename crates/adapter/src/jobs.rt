@@ -5,7 +5,7 @@ ghost use Rattle.std.specs.List.{flat_map};
 ghost use Rattle.dap_history.specs.Events.{Incoming};
 ghost use Rattle.dap_session.specs.Ports.{ports};
 ghost use Rattle.dap_session.specs.Serving.{Driven};
-ghost use Rattle.dbg_runner.specs.Runner.{Act, Idle, Ended, Leads};
+ghost use Rattle.dbg_runner.specs.Runner.{Act, Idle, Ended, DoesAll};
 ghost use Rattle.dbg_runner.specs.Queues.{order_in, sent_in, passed_in};
 ghost use Rattle.dap_wires.specs.declared.writer_message.WriterMessage.{WriterMessage};
 ghost use Rattle.dap_wires.specs.Ends.{receive_log, receive_log_queue};
@@ -21,7 +21,7 @@ use crate::gates::{Gated, OpenGate};
 use crate::tasks::{LastTask, Task};
 use crate::wires::Wires;
 use byte_streams::{Sink, Source};
-use dap_session::{Closed, FirstSeq, Loader, Order, Orders, SessionFault, drive_from};
+use dap_session::{Closed, FirstSeq, Loader, Order, Orders, SessionFault, drive_counting_from};
 use dap_wires::{
     ClientSender, EndedSender, EventReceiver, FrameReceiver, FrameSender, InboxLog, OrderReceiver,
     OrderSender, ReadEnd, ReceiveLog, ReportSender, WriteFailed, WriterMessage, read_loop,
@@ -176,7 +176,7 @@ impl<'a, G: Gate, R: Wait + Drop> Task for RunnerTask<'a, G, R> {
 
     ghost gives = { λ t r. (pop_queue r.0 ≡ pop_queue t.orders) × (report_queue r.1 ≡ report_queue t.reports)
         × (r.2.ghost_name ≡ t.gate.ghost_name)
-        × ((acts : List Act) × Leads Idle acts Ended
+        × ((acts : List Act) × DoesAll Idle acts Ended
         × (taken_orders r.0 ≡ flat_map order_in acts) × (sent_reports r.1 ≡ flat_map sent_in acts)
         × (G.passed r.2.now ≡ G.passed t.gate.now ++ flat_map passed_in acts)) };
 
@@ -270,7 +270,15 @@ impl<'a, L: Loader, R: Wait + Drop> Task for SessionTask<'a, L, R> {
             mut orders,
         } = self;
         let events = &mut inbox;
-        let closed = drive_from(&rt, alloc, first, events, loader, &mut outbox, &mut orders);
+        let closed = drive_counting_from(
+            &rt,
+            alloc,
+            first,
+            events,
+            loader,
+            &mut outbox,
+            &mut orders,
+        );
         let ends = SessionEnds {
             inbox: inbox.leave(),
             outbox: outbox.finish(),

@@ -31,5 +31,5 @@ pub use exit_reason::{ExitReason, end_of_check, end_of_serve};
 pub use files::FileLoader;
 pub use laws::serving_laws;
 pub use program::{execute, run, run_process};
-pub use serving::{ServeFault, Served, serve, serve_from};
-pub use telling::{Deaf, EndListener};
+pub use serving::{ServeFault, Served, serve, serve_counting_from};
+pub use telling::{EndListener, NoListener};

@@ -21,7 +21,7 @@ use crate::exit_reason::{
 use crate::files::FileLoader;
 use crate::gates::OpenGate;
 use crate::reporting::{EndReporter, note_mistake, report};
-use crate::serving::{end_loan, serve_from};
+use crate::serving::{end_loan, serve_counting_from};
 use byte_streams::{Sink, Source, write_all};
 use dap_session::{FirstSeq, Loader};
 use std::alloc::{AllocError, Global};
@@ -265,7 +265,7 @@ where
     let alloc = rt.alloc();
     let gate = &mut OpenGate::new();
     let mut reporter = EndReporter::new(rt, errors);
-    let served = serve_from(rt, alloc, first, input, output, loader, gate, &mut reporter);
+    let served = serve_counting_from(rt, alloc, first, input, output, loader, gate, &mut reporter);
     end_loan(reporter.into_errors());
     end_of_serve(&served)
 }

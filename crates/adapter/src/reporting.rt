@@ -5,7 +5,7 @@ ghost use Rattle.adapter.specs.declared.exit_reason.ExitReason.TheVariants.{Synt
 ghost use Rattle.adapter.specs.ExitReasons.{last_line, reason_of_serve};
 ghost use Rattle.adapter.specs.Listing.{line_feed};
 ghost use Rattle.adapter.specs.Running.{Reports, IsUsage};
-ghost use Rattle.byte_streams.specs.Streams.{Says, output as output_at};
+ghost use Rattle.byte_streams.specs.Streams.{WritesOrFails, output as output_at};
 
 use crate::arguments::{USAGE, objection};
 use crate::exit_reason::{ExitReason, end_of_serve};
@@ -109,7 +109,7 @@ pub(crate) fn note_mistake<R: Eprint + AllocGlobal>(
 
 /// Writes `text`, the number in decimal, and a line feed.
 fn say_number<E: Sink>(rt: &impl Wait, errors: &mut E, text: &str, number: u8)
-    ensures { Says (text.now ++ (decimal number ++ line_feed))
+    ensures { WritesOrFails (text.now ++ (decimal number ++ line_feed))
         (output_at (E.written errors.old) (E.failures errors.old))
         (output_at (E.written errors.new) (E.failures errors.new)) }
 {
@@ -119,7 +119,7 @@ fn say_number<E: Sink>(rt: &impl Wait, errors: &mut E, text: &str, number: u8)
 
 /// Writes the last line for a fault of a program text.
 fn say_syntax<E: Sink>(rt: &impl Wait, errors: &mut E, number: u8, place: Place)
-    ensures { Says (last_line (Syntax number place) ++ line_feed)
+    ensures { WritesOrFails (last_line (Syntax number place) ++ line_feed)
         (output_at (E.written errors.old) (E.failures errors.old))
         (output_at (E.written errors.new) (E.failures errors.new)) }
 {
@@ -140,7 +140,7 @@ fn say_syntax<E: Sink>(rt: &impl Wait, errors: &mut E, number: u8, place: Place)
 
 /// Writes what was wrong with the arguments, where there is memory for it, and then the usage.
 fn say_usage<R: Wait + AllocGlobal, E: Sink>(rt: &R, errors: &mut E, arguments: &[&str])
-    ensures { (text : List ℕ) × IsUsage text × Says text
+    ensures { (text : List ℕ) × IsUsage text × WritesOrFails text
         (output_at (E.written errors.old) (E.failures errors.old))
         (output_at (E.written errors.new) (E.failures errors.new)) }
 {

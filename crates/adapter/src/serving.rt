@@ -7,7 +7,7 @@ ghost use Rattle.adapter.specs.Wires.{AreUnused, AreJoined};
 
 use crate::jobs::tasks_over;
 use crate::tasks::run_beside;
-use crate::telling::{Deaf, EndListener, Telling, tell};
+use crate::telling::{EndListener, ListenerWitness, NoListener, tell};
 use crate::wires::{Wires, make_wires, reconcile};
 use byte_streams::{Sink, Source};
 use dap_session::{Closed, FirstSeq, Loader, SessionFault};
@@ -73,7 +73,7 @@ where
         (world (L.loaded loader.new) (G.passed gate.new)
         (streams (I.left input.new) (I.failures input.new) (O.written output.new) (O.failures output.new))) }
 {
-    serve_from(
+    serve_counting_from(
         rt,
         alloc,
         FirstSeq::One,
@@ -81,7 +81,7 @@ where
         output,
         loader,
         gate,
-        &mut Deaf,
+        &mut NoListener,
     )
 }
 
@@ -91,7 +91,7 @@ where
 /// # Errors
 ///
 /// As [`serve`].
-pub fn serve_from<R, I, O, L, G, E>(
+pub fn serve_counting_from<R, I, O, L, G, E>(
     rt: &R,
     alloc: Global,
     first: FirstSeq,
@@ -123,7 +123,7 @@ where
     }
 }
 
-/// Serves as [`serve_from`] does, over queues that nothing went through.
+/// Serves as [`serve_counting_from`] does, over queues that nothing went through.
 fn serve_over<R, I, O, L, G, E>(
     rt: &R,
     alloc: Global,
@@ -155,7 +155,14 @@ where
         *rt, alloc, first, wires, input, output, loader, gate,
     );
     // The reader is started last, since nothing can wake it from a read.
-    let done = run_beside(rt, writer, runner, reader, session, Telling::new(listener));
+    let done = run_beside(
+        rt,
+        writer,
+        runner,
+        reader,
+        session,
+        ListenerWitness::new(listener),
+    );
     match done {
         Ok(
             (

@@ -26,9 +26,9 @@ pub trait EndListener {
 
 /// A listener that does nothing.
 #[derive(Drop)]
-pub struct Deaf;
+pub struct NoListener;
 
-impl EndListener for Deaf {
+impl EndListener for NoListener {
     ghost use Rattle.std.specs.Prelude.{⊤};
 
     ghost tells = { λ _ _ _. ⊤ };
@@ -50,17 +50,17 @@ pub(crate) fn tell<E: EndListener>(
 
 /// A witness of how the writer and the session ended, which tells a listener that was lent.
 #[derive(Drop)]
-pub(crate) struct Telling<'a, E> {
+pub(crate) struct ListenerWitness<'a, E> {
     listener: &'a mut E,
 }
 
-impl<'a, E> Telling<'a, E> {
+impl<'a, E> ListenerWitness<'a, E> {
     /// A witness that tells `listener`.
-    pub(crate) fn new(listener: &'a mut E) -> Telling<'a, E>
+    pub(crate) fn new(listener: &'a mut E) -> ListenerWitness<'a, E>
         ensures same_listener { result.listener.ghost_name ≡ listener.entry.ghost_name }
         ensures listener { result.listener.now ≡ listener.old }
     {
-        Telling { listener }
+        ListenerWitness { listener }
     }
 
     /// Returns the listener, which wasn't told.
@@ -79,7 +79,7 @@ impl<'a, 'o, 'l, O, L, R: Wait + Drop, E: EndListener> Witness<
         Result<(), WriteFailed>,
     ),
     (&'l mut L, SessionEnds<R>, Result<Closed, SessionFault>),
-> for Telling<'a, E> {
+> for ListenerWitness<'a, E> {
     type Output = &'a mut E;
 
     ghost sees = { λ w writer session listener. (listener.ghost_name ≡ w.listener.ghost_name)
@@ -94,7 +94,7 @@ impl<'a, 'o, 'l, O, L, R: Wait + Drop, E: EndListener> Witness<
         ),
         session: &(&'l mut L, SessionEnds<R>, Result<Closed, SessionFault>),
     ) -> &'a mut E {
-        let Telling { listener } = self;
+        let ListenerWitness { listener } = self;
         listener.tell(outcome(&writer.2, &session.2));
         listener
     }

@@ -5,7 +5,7 @@ use crate::programs::{BROKEN, CUT_OFF, Debugging, NOTHING, PAUSED, PROCEDURES};
 use crate::rows::STARTED;
 use crate::serving::{Outcome, run};
 use crate::transcript::{Exchange, SENT, frames, input};
-use adapter::{FirstSeq, serve_from};
+use adapter::{FirstSeq, serve_counting_from};
 use std::alloc::Global;
 use std::process::Abort;
 use std::sync::Wait;
@@ -196,7 +196,7 @@ fn tells_how_it_ended_before_the_input_ends(rt: HostRuntime) {
             ..Streams::WELL
         };
         let progress = Progress::new();
-        let _ = serve_from(
+        let _ = serve_counting_from(
             &rt,
             alloc,
             FirstSeq::One,

@@ -4,7 +4,8 @@ use crate::fakes::{Cut, Hold, Input, Output, Progress, SliceGate, Streams};
 use crate::rows::{FAULTS, HELLO, INITIALIZE, ROWS, Row, fault_row};
 use crate::transcript::{ANSWERED, SENT, frames, input};
 use adapter::{
-    Deaf, FirstSeq, Reading, ServeFault, Served, Writing, end_of_serve, serve, serve_from,
+    FirstSeq, NoListener, Reading, ServeFault, Served, Writing, end_of_serve, serve,
+    serve_counting_from,
 };
 use std::alloc::Global;
 use std::process::Abort;
@@ -216,7 +217,7 @@ fn serves_clients_that_count_from_zero(rt: HostRuntime) {
         let expected = frames(alloc, answers, ANSWERED).expect(&rt, "memory");
         let mut output = Vec::new(alloc);
         let progress = Progress::new();
-        let result = serve_from(
+        let result = serve_counting_from(
             &rt,
             alloc,
             first,
@@ -224,7 +225,7 @@ fn serves_clients_that_count_from_zero(rt: HostRuntime) {
             &mut Writing::new(&rt, &mut output),
             &mut Files::everywhere(alloc, b""),
             &mut SliceGate::new(&rt, Streams::WELL, &progress),
-            &mut Deaf,
+            &mut NoListener,
         );
         assert!(rt; result.is_ok(), "{first:?}");
         assert_eq!(rt; output.as_slice(), expected.as_slice(), "{first:?}");

@@ -32,5 +32,5 @@ abbrev pub FailsIn : List ℕ → Output → Output → Type 0
 FailsIn bytes before after = AppendsPart before.written after.written bytes × (before.failures < after.failures)
 
 -- All bytes were written, once; or a prefix of them, and then the output failed.
-abbrev pub Says : List ℕ → Output → Output → Type 0
-Says bytes before after = WritesAll bytes before after ⊎ FailsIn bytes before after
+abbrev pub WritesOrFails : List ℕ → Output → Output → Type 0
+WritesOrFails bytes before after = WritesAll bytes before after ⊎ FailsIn bytes before after

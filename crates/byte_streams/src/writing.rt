@@ -2,14 +2,14 @@
 ghost use Rattle.std.specs.Prelude.{◌≡◌, ◌<◌, map, MatchBool};
 ghost use Rattle.std.specs.List.{concat};
 ghost use Rattle.std.specs.Io.KnownBytes.{Appends};
-ghost use Rattle.byte_streams.specs.Streams.{AppendsPart, Says, output as output_at};
+ghost use Rattle.byte_streams.specs.Streams.{AppendsPart, WritesOrFails, output as output_at};
 
 use crate::streams::{IoFault, Sink};
 use std::sync::Wait;
 
 /// Writes texts one after another. Where the output fails, a prefix of their bytes was written, and the rest is dropped.
 pub fn say<O: Sink>(rt: &impl Wait, output: &mut O, texts: &[&str])
-    ensures { Says (concat (map (λ text. text.now) texts.entry.now))
+    ensures { WritesOrFails (concat (map (λ text. text.now) texts.entry.now))
         (output_at (O.written output.old) (O.failures output.old))
         (output_at (O.written output.new) (O.failures output.new)) }
 {

@@ -1,5 +1,5 @@
 -- Each stop of a run is as the command asks by which the program goes.
-use Rattle.dap_history.proofs.Common.{Accepted, Body, Causes, Command, Content, Effect, Err, Grants, Heading, History, IsRetreatsStop, IsRightStop, IsRunsStop, IsSome, IsStopOf, Item, Launched, Loaded, Mode, None, NoneDueBefore, Ok, Option, Reason, Refusal, Request, RetreatKind, SliceOutcome, Some, Step, Stop, StopReason, ThreadArguments, WrittenJoins, [], ap, depth_at, due_in, go, goal_of, goes_back, held_mode, if◌then◌else◌, is_some, last_due, last_run, last_such, launched, mode_asked, mode_by, name_of, or_else, reason_of, refl, reversed, run_in, situation, stepped_back, stop_at, subst, sym, told_reason, ℕ, ◌++◌, ◌+◌, ◌<◌, ◌∙◌, ◌∷◌, ◌≡◌}
+use Rattle.dap_history.proofs.Common.{Accepted, Body, Causes, Command, Content, Effect, Err, Grants, Heading, History, IsRetreatsStop, IsRightStop, IsRunsStop, IsSome, IsStopOf, Item, Launched, Loaded, Mode, None, NoneDueBefore, Ok, Option, Reason, Refusal, Request, RetreatKind, SliceOutcome, Some, Step, Stop, StopReason, ThreadArguments, WrittenJoins, [], ap, depth_at, due_in_run, go, goal_of, goes_back, held_mode, if◌then◌else◌, is_some, last_due, last_run, last_such, launched, mode_asked, mode_by, name_of, or_else, reason_of, refl, reversed, run_in, situation, stepped_back, stop_at, subst, sym, told_reason, ℕ, ◌++◌, ◌+◌, ◌<◌, ◌∙◌, ◌∷◌, ◌≡◌}
 use Rattle.std.proofs.Common.{Bool, true, false, ◌&&◌, Result}
 use Rattle.std.specs.Prelude.{option_map, nat_le, nat_lt}
 use Rattle.dap_msg.specs.declared.command.Command.TheVariants as command
@@ -13,7 +13,7 @@ use Rattle.dbg_plan.specs.declared.mode.Reason.TheVariants as reason
 use Rattle.dbg_runner.specs.declared.outcome.SliceOutcome.TheVariants as slice
 use Rattle.dap_history.specs.Readings.{position}
 use Rattle.pl0_meaning.specs.Laws.{RunsHaveNoGaps, NothingFollowsTheEnd}
-use Rattle.dap_history.specs.Moves.{IsAlive, is_request, sets_going, GoesBy, is_done, is_met, reason_at, NowhereBefore, StopsForward, NoneMet, StopsBack, StopsAsAsked, EachStopIsAsAsked}
+use Rattle.dap_history.specs.Moves.{IsAlive, is_request_item, sets_going, GoesBy, is_done, is_met, reason_at, NowhereBefore, StopsForward, NoneMet, StopsBack, StopsAsAsked, EachStopIsAsAsked}
 use Rattle.dap_history.proofs.Readings.{launched-snoc, last_run-snoc, position-snoc}
 use Rattle.dap_history.proofs.Texts.{OneProgram}
 use Rattle.dap_history.proofs.Along.{IsTaken, IsKept, IsLawfulEvent, lawful_events, along}
@@ -114,7 +114,7 @@ module _ (one : OneProgram) (joins : WrittenJoins) where
         granted = granted_by past step request run item_is is goes;
         asked_is = refl;
         from_is = refl;
-        goes = ap (λ o. is_some o && is_request step.item) goes ∙ ap is_request item_is;
+        goes = ap (λ o. is_some o && is_request_item step.item) goes ∙ ap is_request_item item_is;
         last = none_since (λ (s : Step). sets_going s ≡ false);
       };
       mode_is = mode_is;
@@ -128,7 +128,7 @@ module _ (one : OneProgram) (joins : WrittenJoins) where
               asked = was.asked;
               from = was.from;
               goes = step_keeps_asked past step was.asked was.from
-                  (ap (λ o. is_some o && is_request step.item) goes ∙ ap is_request item_is) was.goes;
+                  (ap (λ o. is_some o && is_request_item step.item) goes ∙ ap is_request_item item_is) was.goes;
               mode_is = was.mode_is ∙ mode_is;
             }
         by_last None old_is slice.Held mode_is = absurd cc
@@ -148,7 +148,7 @@ module _ (one : OneProgram) (joins : WrittenJoins) where
               asked = was.asked;
               from = was.from;
               goes =
-                  step_keeps_asked past step was.asked was.from (ap (λ o. is_some o && is_request step.item) none)
+                  step_keeps_asked past step was.asked was.from (ap (λ o. is_some o && is_request_item step.item) none)
                   was.goes;
               mode_is = was.mode_is;
             }
@@ -228,7 +228,7 @@ told_by false false = refl
 
 module _ (l : Launched) (run : Heading) (asked : Command) (from : ℕ) (forward : GoesForward asked)
     (mode_is : mode_by (depth_at l.program from) asked ≡ Some run.mode) where
-  reason_is : (m : ℕ) → option_map told_reason (due_in l run m) ≡ reason_at l run asked from m
+  reason_is : (m : ℕ) → option_map told_reason (due_in_run l run m) ≡ reason_at l run asked from m
   reason_is m =
       let met = is_met l run run.counted_from m in
       let depth = depth_at l.program m in
@@ -236,10 +236,10 @@ module _ (l : Launched) (run : Heading) (asked : Command) (from : ℕ) (forward 
       (mode_done asked run.mode (depth_at l.program from) depth forward mode_is).0
       ∙ told_by met (is_done asked (depth_at l.program from) depth)
 
-  pub nowhere : (k : ℕ) → due_in l run k ≡ None → reason_at l run asked from k ≡ None
+  pub nowhere : (k : ℕ) → due_in_run l run k ≡ None → reason_at l run asked from k ≡ None
   nowhere k none = sym (reason_is k) ∙ ap (option_map told_reason) none
 
-  first_so : (r : Reason) (s : StopReason) (m : ℕ) → s ≡ told_reason r → (due_in l run m ≡ Some r) × (run.start < m)
+  first_so : (r : Reason) (s : StopReason) (m : ℕ) → s ≡ told_reason r → (due_in_run l run m ≡ Some r) × (run.start < m)
       × NoneDueBefore l run m
       → (reason_at l run asked from m ≡ Some s) × (run.start < m) × NowhereBefore l run asked from m
   first_so r s m told is = (

@@ -21,7 +21,7 @@ pub use Rattle.dap_history.specs.Replies.{OfProgram, Reply, answered, causing, e
 pub use Rattle.dap_history.specs.Reports.{Accepts, from_next, held_effect, outputs, put_in_at, report_effect}
 pub use Rattle.dap_history.specs.Running.{body_of, due_first, enters, first_logs, mode_of, resumes, retreat_mode}
 pub use Rattle.dap_history.specs.Runs.{Grants, held_mode, mode_asked, mode_by}
-pub use Rattle.dap_history.specs.Stops.{AnswersFrom, IsOutput, IsRetreatsStop, IsRightStop, IsRunsStop, IsStopOf, IsStopped, NoneDueBefore, NoneDueUpTo, Orders, StoppedLastAt, due_in, run_in, stop_in, stop_of_event, told_reason}
+pub use Rattle.dap_history.specs.Stops.{AnswersFrom, IsOutput, IsRetreatsStop, IsRightStop, IsRunsStop, IsStopOf, IsStopped, NoneDueBefore, NoneDueUpTo, Orders, StoppedLastAt, due_in_run, run_in, stop_in, stop_of_event, told_reason}
 pub use Rattle.dap_history.specs.Transitions.{after_step, item_leads}
 pub use Rattle.dap_history.specs.Verdicts.{refused_by, refused_thread}
 pub use Rattle.dap_history.specs.declared.ending.Ending.{Ending}

@@ -1,5 +1,5 @@
 -- A run passes no position that is due, and none was ordered before `configurationDone`.
-use Rattle.dap_history.proofs.Common.{Accepted, Accepts, Block, Body, Causes, Command, CommandName, Configuring, Content, Effect, Ended, EndsBy, Err, Event, EventBody, Faulted, Go, GoesBackBy, HasEffect, Heading, History, Hold, Incoming, IsLawfulReport, IsPassed, Item, Launch, Launched, Launches, Loaded, None, NoneDueBefore, NoneDueUpTo, Ok, Option, Outgoing, PlainOrder, PlainReport, Quit, Reason, Refusal, RepliesIn, Reply, Running, Situation, SliceOutcome, Some, Step, Stopped, WentBack, WentOn, WrittenJoins, [], answer_mark, ap, arith, cases_lt, command_mark, due, due_in, end_of, event_mark, exited_events, faults, go, goes_back, has_come, has_no_memory, inl, inr, is_spent, lacks_memory, last_run, last_such, launched, message_mark, messages, name_of, or_else, order_mark, refl, report_effect, situation, step_mark, stop_of, stopped_events, subst, sym, takes_all, unwrap_or, with_answer, ℕ, ⊎_elim, ◌<◌, ◌∙◌, ◌∷◌, ◌≡◌, ◌≤◌, ◌⊎◌}
+use Rattle.dap_history.proofs.Common.{Accepted, Accepts, Block, Body, Causes, Command, CommandName, Configuring, Content, Effect, Ended, EndsBy, Err, Event, EventBody, Faulted, Go, GoesBackBy, HasEffect, Heading, History, Hold, Incoming, IsLawfulReport, IsPassed, Item, Launch, Launched, Launches, Loaded, None, NoneDueBefore, NoneDueUpTo, Ok, Option, Outgoing, PlainOrder, PlainReport, Quit, Reason, Refusal, RepliesIn, Reply, Running, Situation, SliceOutcome, Some, Step, Stopped, WentBack, WentOn, WrittenJoins, [], answer_mark, ap, arith, cases_lt, command_mark, due, due_in_run, end_of, event_mark, exited_events, faults, go, goes_back, has_come, has_no_memory, inl, inr, is_spent, lacks_memory, last_run, last_such, launched, message_mark, messages, name_of, or_else, order_mark, refl, report_effect, situation, step_mark, stop_of, stopped_events, subst, sym, takes_all, unwrap_or, with_answer, ℕ, ⊎_elim, ◌<◌, ◌∙◌, ◌∷◌, ◌≡◌, ◌≤◌, ◌⊎◌}
 use Rattle.std.proofs.Common.{List, true}
 use Rattle.std.specs.Prelude.{map, Result}
 use Rattle.dap_msg.specs.declared.command.Command.TheVariants as command
@@ -319,7 +319,7 @@ module _ (one : OneProgram) (joins : WrittenJoins) where
     abbrev run : Heading
     run = accepts.run
 
-    pub same_due : (k : ℕ) → due_in l run k ≡ due_of lawful.program r k
+    pub same_due : (k : ℕ) → due_in_run l run k ≡ due_of lawful.program r k
     same_due k =
         let same = accepts.expected in
         sym
@@ -359,6 +359,6 @@ module _ (one : OneProgram) (joins : WrittenJoins) where
           (λ (there : r.end ≤ k). let same : k ≡ r.end = omega (arith, there, up_to) in by_end at_end same)
           (cases_lt k r.end)
         where
-          by_end : NotDueAtEnd lawful.program r → k ≡ r.end → due_in l run k ≡ None
+          by_end : NotDueAtEnd lawful.program r → k ≡ r.end → due_in_run l run k ≡ None
           by_end (inl stays) same = (still stays).1 k above (omega (arith, same))
           by_end (inr undue) same = same_due k ∙ ap (due_of lawful.program r) same ∙ undue

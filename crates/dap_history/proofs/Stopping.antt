@@ -1,5 +1,5 @@
 -- Each stop is where it has to be.
-use Rattle.dap_history.proofs.Common.{Accepted, Accepts, Block, Causes, Content, Effect, EndsBy, GoesBackBy, Heading, History, IsLawfulReport, IsPassed, IsRetreatsStop, IsRightStop, IsRunsStop, IsStopOf, Item, Launch, Launched, Launches, Loaded, None, NoneDueBefore, NoneDueUpTo, Option, PlainReport, Ready, Reason, Reply, SliceOutcome, Some, Step, StopReason, Went, WentOn, WrittenJoins, [], ap, arith, due_in, end_of, exception_of, exited_events, faults, go, goal_of, goes_back, has_come, held_effect, inl, inr, is_due, last_run, last_such, launched, or_else, order_mark, refl, report_effect, situation, step_mark, stop_in, stop_of, stop_of_event, stopped_events, subst, sym, unwrap_or, waiting_pause, ℕ, ◌++◌, ◌<◌, ◌∙◌, ◌∷◌, ◌≡◌, ◌≤◌, ◌⊎◌, back_if}
+use Rattle.dap_history.proofs.Common.{Accepted, Accepts, Block, Causes, Content, Effect, EndsBy, GoesBackBy, Heading, History, IsLawfulReport, IsPassed, IsRetreatsStop, IsRightStop, IsRunsStop, IsStopOf, Item, Launch, Launched, Launches, Loaded, None, NoneDueBefore, NoneDueUpTo, Option, PlainReport, Ready, Reason, Reply, SliceOutcome, Some, Step, StopReason, Went, WentOn, WrittenJoins, [], ap, arith, due_in_run, end_of, exception_of, exited_events, faults, go, goal_of, goes_back, has_come, held_effect, inl, inr, is_due, last_run, last_such, launched, or_else, order_mark, refl, report_effect, situation, step_mark, stop_in, stop_of, stop_of_event, stopped_events, subst, sym, unwrap_or, waiting_pause, ℕ, ◌++◌, ◌<◌, ◌∙◌, ◌∷◌, ◌≡◌, ◌≤◌, ◌⊎◌, back_if}
 use Rattle.std.proofs.Common.{List, Bool, true, false}
 use Rattle.dap_msg.specs.declared.outgoing.StopReason.TheVariants as stop
 use Rattle.pl0_meaning.specs.Runs.{outcome}
@@ -220,7 +220,7 @@ module _ (one : OneProgram) (joins : WrittenJoins) where
   RightStop before reason m =
       (l : Launched) × (launched before ≡ Some l) × IsRightStop l before (last_run before) reason m
 
-  due_stop : (l : Launched) (run : Heading) (m : ℕ) (r : Reason) → (due_in l run m ≡ Some r) × (run.start < m)
+  due_stop : (l : Launched) (run : Heading) (m : ℕ) (r : Reason) → (due_in_run l run m ≡ Some r) × (run.start < m)
       × NoneDueBefore l run m → IsRunsStop l run (stop_of r) m
   due_stop l run m reason.Breakpoint is = (reason.Breakpoint, refl, is.0, is.1, is.2)
   due_stop l run m reason.Entry is = (reason.Entry, refl, is.0, is.1, is.2)

@@ -71,13 +71,13 @@ PausesStop =
 -- ---- what a command asks for
 
 -- the item is a request
-abbrev pub is_request : Item → Bool
-is_request (Content (Some request)) = true
-is_request _ = false
+abbrev pub is_request_item : Item → Bool
+is_request_item (Content (Some request)) = true
+is_request_item _ = false
 
 -- the step is a request that lets the program run
 abbrev pub sets_going : Step → Bool
-sets_going step = is_some (run_in step) && is_request step.item
+sets_going step = is_some (run_in step) && is_request_item step.item
 
 -- After these steps the program goes by this command: it is the last that let the program run. The program stood at
 -- position `from` when it was asked.

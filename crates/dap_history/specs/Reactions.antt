@@ -67,8 +67,8 @@ abbrev pub Only : Reaction → Reaction → Type 0
 Only this reaction = reaction ≡ this
 
 -- `wrongPhase`
-abbrev pub Phase : Reaction → Type 0
-Phase = Only (Refuse refusal.WrongPhase)
+abbrev pub WrongPhase : Reaction → Type 0
+WrongPhase = Only (Refuse refusal.WrongPhase)
 
 -- `notStopped`
 abbrev pub NotStopped : Reaction → Type 0
@@ -151,15 +151,21 @@ cell Ended fresh ready configuring running stopped faulted ended = ended
 -- A row for each command; its columns are Fresh, Ready, Configuring, Running, Stopped, Faulted, Ended. No `launch`
 -- comes here in Ready: it waits for its file, and `Launches` has its reply. Profile: a session is initialized once.
 abbrev pub Reacts : Situation → History → Command → Reaction → Type 0
-Reacts s past (command.Initialize a) = cell s (Only (Answer body.Capabilities)) Phase Phase Phase Phase Phase Phase
-Reacts s past (command.Launch a) = Phase
-Reacts s past (command.SetBreakpoints a) = let sets = Sets past a in cell s Phase Phase sets sets sets sets sets
-Reacts s past command.ConfigurationDone = cell s Phase Phase (Starts past) Phase Phase Phase Phase
-Reacts s past command.Threads = let yes = Only (Answer body.Threads) in cell s Phase yes yes yes yes yes yes
-Reacts s past (command.Resume k a) = cell s Phase Phase Phase NotStopped (Resumes past k a) (Ends k a) Phase
-Reacts s past (command.Retreat k a) = cell s Phase Phase Phase NotStopped (Retreats past k a) (Retreats past k a) Phase
-Reacts s past (command.Pause a) = cell s Phase Phase Phase (Interrupts a) (Stays a) (Stays a) Phase
-Reacts s past (command.Inspect q) = cell s Phase Phase Phase NotStopped (Inspects past q) (Inspects past q) Phase
+Reacts s past (command.Initialize a) =
+    cell s (Only (Answer body.Capabilities)) WrongPhase WrongPhase WrongPhase WrongPhase WrongPhase WrongPhase
+Reacts s past (command.Launch a) = WrongPhase
+Reacts s past (command.SetBreakpoints a) =
+    let sets = Sets past a in cell s WrongPhase WrongPhase sets sets sets sets sets
+Reacts s past command.ConfigurationDone =
+    cell s WrongPhase WrongPhase (Starts past) WrongPhase WrongPhase WrongPhase WrongPhase
+Reacts s past command.Threads = let yes = Only (Answer body.Threads) in cell s WrongPhase yes yes yes yes yes yes
+Reacts s past (command.Resume k a) =
+    cell s WrongPhase WrongPhase WrongPhase NotStopped (Resumes past k a) (Ends k a) WrongPhase
+Reacts s past (command.Retreat k a) =
+    cell s WrongPhase WrongPhase WrongPhase NotStopped (Retreats past k a) (Retreats past k a) WrongPhase
+Reacts s past (command.Pause a) = cell s WrongPhase WrongPhase WrongPhase (Interrupts a) (Stays a) (Stays a) WrongPhase
+Reacts s past (command.Inspect q) =
+    cell s WrongPhase WrongPhase WrongPhase NotStopped (Inspects past q) (Inspects past q) WrongPhase
 Reacts s past command.Disconnect = Only Close
 Reacts s past (command.Unsupported text) = Only (Refuse refusal.Unsupported)
 Reacts s past (command.BadArguments k) = Only (Refuse refusal.BadArguments)

@@ -68,16 +68,16 @@ pub record StopsAt (past before : History) (reason : StopReason) (m : ℕ) : Typ
   pub position_is : m ≡ position (before ++ step ∷ [])
 
 -- why a position is due in a run of the program, if it is
-abbrev pub due_in : Launched → Heading → ℕ → Option Reason
-due_in l run m = due l.program run.plan run.counted_from run.mode m
+abbrev pub due_in_run : Launched → Heading → ℕ → Option Reason
+due_in_run l run m = due l.program run.plan run.counted_from run.mode m
 
 -- no position is due that lies after the run's beginning and before m
 abbrev pub NoneDueBefore : Launched → Heading → ℕ → Type 0
-NoneDueBefore l run m = (k : ℕ) → run.start < k → k < m → due_in l run k ≡ None
+NoneDueBefore l run m = (k : ℕ) → run.start < k → k < m → due_in_run l run k ≡ None
 
 -- the same, up to and including m
 abbrev pub NoneDueUpTo : Launched → Heading → ℕ → Type 0
-NoneDueUpTo l run m = (k : ℕ) → run.start < k → k ≤ m → due_in l run k ≡ None
+NoneDueUpTo l run m = (k : ℕ) → run.start < k → k ≤ m → due_in_run l run k ≡ None
 
 -- A run that goes forward stopped at m for this reason: at the first due position after its beginning; where it was
 -- held; or before the step that faults.
@@ -87,7 +87,7 @@ IsRunsStop l run (stop.Exception x) m =
     (fault : RunFault) × (x ≡ told_fault fault) × (outcome l.program m ≡ Faults fault) × (run.start ≤ m)
     × NoneDueUpTo l run m
 IsRunsStop l run reason m =
-    (r : Reason) × (reason ≡ told_reason r) × (due_in l run m ≡ Some r) × (run.start < m) × NoneDueBefore l run m
+    (r : Reason) × (reason ≡ told_reason r) × (due_in_run l run m ≡ Some r) × (run.start < m) × NoneDueBefore l run m
 
 -- A run that goes back stopped at m for this reason: it is the position to which its mode leads.
 abbrev pub IsRetreatsStop : Launched → Heading → StopReason → ℕ → Type 0

@@ -29,7 +29,7 @@
 //! of a program are those of this repository's adapter. For another language it is a pattern.
 //!
 //! The one contract: [`read`] returns exactly the request that a content is, or `None` where it is
-//! none; which value a content has is said by `serde_json`'s own definition of reading. [`read_from`] does the same
+//! none; which value a content has is said by `serde_json`'s own definition of reading. [`read_counting_from`] does the same
 //! by the first `seq` that the client may use. [`write`]
 //! appends exactly the defined text of a message.
 //!
@@ -69,7 +69,7 @@ pub use outgoing::{
     StackFrame, StopReason, Variable,
 };
 pub use question::{Question, QuestionKind, Shown};
-pub use reading::{read, read_from};
+pub use reading::{read, read_counting_from};
 pub use request::{FirstSeq, Request};
 pub use requests::evaluate::EvaluateArguments;
 pub use requests::initialize::InitializeArguments;

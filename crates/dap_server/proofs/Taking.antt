@@ -10,9 +10,9 @@ use Rattle.dap_frame.specs.Header.{FaultAt, HasFaultyLine, line_end, line_of, li
 use Rattle.dap_frame.specs.Frame.{Frames, IsFrameInFront, IsOpen}
 use Rattle.dap_server.specs.Messages.{PlainEvent, frames_of}
 use Rattle.dap_server.specs.Conversation.{State, state, Replies, Conversation, Progress}
-use Rattle.dap_server.specs.Inbox.{PlainItem, Bytes, Unasked, End, Failed, NoMemory, Gives, Given, Reads, Takes, TakesAll, Session, Tells}
+use Rattle.dap_server.specs.Inbox.{PlainItem, Bytes, Unasked, End, Failed, NoMemory, Gives, Given, Reads, TakesOne, TakesAll, Session, Tells}
 use Rattle.dap_server.specs.Serving.{BreaksWithin, Breaks, Ends, Served, Failures}
-use Rattle.dap_server.specs.ServingInbox.{EndsAt, EndsBy, EndsWithin, ServedInbox, OutputFailures}
+use Rattle.dap_server.specs.ServingInbox.{EndsAt, ServingEndsBy, EndsWithin, ServedInbox, OutputFailures}
 use Rattle.dap_server.specs.declared.ending.Ending.{Ending}
 use Rattle.dap_server.specs.declared.ending.Ending.TheVariants as ending
 use Rattle.dap_server.specs.declared.ending.ServeFault.{ServeFault}
@@ -59,14 +59,14 @@ given_then gives a b c (one ∷ items) item first then_ =
     (first.0, first.1, given_then gives first.0 b c items item first.2 then_)
 
 takes_one : {S : Type 0} (replies : Replies S) (a b : State S) (rest more : List ℕ) (item : PlainItem)
-    (texts : List (List ℕ)) → a.present ≡ true → IsOpen rest → Takes replies a rest item texts b more
+    (texts : List (List ℕ)) → a.present ≡ true → IsOpen rest → TakesOne replies a rest item texts b more
     → TakesAll replies a rest (item ∷ []) texts b more
 takes_one replies a b rest more item texts there is_open takes =
     (there, is_open, (b, more, texts, [], takes, (refl, refl, refl), sym (append-nil texts)))
 
 takes_then : {S : Type 0} (replies : Replies S) (a b c : State S) (start rest more : List ℕ) (items : List PlainItem)
     (item : PlainItem) (texts later : List (List ℕ)) → TakesAll replies a start items texts b rest → b.present ≡ true
-    → IsOpen rest → Takes replies b rest item later c more
+    → IsOpen rest → TakesOne replies b rest item later c more
     → TakesAll replies a start (items ++ item ∷ []) (texts ++ later) c more
 takes_then {S} replies a b c start rest more [] item texts later first there is_open takes =
     subst (λ t. TakesAll replies a start (item ∷ []) (t ++ later) c more) (sym first.0)
@@ -100,7 +100,7 @@ session_nowhere replies gives a inbox written = record {
 session_then : {S I : Type 0} (replies : Replies S) (gives : Gives I) (a b c : State S) (rest more : List ℕ)
     (inbox mid left : I) (item : PlainItem) (texts : List (List ℕ)) (old now new : Option (List ℕ))
     → Session replies gives a b rest inbox mid (Appends old now) → gives mid item left → b.present ≡ true → IsOpen rest
-    → Takes replies b rest item texts c more → Appends now new (frames_of texts)
+    → TakesOne replies b rest item texts c more → Appends now new (frames_of texts)
     → Session replies gives a c more inbox left (Appends old new)
 session_then replies gives a b c rest more inbox mid left item texts old now new first gave there is_open takes wrote =
     record {
@@ -139,7 +139,7 @@ session_event replies gives a b next rest inbox mid left event old now new first
 pub ended_by : {S I : Type 0} (replies : Replies S) (gives : Gives I) (before after : S) (b : State S) (rest : List ℕ)
     (inbox mid left : I) (item : PlainItem) (written now later : Option (List ℕ)) (result : Result Ending ServeFault)
     → Session replies gives (state before 1 true) b rest inbox mid (Appends written now) → gives mid item left
-    → b.present ≡ true → IsOpen rest → EndsBy item result b after now later
+    → b.present ≡ true → IsOpen rest → ServingEndsBy item result b after now later
     → ServedInbox replies gives before after inbox left written later result
 ended_by replies gives before after b rest inbox mid left item old now new result session gave there is_open ends =
     record {

@@ -42,13 +42,13 @@ Reads a NoMemory b = (lost : List ℕ) × Consumes a.left b.left lost × (lost �
 
 -- An item is taken: the contents of the frames that bytes complete are handled in order; an event is sent, with the
 -- next number. No other item is taken.
-abbrev pub Takes : {S : Type 0} → Replies S → State S → List ℕ → PlainItem → List (List ℕ) → State S → List ℕ
+abbrev pub TakesOne : {S : Type 0} → Replies S → State S → List ℕ → PlainItem → List (List ℕ) → State S → List ℕ
     → Type 0
-Takes replies a rest (Bytes bytes) texts b later =
+TakesOne replies a rest (Bytes bytes) texts b later =
     (contents : List (List ℕ)) × Frames (rest ++ bytes) contents later × Conversation replies a contents texts b
-Takes replies a rest (Unasked event) texts b later =
+TakesOne replies a rest (Unasked event) texts b later =
     AreTexts (event_value event a.next ∷ []) texts × (b ≡ state a.adapter (a.next + 1) true) × (later ≡ rest)
-Takes replies a rest _ texts b later = ⊥
+TakesOne replies a rest _ texts b later = ⊥
 
 -- Items are taken in order, each while the client is there and no whole frame waits, and these texts are sent.
 abbrev pub TakesAll : {S : Type 0} → Replies S → State S → List ℕ → List PlainItem → List (List ℕ) → State S → List ℕ
@@ -56,7 +56,7 @@ abbrev pub TakesAll : {S : Type 0} → Replies S → State S → List ℕ → Li
 TakesAll replies a rest [] texts b later = (texts ≡ []) × (b ≡ a) × (later ≡ rest)
 TakesAll {S} replies a rest (item ∷ items) texts b later =
     (a.present ≡ true) × IsOpen rest × ((mid : State S) × (more : List ℕ) × (first : List (List ℕ))
-    × (others : List (List ℕ)) × Takes replies a rest item first mid more
+    × (others : List (List ℕ)) × TakesOne replies a rest item first mid more
     × TakesAll replies mid more items others b later × (texts ≡ first ++ others))
 
 -- Items were given and taken, up to this state and this rest, and the frames of what is sent for them were written.

@@ -41,7 +41,7 @@ pub fn drive<I: Inbox, L: Loader, O: Out, D: Orders>(
     ensures out { O.origin out.new ≡ O.origin out.old }
     ensures orders { D.origin orders.new ≡ D.origin orders.old }
 {
-    drive_from(rt, alloc, FirstSeq::One, inbox, loader, out, orders)
+    drive_counting_from(rt, alloc, FirstSeq::One, inbox, loader, out, orders)
 }
 
 /// Does the same as [`drive`], by the first number that the client may use.
@@ -49,7 +49,7 @@ pub fn drive<I: Inbox, L: Loader, O: Out, D: Orders>(
 /// # Errors
 ///
 /// As [`drive`].
-pub fn drive_from<I: Inbox, L: Loader, O: Out, D: Orders>(
+pub fn drive_counting_from<I: Inbox, L: Loader, O: Out, D: Orders>(
     rt: &impl Wait,
     alloc: Global,
     first: FirstSeq,
@@ -65,7 +65,7 @@ pub fn drive_from<I: Inbox, L: Loader, O: Out, D: Orders>(
     ensures out { O.origin out.new ≡ O.origin out.old }
     ensures orders { D.origin orders.new ≡ D.origin orders.old }
 {
-    let mut session = Session::new_from(alloc, first);
+    let mut session = Session::counting_from(alloc, first);
     take_all(rt, &mut session, inbox, loader, out, orders)
 }
 

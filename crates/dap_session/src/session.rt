@@ -67,11 +67,11 @@ impl Session {
     pub fn new(alloc: Global) -> Session
         ensures { Represents FirstSeq.One result [] [] }
     {
-        Session::new_from(alloc, FirstSeq::One)
+        Session::counting_from(alloc, FirstSeq::One)
     }
 
     /// Returns a session that has taken no event, by the first number that the client may use. It takes no memory.
-    pub fn new_from(alloc: Global, first: FirstSeq) -> Session
+    pub fn counting_from(alloc: Global, first: FirstSeq) -> Session
         ensures { Represents first result [] [] }
     {
         Session {

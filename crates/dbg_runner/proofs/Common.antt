@@ -20,7 +20,7 @@ pub use Rattle.dbg_runner.specs.ReportFields.{IsReportWith, sliced, StandsAtEnd}
 pub use Rattle.dbg_runner.specs.Reported.{beside_report, carried, Carries, counts_from, heading, in_report, IsKept, plain_report, Reported, stopped, trail_in, whereabouts, unsliced, written_before}
 pub use Rattle.dbg_runner.specs.Retreating.{GoesOnBack, heading_back, IsRoomFor, Retreating, steps_again, steps_to, summary_back}
 pub use Rattle.dbg_runner.specs.Rooms.{IsRoomOf, Room, slice_limit}
-pub use Rattle.dbg_runner.specs.Runner.{Act, begun, Does, Ended, finds_go, finds_hold, finds_none, finds_quit, finds_vain_hold, goes_on, Going, HandedBack, has_none_to_hold, Holding, holds, Idle, is_refused, is_refused_held, IsOfHold, IsOfNextSlice, Leads, Looked, Looking, onward, Passed, passes, quits, Ready, Runner, RunsAgain, Sent, Slicing, StandsIn, stops, takes_go, Waited, Worked}
+pub use Rattle.dbg_runner.specs.Runner.{Act, begun, Does, Ended, finds_go, finds_hold, finds_none, finds_quit, finds_vain_hold, goes_on, Going, HandedBack, has_none_to_hold, Holding, holds, Idle, is_refused, is_refused_held, IsOfHold, IsOfNextSlice, DoesAll, Looked, Looking, onward, Passed, passes, quits, Ready, Runner, RunsAgain, Sent, Slicing, StandsIn, stops, takes_go, Waited, Worked}
 pub use Rattle.dbg_runner.specs.Slices.{IsNextBackOf, IsNextOf, IsOfSlice, IsSliceOf}
 pub use Rattle.dbg_runner.specs.Steps.{ending, ending_by, IsWritten, RanFurther, TookSteps}
 pub use Rattle.dbg_runner.specs.Turns.{going, heading_of_course, held_at, held_in, stands_at}

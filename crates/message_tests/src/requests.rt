@@ -1,7 +1,7 @@
 //! Tests of contents read as requests.
 
 use crate::text::repeated;
-use dap_msg::{FirstSeq, Request, read, read_from};
+use dap_msg::{FirstSeq, Request, read, read_counting_from};
 use std::alloc::Global;
 use std::process::Abort;
 
@@ -380,7 +380,7 @@ fn reads_seqs(rt: HostRuntime) {
         let content = content.as_bytes();
         assert_read(&rt, alloc, seq, content, from_one);
         for (first, expected) in [(FirstSeq::One, from_one), (FirstSeq::Zero, from_zero)] {
-            let request = read_from(alloc, first, content).expect(&rt, "memory");
+            let request = read_counting_from(alloc, first, content).expect(&rt, "memory");
             let request = format!(in alloc; "{request:?}").expect(&rt, "memory");
             assert_eq!(rt; request.as_str(), *expected, "{seq} from {first:?}");
         }

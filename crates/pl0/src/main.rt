@@ -2,7 +2,7 @@
 #![tactic(auto)]
 
 use byte_streams::{Reading, Writing};
-use pl0_tool::{Noticing, SystemFiles, run};
+use pl0_tool::{SystemFiles, WatchedOutput, run};
 use std::env;
 use std::process::ExitCode;
 
@@ -10,7 +10,7 @@ use std::process::ExitCode;
 fn main(rt: HostRuntime) -> ExitCode {
     let files = &mut SystemFiles::new(&rt);
     let input = &mut Reading::new(&rt, rt.stdin());
-    let output = &mut Writing::new(&rt, Noticing::new(rt.stdout()));
+    let output = &mut Writing::new(&rt, WatchedOutput::new(rt.stdout()));
     let errors = &mut Writing::new(&rt, rt.stderr());
     run(&rt, env::args(&rt), files, input, output, errors)
 }

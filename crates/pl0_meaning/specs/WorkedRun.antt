@@ -138,6 +138,13 @@ second_half = refl
 ends_at_twenty : at main 20 ≡ Some []
 ends_at_twenty = refl
 
+-- a variable is 0 until it is assigned: n of the main block, and k once p is called
+numbers_at_start : numbers (at main 0) ≡ (pos 0 ∷ []) ∷ []
+numbers_at_start = refl
+
+numbers_at_call : numbers (at main 2) ≡ (pos 0 ∷ []) ∷ (pos 2 ∷ []) ∷ []
+numbers_at_call = refl
+
 -- At position 10 four frames are alive: of q, p, p and the main block. The frame of q is linked to that of the p which
 -- called it, and both frames of p to the main block's, though one p was called by the other.
 links_at_ten : links (at main 10) ≡ 2 ∷ 0 ∷ 0 ∷ 0 ∷ []

@@ -13,7 +13,7 @@ use Rattle.clap.specs.Words.{Text, IsAmong, fault_of}
 use Rattle.clap.specs.declared.error.kind.ErrorKind.{ErrorKind as Refusal}
 use Rattle.clap.specs.declared.error.kind.ErrorKind.TheVariants.{DisplayHelp, DisplayVersion}
 use Rattle.byte_streams.specs.Beginning.{BeginsWith}
-use Rattle.byte_streams.specs.Streams.{Output, Says, Supply}
+use Rattle.byte_streams.specs.Streams.{Output, WritesOrFails, Supply}
 use Rattle.pl0_tool.specs.declared.files.FileFault.{FileFault}
 use Rattle.pl0_tool.specs.declared.files.FileFault.TheVariants.{CannotRead, Folder, Forbidden, Missing, NoMemory}
 use Rattle.pl0_tool.specs.declared.arguments.Request.{Request}
@@ -69,7 +69,7 @@ unwritten_line = codes "pl0: cannot write the output\n"
 
 -- At the end it is told that the output failed, unless nobody reads that any more.
 abbrev pub ClosesWith : Ending → Bool → Output → Output → Type 0
-ClosesWith Unwritten false errors later_errors = Says unwritten_line errors later_errors
+ClosesWith Unwritten false errors later_errors = WritesOrFails unwritten_line errors later_errors
 ClosesWith ending unread errors later_errors = later_errors ≡ errors
 
 -- ---- a text
@@ -183,7 +183,8 @@ module _ {Files File : Type 0} (opens : Files → Text → Result File FileFault
   Executes arguments ending old later before after errors later_errors =
       ((report : Report) × (out : Output) × Comes arguments report old later before out
       × HasTold report ending out after errors later_errors)
-      ⊎ ((ending ≡ Failure) × LacksMemory arguments old later before after × Says memory_line errors later_errors)
+      ⊎ ((ending ≡ Failure) × LacksMemory arguments old later before after
+        × WritesOrFails memory_line errors later_errors)
 
   -- There are no arguments: there was no memory for them, or one of them is not text. That was told, and nothing else
   -- was done.
@@ -191,8 +192,8 @@ module _ {Files File : Type 0} (opens : Files → Text → Result File FileFault
       (before after errors later_errors : Output) : Type 0 where
     pub origins : later ≡ old
     pub output : after ≡ before
-    pub told : ((error ≡ kind.OutOfMemory) × (ending ≡ Failure) × Says memory_line errors later_errors)
-        ⊎ ((error ≢ kind.OutOfMemory) × (ending ≡ NotUnderstood) × Says not_text_line errors later_errors)
+    pub told : ((error ≡ kind.OutOfMemory) × (ending ≡ Failure) × WritesOrFails memory_line errors later_errors)
+        ⊎ ((error ≢ kind.OutOfMemory) × (ending ≡ NotUnderstood) × WritesOrFails not_text_line errors later_errors)
 
   -- what is done with the arguments that were given, or with the error that was given in their place
   abbrev pub ExecutesGiven : Result (List Text) ErrorKind → Ending → Origins Files → Origins Files → Output → Output

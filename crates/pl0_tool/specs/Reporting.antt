@@ -1,6 +1,6 @@
 -- What a command tells at its end.
 use Rattle.std.specs.Prelude.{◌≡◌, ◌⊎◌, ℕ, ◌++◌, nat_lt, if◌then◌else◌}
-use Rattle.byte_streams.specs.Streams.{Output, WritesAll, FailsIn, Says}
+use Rattle.byte_streams.specs.Streams.{Output, WritesAll, FailsIn, WritesOrFails}
 use Rattle.pl0_tool.specs.declared.report.Ending.{Ending}
 use Rattle.pl0_tool.specs.declared.report.Ending.TheVariants.{Success, Fault, Mistake, Failure, Unwritten, NotUnderstood}
 use Rattle.pl0_tool.specs.declared.report.Report.{Report}
@@ -29,4 +29,4 @@ pub record IsSum (first next sum : Report) : Type 0 where
 pub record HasTold (report : Report) (ending : Ending) (before after errors_before errors_after : Output) : Type 0 where
   pub output : (WritesAll report.output.items before after × (ending ≡ report.ending))
       ⊎ (FailsIn report.output.items before after × (ending ≡ Unwritten))
-  pub errors : Says report.errors.items errors_before errors_after
+  pub errors : WritesOrFails report.errors.items errors_before errors_after

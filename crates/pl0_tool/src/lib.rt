@@ -33,7 +33,7 @@ pub use arguments::Task;
 pub use commands::perform;
 pub use drawing::{Drawing, FrameHead};
 pub use files::{FileFault, Opener, SystemFiles};
-pub use output::Noticing;
+pub use output::WatchedOutput;
 pub use program::{execute, run};
 pub use report::{Ending, Report};
 pub use running::{RunEnd, run_machine, run_slice};

@@ -10,18 +10,18 @@ use std::sync::Wait;
 
 /// An output that notices when nobody reads it any more.
 #[derive(Drop)]
-pub struct Noticing<O: Write + Drop> {
+pub struct WatchedOutput<O: Write + Drop> {
     inner: O,
     is_closed: bool,
 }
 
-impl<O: Write + Drop> Noticing<O> {
+impl<O: Write + Drop> WatchedOutput<O> {
     /// An output of which no write has failed yet.
-    pub fn new(inner: O) -> Noticing<O>
+    pub fn new(inner: O) -> WatchedOutput<O>
         ensures inner { result.inner ≡ inner }
         ensures open { result.is_closed ≡ false }
     {
-        Noticing {
+        WatchedOutput {
             inner,
             is_closed: false,
         }
@@ -35,14 +35,14 @@ impl<O: Write + Drop> Noticing<O> {
     }
 }
 
-impl<O: Write + IsTerminal + Drop> Noticing<O> {
+impl<O: Write + IsTerminal + Drop> WatchedOutput<O> {
     /// Whether the output is a terminal.
     pub fn is_terminal(&self) -> bool {
         self.inner.is_terminal()
     }
 }
 
-impl<O: Write + Drop> Write for Noticing<O> {
+impl<O: Write + Drop> Write for WatchedOutput<O> {
     ghost contents = { λ noticing. O.contents noticing.inner };
 
     fn write(&mut self, bytes: &[u8]) -> io::Result<usize> {

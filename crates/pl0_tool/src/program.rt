@@ -11,7 +11,7 @@ ghost use Rattle.pl0_tool.specs.Reporting.{HasTold, status_of};
 use crate::answering::answer;
 use crate::arguments::parse_arguments;
 use crate::files::Opener;
-use crate::output::Noticing;
+use crate::output::WatchedOutput;
 use crate::report::{Ending, Report};
 use byte_streams::{Sink, Source, Writing, say, write_all};
 use clap::Error;
@@ -35,7 +35,7 @@ pub fn run<R, F, I, O, E>(
     given: io::Result<Args>,
     files: &mut F,
     input: &mut I,
-    output: &mut Writing<'_, R, Noticing<O>>,
+    output: &mut Writing<'_, R, WatchedOutput<O>>,
     errors: &mut E,
 ) -> ExitCode
 where
@@ -184,12 +184,12 @@ where
 
 ghost use Rattle.pl0_tool.specs.declared.report.Ending.TheVariants.{Failure, NotUnderstood};
 ghost use Rattle.pl0_tool.specs.Executing.{ClosesWith, memory_line, not_text_line};
-ghost use Rattle.byte_streams.specs.Streams.{Says};
+ghost use Rattle.byte_streams.specs.Streams.{WritesOrFails};
 
 /// Says that there is no memory.
 fn no_memory<E: Sink>(rt: &impl Wait, errors: &mut E) -> Ending
     ensures ending { result ≡ Failure }
-    ensures said { Says memory_line
+    ensures said { WritesOrFails memory_line
         (output_at (E.written errors.old) (E.failures errors.old))
         (output_at (E.written errors.new) (E.failures errors.new)) }
 {
@@ -200,7 +200,7 @@ fn no_memory<E: Sink>(rt: &impl Wait, errors: &mut E) -> Ending
 /// Says that an argument is not text.
 fn not_text<E: Sink>(rt: &impl Wait, errors: &mut E) -> Ending
     ensures ending { result ≡ NotUnderstood }
-    ensures said { Says not_text_line
+    ensures said { WritesOrFails not_text_line
         (output_at (E.written errors.old) (E.failures errors.old))
         (output_at (E.written errors.new) (E.failures errors.new)) }
 {

@@ -4,7 +4,7 @@ use super::Session;
 use crate::ports::{Orders, Out};
 use dap_frame::frame_laws;
 use dap_history::{SessionFault, reading_laws};
-use dap_msg::{Request, message_laws, read_from};
+use dap_msg::{Request, message_laws, read_counting_from};
 use dap_phase::Phase;
 use dap_replies::phase_laws;
 
@@ -93,7 +93,7 @@ impl Session {
     {
         frame_laws();
         message_laws();
-        let read = read_from(self.alloc, self.first, self.decoder.content());
+        let read = read_counting_from(self.alloc, self.first, self.decoder.content());
         self.decoder.pass();
         let Ok(request) = read else {
             return Err(SessionFault::NoMemory);

@@ -1,6 +1,6 @@
 use Rattle.std.proofs.Common.{◌≡◌, List, ℕ, ◌++◌, sym, ap, ◌∙◌, subst, append_assoc, decimal, codes}
 use Rattle.adapter.specs.Listing.{line_feed}
-use Rattle.byte_streams.specs.Streams.{Says, output}
+use Rattle.byte_streams.specs.Streams.{WritesOrFails, output}
 use Rattle.adapter.proofs.reporting.say_syntax.Goals as goal
 
 -- three numbers with spaces between them, and a line feed
@@ -18,4 +18,4 @@ returns g c =
     let l = decimal c.args.place.line in
     let k = decimal c.args.place.column in
     let said = rw (c.format.ensures.text, c.format-2.ensures.text, c.format-3.ensures.text) at c.say.ensures in
-    subst (λ t. Says (codes "pl0dap: syntax " ++ t) before after) (line n l k) said
+    subst (λ t. WritesOrFails (codes "pl0dap: syntax " ++ t) before after) (line n l k) said

@@ -1,7 +1,7 @@
 use Rattle.std.proofs.Common.{sym, subst, []}
 use Rattle.dap_session.specs.State.{Represents}
 use Rattle.dap_session.proofs.Driven.{first_is}
-use Rattle.dap_session.proofs.driving.drive_from.Goals as goal
+use Rattle.dap_session.proofs.driving.drive_counting_from.Goals as goal
 
 pub take_all-requires : goal.take_all-requires
 take_all-requires g c =
