@@ -270,21 +270,13 @@ impl<'a, L: Loader, R: Wait + Drop> Task for SessionTask<'a, L, R> {
             mut orders,
         } = self;
         let events = &mut inbox;
-        let closed = drive_counting_from(
-            &rt,
-            alloc,
-            first,
-            events,
-            loader,
-            &mut outbox,
-            &mut orders,
-        );
-        let ends = SessionEnds {
+        let end = drive_counting_from(&rt, alloc, first, events, loader, &mut outbox, &mut orders);
+        let queues = SessionEnds {
             inbox: inbox.leave(),
             outbox: outbox.finish(),
             orders,
         };
-        (loader, ends, closed)
+        (loader, queues, end)
     }
 }
 
