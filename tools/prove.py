@@ -3,11 +3,11 @@
 
 usage: prove.py CRATE..
 
-While `rt` works on a crate it keeps others from all crates below it, so a checkout proves nearly one crate at a time. But
-what `rt` proves in one copy of a repository it takes from there in any other. So a few copies are made, in a temporary
-folder; in each a library at a time is proved, and `rt run` in the checkout then finds all libraries proved. COPIES says how
-many, by default one a processor, as far as there is memory: each takes up to 5 GB. Prints a line for each library as it is
-proved, and what `rt` printed where one isn't: then the status is 1, and those above it aren't tried.
+While `rt` works on a crate it keeps others from all crates below it, so a checkout proves nearly one crate at a time. So a
+few copies of the crates are made, in a temporary folder; in each a library at a time is proved, and what `rt` keeps of it in
+`out/` is brought to the checkout, from where the other copies take it: `rt run` then finds all libraries proved. COPIES says
+how many, by default one a processor, as far as there is memory: each takes up to 5 GB. Prints a line for each library as it
+is proved, and what `rt` printed where one isn't: then the status is 1, and those above it aren't tried.
 """
 from __future__ import annotations
 
@@ -25,6 +25,8 @@ from scratch import TOP, crate_lines, crate_names, libraries
 
 COPY_MEMORY = 5
 PARTS = ("src", "specs", "proofs")
+# What `rt` keeps of a library in `out/`: what is proved of it, by a checksum of what it was made from, and its work.
+PROVED, WORK = "rlib", "incremental"
 
 
 class Proof(NamedTuple):
@@ -71,13 +73,34 @@ def jobs(running: int, ready: int) -> int:
     return 2 if 2 * running < cores else 1
 
 
+def stamp(kept: pathlib.Path) -> str | None:
+    """The checksum of what a library was proved from, if it is proved."""
+    file = kept / "stamp"
+    return file.read_text() if file.is_file() else None
+
+
+def bring(name: str, part: str, source: pathlib.Path, target: pathlib.Path) -> None:
+    """Copies a part of what is kept of a library from one copy of the repository to another, unless it is there."""
+    kept, place = (top / "crates" / name / "out" / part for top in (source, target))
+    if kept.is_dir() and (stamp(kept) is None or stamp(kept) != stamp(place)):
+        shutil.rmtree(place, ignore_errors=True)
+        place.parent.mkdir(exist_ok=True)
+        subprocess.run(["cp", "-a", "--reflink=auto", kept, place], check=True)
+
+
 def prove(top: pathlib.Path, name: str, processors: int) -> Proof:
-    """Proves a library in a copy of the repository."""
+    """Proves a library in a copy of the repository, over what the checkout keeps of those below, and brings it there."""
     begin = time.monotonic()
+    for library in [*libraries(name), name]:
+        bring(library, PROVED, TOP, top)
+    bring(name, WORK, TOP, top)
     run = subprocess.run(
         ["rt", "lib", "--jobs", str(processors)], cwd=top / "crates" / name, stdin=subprocess.DEVNULL, stdout=subprocess.PIPE,
         stderr=subprocess.STDOUT, text=True, errors="replace",
     )
+    if run.returncode == 0:
+        bring(name, PROVED, top, TOP)
+        bring(name, WORK, top, TOP)
     return Proof(run.returncode, run.stdout, (time.monotonic() - begin) / 60)
 
 

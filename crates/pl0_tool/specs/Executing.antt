@@ -184,7 +184,7 @@ module _ {Files File : Type 0} (opens : Files → Text → Result File FileFault
       ((report : Report) × (out : Output) × Comes arguments report old later before out
       × HasTold report ending out after errors later_errors)
       ⊎ ((ending ≡ Failure) × LacksMemory arguments old later before after
-        × WritesOrFails memory_line errors later_errors)
+      × WritesOrFails memory_line errors later_errors)
 
   -- There are no arguments: there was no memory for them, or one of them is not text. That was told, and nothing else
   -- was done.
