@@ -1,11 +1,9 @@
 //! What stands at a place of a text.
 
-ghost use Rattle.std.specs.Prelude.{◌≡◌, ◌-◌, ◌<◌, [], ◌∷◌, length, drop, take_while, MatchOption};
-ghost use Rattle.std.specs.Char.{is_ascii_digit};
-ghost use Rattle.pl0_tree.specs.Tokens.{is_space, is_word_byte};
+ghost use Rattle.std.specs.Prelude.{◌≡◌, ◌-◌, ◌<◌, [], ◌∷◌, length, drop, MatchOption};
 ghost use Rattle.pl0_mistakes.specs.Found.{from_line, from_place, before_place, front_token, cut};
 
-use pl0_tree::Place;
+use pl0_tree::{Place, digits_len, is_space, word_len};
 
 /// Returns what stands in a text before a place.
 pub fn before_place(text: &[u8], place: Place) -> &[u8]
@@ -73,13 +71,6 @@ fn split_token(bytes: &[u8]) -> (&[u8], &[u8])
     }
 }
 
-/// Whether a byte is white space.
-fn is_space(b: u8) -> bool
-    ensures { result ≡ is_space b }
-{
-    b == b' ' || b == b'\t' || b == b'\r' || b == b'\n'
-}
-
 /// Returns the token in front of bytes: a word, a number or a sign. It is empty where no bytes are left.
 pub fn front_token(bytes: &[u8]) -> &[u8]
     ensures { result.now ≡ front_token bytes.now }
@@ -91,25 +82,4 @@ pub fn front_token(bytes: &[u8]) -> &[u8]
         [b':' | b'<' | b'>', b'=', ..] => &bytes[..2],
         _ => &bytes[..1],
     }
-}
-
-/// Returns how many bytes at the front belong to a word.
-fn word_len(bytes: &[u8]) -> usize
-    ensures { result ≡ length (take_while is_word_byte bytes.now) }
-{
-    bytes.iter().take_while(|b| is_word_byte(**b)).count()
-}
-
-/// Whether a byte may stand in a word.
-fn is_word_byte(b: u8) -> bool
-    ensures { result ≡ is_word_byte b }
-{
-    b.is_ascii_alphabetic() || b.is_ascii_digit()
-}
-
-/// Returns how many digits are at the front.
-fn digits_len(bytes: &[u8]) -> usize
-    ensures { result ≡ length (take_while is_ascii_digit bytes.now) }
-{
-    bytes.iter().take_while(|b| b.is_ascii_digit()).count()
 }

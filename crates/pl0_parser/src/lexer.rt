@@ -1,15 +1,16 @@
 //! Cuts a text into tokens.
 
-ghost use Rattle.std.specs.Prelude.{ℕ, ◌≡◌, ◌+◌, ◌<◌, ◌≤◌, ◌∷◌, [], ◌++◌, map, length, take, take_while, slice_index, IfOk, IfErr, IsOk, false, find, option_map};
-ghost use Rattle.std.specs.Char.{is_ascii_digit};
+ghost use Rattle.std.specs.Prelude.{ℕ, ◌≡◌, ◌+◌, ◌<◌, ◌≤◌, ◌∷◌, [], ◌++◌, map, length, take, slice_index, IfOk, IfErr, IsOk, false, find, option_map};
 ghost use Rattle.std.specs.Str.{bytes_eq, IsAscii};
-ghost use Rattle.pl0_tree.specs.Tokens.{start_place, tokens_of, is_space, is_word_byte, behind, word_symbol, number_symbol, decimal_value, keywords};
+ghost use Rattle.pl0_tree.specs.Tokens.{start_place, tokens_of, is_space, behind, word_symbol, number_symbol, decimal_value, keywords};
 ghost use Rattle.pl0_tree.specs.Words.{symbol_of, ended};
 ghost use Rattle.pl0_tree.specs.Faults.{limit, FaultIs};
 ghost use Rattle.pl0_tree.specs.Ascending.{Ascend};
 ghost use Rattle.pl0_parser.specs.Cutting.{IsFront, IsSign, along};
 
-use pl0_tree::{FaultKind, Magnitude, Mark, Place, Symbol, SyntaxFault, Token};
+use pl0_tree::{
+    FaultKind, Magnitude, Mark, Place, Symbol, SyntaxFault, Token, digits_len, is_space, word_len,
+};
 use std::alloc::Global;
 use std::str::from_utf8_unchecked;
 
@@ -59,13 +60,6 @@ pub fn tokenize<'a>(alloc: Global, text: &'a [u8]) -> Result<(Vec<Token<'a>>, Pl
     Ok((found, place))
 }
 
-/// Whether a byte is white space.
-fn is_space(b: u8) -> bool
-    ensures { result ≡ is_space b }
-{
-    b == b' ' || b == b'\t' || b == b'\r' || b == b'\n'
-}
-
 /// Returns the symbol at the front, and its size in bytes. The bytes don't begin with white space.
 fn front<'a>(bytes: &'a [u8]) -> (Symbol<'a>, usize)
     requires some { 0 < length bytes.now }
@@ -84,20 +78,6 @@ fn front<'a>(bytes: &'a [u8]) -> (Symbol<'a>, usize)
     } else {
         sign(bytes)
     }
-}
-
-/// Returns how many bytes at the front belong to a word.
-fn word_len(bytes: &[u8]) -> usize
-    ensures { result ≡ length (take_while is_word_byte bytes.now) }
-{
-    bytes.iter().take_while(|b| is_word_byte(**b)).count()
-}
-
-/// Whether a byte may stand in a word.
-fn is_word_byte(b: u8) -> bool
-    ensures { result ≡ is_word_byte b }
-{
-    b.is_ascii_alphabetic() || b.is_ascii_digit()
 }
 
 /// Returns the symbol of a word: a keyword, or a name of at most 64 characters.
@@ -141,13 +121,6 @@ fn keyword(word: &[u8]) -> Option<Mark>
     } else {
         None
     }
-}
-
-/// Returns how many digits are at the front.
-fn digits_len(bytes: &[u8]) -> usize
-    ensures { result ≡ length (take_while is_ascii_digit bytes.now) }
-{
-    bytes.iter().take_while(|b| b.is_ascii_digit()).count()
 }
 
 /// Returns the symbol of digits: a number below 2^63.
