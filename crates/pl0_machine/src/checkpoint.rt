@@ -26,9 +26,10 @@ impl Model for Checkpoint {
 
     ghost coded = { Prim.hlevel (codes, compiled.the_row.coded) };
 
-    ghost use Rattle.pl0_machine.specs.Kept.{kept_of, Keeps};
+    ghost use Rattle.pl0_machine.specs.Invariant.{standing_in};
+    ghost use Rattle.pl0_machine.specs.Kept.{Keeps};
 
-    ghost view = { kept_of };
+    ghost view = { λ c. standing_in c.unit.value c.state };
 
     ghost invariant = { Keeps };
 }
