@@ -27,7 +27,7 @@ use Rattle.dap_wires.specs.declared.writer_message.WriterMessage.{WriterMessage}
 use Rattle.dap_wires.specs.declared.writer_message.WriterMessage.TheVariants as message
 use Rattle.dap_wires.specs.declared.reading.ReadEnd.{ReadEnd}
 use Rattle.dap_wires.specs.declared.reading.ReadEnd.TheVariants as ends
-use Rattle.dap_wires.specs.declared.writing.WriteFailed.{WriteFailed}
+use Rattle.byte_streams.specs.declared.writing.WriteFailed.{WriteFailed}
 use Rattle.dap_wires.specs.Orders.{FourWerePushed}
 use Rattle.dap_wires.specs.WriterMessages.{bundled, frames_in, has_end, AreEnded}
 use Rattle.dap_wires.specs.Reading.{IsReadUntil, last_of}

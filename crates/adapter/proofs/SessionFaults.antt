@@ -8,7 +8,7 @@ use Rattle.dap_history.specs.declared.fault.SessionFault.TheVariants.{Frame, Ord
 use Rattle.dap_history.specs.declared.ending.Closed.{Closed}
 use Rattle.dap_history.specs.declared.ending.Closed.TheVariants as closed
 use Rattle.dap_session.specs.Serving.{SessionOutcome}
-use Rattle.dap_wires.specs.declared.writing.WriteFailed.{WriteFailed}
+use Rattle.byte_streams.specs.declared.writing.WriteFailed.{WriteFailed}
 use Rattle.adapter.specs.declared.serving.ServeFault.TheVariants.{Session}
 use Rattle.adapter.specs.Laws.{closed_of, OutcomeIsOfSession, NobodyIsGone, FullAfterFour}
 use Rattle.adapter.specs.Serving.{World, nothing_sent, outcome_of, TasksEnd, IsServed, tasks_ended, had_no_memory, had_no_thread}

@@ -13,7 +13,7 @@ use Rattle.dap_history.specs.History.{Item, Content, Step, History}
 use Rattle.dap_history.specs.Events.{Incoming, End, Rest, IsHistoryOf}
 use Rattle.dap_history.specs.Laws.{stream_of}
 use Rattle.dap_session.specs.Sending.{IsPrefixOf}
-use Rattle.dap_wires.specs.declared.writing.WriteFailed.{WriteFailed}
+use Rattle.byte_streams.specs.declared.writing.WriteFailed.{WriteFailed}
 use Rattle.dap_wires.specs.Orders.{FourWerePushed}
 use Rattle.byte_streams.specs.Streams.{Supply}
 use Rattle.adapter.specs.declared.serving.Served.{Served}

@@ -20,7 +20,7 @@ use Rattle.adapter.specs.declared.serving.Served.TheVariants as served
 use Rattle.adapter.specs.declared.serving.ServeFault.{ServeFault}
 use Rattle.adapter.specs.declared.serving.ServeFault.TheVariants as fault
 use Rattle.dap_wires.specs.declared.reading.ReadEnd.{ReadEnd}
-use Rattle.dap_wires.specs.declared.writing.WriteFailed.{WriteFailed}
+use Rattle.byte_streams.specs.declared.writing.WriteFailed.{WriteFailed}
 use Rattle.dap_wires.specs.Orders.{FourWerePushed}
 use Rattle.dap_wires.specs.Reading.{IsReadUntil}
 use Rattle.dap_wires.specs.Senders.{from_client, reports_among}

@@ -7,7 +7,7 @@ ghost use Rattle.adapter.specs.Checking.{IsChecked, IsListingOf, IsListingOfProg
 ghost use Rattle.byte_streams.specs.Streams.{output as output_at};
 
 use crate::listing::listing;
-use byte_streams::{Sink, write_all};
+use byte_streams::{Sink, WriteFailed, write_all};
 use dap_session::{LoadFault, Loader};
 use pl0_code::{CodeFault, Unit, compile};
 use pl0_syntax::parse;
@@ -96,10 +96,9 @@ pub(crate) fn check_keeping<R: Wait, L: Loader, O: Sink>(
             return Checked { outcome, text };
         }
     };
-    let outcome = if write_all(rt, output, listing.as_bytes()) {
-        Ok(())
-    } else {
-        Err(CheckFault::WriteFailed)
+    let outcome = match write_all(rt, output, listing.as_bytes()) {
+        Ok(()) => Ok(()),
+        Err(WriteFailed) => Err(CheckFault::WriteFailed),
     };
     Checked { outcome, text }
 }

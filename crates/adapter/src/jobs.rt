@@ -20,12 +20,11 @@ ghost use Rattle.adapter.specs.Jobs.{SessionLeaves};
 use crate::gates::{Gated, OpenGate};
 use crate::tasks::{LastTask, Task};
 use crate::wires::Wires;
-use byte_streams::{Sink, Source};
+use byte_streams::{Sink, Source, WriteFailed};
 use dap_session::{Closed, FirstSeq, Loader, Order, Orders, SessionFault, drive_counting_from};
 use dap_wires::{
     ClientSender, EndedSender, EventReceiver, FrameReceiver, FrameSender, InboxLog, OrderReceiver,
-    OrderSender, ReadEnd, ReceiveLog, ReportSender, WriteFailed, WriterMessage, read_loop,
-    write_loop,
+    OrderSender, ReadEnd, ReceiveLog, ReportSender, WriterMessage, read_loop, write_loop,
 };
 use dbg_runner::{Gate, Joined, work};
 use std::alloc::Global;

@@ -22,7 +22,7 @@ use crate::files::FileLoader;
 use crate::gates::OpenGate;
 use crate::reporting::{EndReporter, note_mistake, report};
 use crate::serving::{end_loan, serve_counting_from};
-use byte_streams::{Sink, Source, write_all};
+use byte_streams::{Sink, Source, WriteFailed, write_all};
 use dap_session::{FirstSeq, Loader};
 use std::alloc::{AllocError, Global};
 use std::env::Args;
@@ -294,9 +294,8 @@ fn show_help<O: Sink>(rt: &impl Wait, output: &mut O) -> ExitReason
         (output_at (O.written output.old) (O.failures output.old))
         (output_at (O.written output.new) (O.failures output.new)) }
 {
-    if write_all(rt, output, HELP.as_bytes()) {
-        end_of_arguments(ArgumentsFault::Help)
-    } else {
-        ExitReason::WriteFailed
+    match write_all(rt, output, HELP.as_bytes()) {
+        Ok(()) => end_of_arguments(ArgumentsFault::Help),
+        Err(WriteFailed) => ExitReason::WriteFailed,
     }
 }

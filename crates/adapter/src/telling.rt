@@ -6,8 +6,9 @@ ghost use Rattle.adapter.specs.Serving.{outcome_of};
 use crate::jobs::SessionEnds;
 use crate::serving::{ServeFault, Served, outcome};
 use crate::tasks::Witness;
+use byte_streams::WriteFailed;
 use dap_session::{Closed, SessionFault};
-use dap_wires::{ReceiveLog, WriteFailed, WriterMessage};
+use dap_wires::{ReceiveLog, WriterMessage};
 use std::sync::Wait;
 
 /// Is told how serving ended.

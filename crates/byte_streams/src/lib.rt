@@ -1,7 +1,7 @@
 //! Bytes in and bytes out: where they come from, where they go, how to read the first of them, and how to write all.
 //!
 //! ```
-//! use byte_streams::{IoFault, Reading, Sink, Source, Writing, write_all};
+//! use byte_streams::{IoFault, Reading, Sink, Source, WriteFailed, Writing, write_all};
 //! use std::process::ExitCode;
 //! use std::sync::Wait;
 //!
@@ -21,8 +21,9 @@
 //!             Err(IoFault::Interrupted) => continue,
 //!             Err(_) => return false,
 //!         };
-//!         if !write_all(rt, output, room.split_at(count).0) {
-//!             return false;
+//!         match write_all(rt, output, room.split_at(count).0) {
+//!             Ok(()) => {}
+//!             Err(WriteFailed) => return false,
 //!         }
 //!     }
 //!     unreachable!()
@@ -43,4 +44,4 @@ mod writing;
 
 pub use beginning::{BEGINNING_LIMIT, ReadFault, read_beginning};
 pub use streams::{IoFault, Reading, Sink, Source, Writing};
-pub use writing::{say, write_all};
+pub use writing::{WriteFailed, say, write_all};

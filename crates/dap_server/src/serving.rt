@@ -19,7 +19,7 @@ use crate::messages::{frame_of_event, frames_of};
 use crate::reading::{command_of, is_request, seq_of};
 use crate::reply::Event;
 use crate::responder::Responder;
-use byte_streams::{Sink, Source, write_all};
+use byte_streams::{Sink, Source, WriteFailed, write_all};
 use dap_frame::{Decoder, frame_laws};
 use serde_json::Value;
 use std::alloc::{AllocError, Global};
@@ -117,10 +117,9 @@ fn tell<O: Sink>(
         Ok(frame) => frame,
         Err(fault) => return Err(fault),
     };
-    if write_all(rt, output, frame.as_slice()) {
-        Ok(())
-    } else {
-        Err(ServeFault::Output)
+    match write_all(rt, output, frame.as_slice()) {
+        Ok(()) => Ok(()),
+        Err(WriteFailed) => Err(ServeFault::Output),
     }
 }
 
@@ -229,10 +228,10 @@ fn answer_value<R: Responder, O: Sink>(
         Ok(bytes) => bytes,
         Err(fault) => return Err(fault),
     };
-    if !write_all(rt, output, bytes.as_slice()) {
-        return Err(ServeFault::Output);
+    match write_all(rt, output, bytes.as_slice()) {
+        Ok(()) => Ok(client_after(command)),
+        Err(WriteFailed) => Err(ServeFault::Output),
     }
-    Ok(client_after(command))
 }
 
 /// Whether the client stays after this command.

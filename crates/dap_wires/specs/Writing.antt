@@ -2,8 +2,8 @@
 use Rattle.std.specs.Prelude.{◌≡◌, List, false, Result, Ok, Err}
 use Rattle.std.specs.List.{concat}
 use Rattle.dap_wires.specs.declared.writer_message.WriterMessage.{WriterMessage}
-use Rattle.dap_wires.specs.declared.writing.WriteFailed.{WriteFailed}
 use Rattle.dap_wires.specs.WriterMessages.{frames_in, has_end, AreEnded}
+use Rattle.byte_streams.specs.declared.writing.WriteFailed.{WriteFailed}
 use Rattle.byte_streams.specs.Streams.{Output, WritesAll, FailsIn}
 
 -- Frames and then `End` were taken, and the frames were written whole; or frames alone were taken, and the output

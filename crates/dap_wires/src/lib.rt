@@ -43,4 +43,4 @@ pub use order_ends::{OrderReceiver, OrderSender};
 pub use order_queue::{orders, reconcile_orders};
 pub use reading::{ReadEnd, read_loop};
 pub use writer_message::WriterMessage;
-pub use writing::{WriteFailed, write_loop};
+pub use writing::write_loop;

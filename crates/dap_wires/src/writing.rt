@@ -8,12 +8,8 @@ ghost use Rattle.dap_wires.specs.Writing.{IsWrittenUntil};
 
 use crate::frame_ends::FrameReceiver;
 use crate::writer_message::WriterMessage;
-use byte_streams::{Sink, write_all};
+use byte_streams::{Sink, WriteFailed, write_all};
 use std::sync::Wait;
-
-/// The output failed.
-#[derive(Clone, Copy)]
-pub struct WriteFailed;
 
 /// Takes frames from an outbox and writes each whole before it takes the next, until `WriterMessage::End` comes.
 ///
@@ -35,9 +31,7 @@ pub fn write_loop<O: Sink, R: Wait + Drop>(
             None => {}
             Some(WriterMessage::End) => return Ok(()),
             Some(WriterMessage::Frames(bundle)) => {
-                if !write_all(rt, output, bundle.bytes.as_slice()) {
-                    return Err(WriteFailed);
-                }
+                write_all(rt, output, bundle.bytes.as_slice())?;
             }
         }
     }

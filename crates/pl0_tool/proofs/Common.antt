@@ -15,7 +15,7 @@ pub use Rattle.pl0_tree.specs.Blocks.{AreNestings}
 pub use Rattle.pl0_tree.specs.Scope.{block_at, home, Path}
 pub use Rattle.pl0_tree.specs.Steps.{AreSteps, blocks, StepAt, steps}
 pub use Rattle.pl0_tree.specs.Tree.{Assign, Block, Call, If, Name, Statement, variables, While, Write}
-pub use Rattle.std.proofs.Common.{[], add-one, ap, append-nil, append_assoc, arith, Bool, cond, Err, false, FitsSigned, get_or, Global, IfOk, inr, length, List, MatchBool, None, Ok, Option, refl, Result, rules, slice_get, Some, subst, suc, sym, take, true, Vec, w64, zero, ℕ, ℤ, ⊎_elim, ◌++◌, ◌+◌, ◌-◌, ◌<◌, ◌∙◌, ◌∷◌, ◌≡◌, ◌≢◌, ◌≤◌}
+pub use Rattle.std.proofs.Common.{[], add-one, ap, append-nil, append_assoc, arith, Bool, cond, Err, false, FitsSigned, get_or, Global, IfOk, inr, length, List, MatchBool, MatchResult, None, Ok, Option, refl, Result, rules, slice_get, Some, subst, suc, sym, take, true, Vec, w64, zero, ℕ, ℤ, ⊎_elim, ◌++◌, ◌+◌, ◌-◌, ◌<◌, ◌∙◌, ◌∷◌, ◌≡◌, ◌≢◌, ◌≤◌}
 pub use Rattle.std.proofs.lemmas.Int.{to_z-of_z}
 pub use Rattle.std.proofs.lemmas.List.{length-map, length_push, take_all}
 pub use Rattle.std.proofs.lemmas.Option.{same_Some, slice_get-get_or}

@@ -1,5 +1,5 @@
 -- Bytes that are pending while more are put to them, and when they are written.
-use Rattle.pl0_tool.proofs.Common.{[], ap, append-nil, append_assoc, AppendsPart, arith, Bool, FailsIn, false, Holds, List, MatchBool, Output, refl, subst, sym, true, WritesAll, ℕ, ◌++◌, ◌<◌, ◌∙◌, ◌≡◌}
+use Rattle.pl0_tool.proofs.Common.{[], ap, append-nil, append_assoc, AppendsPart, arith, Err, FailsIn, Holds, List, MatchResult, Ok, Output, refl, Result, subst, sym, WritesAll, ℕ, ◌++◌, ◌<◌, ◌∙◌, ◌≡◌}
 use Rattle.std.specs.Io.KnownBytes.{Appends}
 use Rattle.std.proofs.KnownBytes.{Appends-nil, Appends-trans}
 
@@ -117,21 +117,23 @@ holds_more before now pending left text bytes is held = record {
 }
 
 -- bytes are written after what was pending, or the output fails in them
-pub put_last : (b : Bool) (before now mid later : Output) (pending left text bytes : List ℕ)
+pub put_last : {E : Type 0} (wrote : Result (Unit {0}) E) (before now mid later : Output) (pending left text bytes : List ℕ)
     → Holds before now pending text → WritesAll pending now mid → left ≡ []
-    → MatchBool b (Appends mid.written later.written bytes) (AppendsPart mid.written later.written bytes)
-    → MatchBool b (later.failures ≡ mid.failures) (mid.failures < later.failures)
-    → MatchBool b (Holds before later left (text ++ bytes)) (FailsIn (text ++ bytes) before later)
-put_last true before now mid later pending left text bytes held first empty wrote count =
+    → MatchResult wrote (λ _. Appends mid.written later.written bytes)
+        (λ _. AppendsPart mid.written later.written bytes)
+    → MatchResult wrote (λ _. later.failures ≡ mid.failures) (λ _. mid.failures < later.failures)
+    → MatchResult wrote (λ _. Holds before later left (text ++ bytes)) (λ _. FailsIn (text ++ bytes) before later)
+put_last (Ok done) before now mid later pending left text bytes held first empty wrote count =
     holds_written before now mid later pending left text bytes held first (wrote, count) empty
-put_last false before now mid later pending left text bytes held first empty wrote count =
+put_last (Err failed) before now mid later pending left text bytes held first empty wrote count =
     holds_failed_later before now mid later pending text bytes held first (wrote, count)
 
 -- what was pending is written, or the output fails in it
-pub flushed_or_failed : (b : Bool) (before now later : Output) (pending left text : List ℕ)
-    → Holds before now pending text → MatchBool b (WritesAll pending now later) (FailsIn pending now later) → left ≡ []
-    → MatchBool b (Holds before later left text) (FailsIn text before later)
-flushed_or_failed true before now later pending left text held wrote empty =
+pub flushed_or_failed : {E : Type 0} (wrote : Result (Unit {0}) E) (before now later : Output) (pending left text : List ℕ)
+    → Holds before now pending text
+    → MatchResult wrote (λ _. WritesAll pending now later) (λ _. FailsIn pending now later) → left ≡ []
+    → MatchResult wrote (λ _. Holds before later left text) (λ _. FailsIn text before later)
+flushed_or_failed (Ok done) before now later pending left text held wrote empty =
     holds_flushed before now later pending left text held wrote empty
-flushed_or_failed false before now later pending left text held fails empty =
+flushed_or_failed (Err failed) before now later pending left text held fails empty =
     holds_failed_last before now later pending text held fails

@@ -1,10 +1,10 @@
 //! Lines that are written in large blocks.
 
-ghost use Rattle.std.specs.Prelude.{◌≡◌, ◌++◌, [], false, List, ℕ, MatchBool, if◌then◌else◌};
+ghost use Rattle.std.specs.Prelude.{◌≡◌, ◌++◌, [], false, List, ℕ, MatchResult, if◌then◌else◌};
 ghost use Rattle.byte_streams.specs.Streams.{Output, WritesAll, FailsIn, output as output_at};
 ghost use Rattle.pl0_tool.specs.Pending.{Holds};
 
-use byte_streams::{Sink, write_all};
+use byte_streams::{Sink, WriteFailed, write_all};
 use std::io::{self, ErrorKind, IsTerminal, Write};
 use std::sync::Wait;
 
@@ -59,28 +59,29 @@ impl<O: Write + Drop> Write for WatchedOutput<O> {
 }
 
 /// Adds bytes to those that are still to be written, of which at most `room` are kept; more of them are written.
-/// Returns `false` where the output fails.
+///
+/// # Errors
+///
+/// `WriteFailed`, where the output failed.
 pub fn put<O: Sink>(
     rt: &impl Wait,
     output: &mut O,
     pending: &mut Vec<u8>,
     room: usize,
     bytes: &[u8],
-) -> bool
+) -> Result<(), WriteFailed>
     ensures { (before : Output) (text : List ℕ)
         → Holds before (output_at (O.written output.old) (O.failures output.old)) pending.old.items text
-        → MatchBool result
-        (Holds before (output_at (O.written output.new) (O.failures output.new)) pending.new.items (text ++ bytes.now))
-        (FailsIn (text ++ bytes.now) before (output_at (O.written output.new) (O.failures output.new))) }
+        → MatchResult result
+        (λ _. Holds before (output_at (O.written output.new) (O.failures output.new)) pending.new.items
+        (text ++ bytes.now))
+        (λ _. FailsIn (text ++ bytes.now) before (output_at (O.written output.new) (O.failures output.new))) }
 {
     if keep(pending, room, bytes) {
-        return true;
+        return Ok(());
     }
-    if flush(rt, output, pending) {
-        write_all(rt, output, bytes)
-    } else {
-        false
-    }
+    flush(rt, output, pending)?;
+    write_all(rt, output, bytes)
 }
 
 /// Adds bytes to those that are still to be written, and returns whether there was room and memory for them.
@@ -93,13 +94,21 @@ fn keep(pending: &mut Vec<u8>, room: usize, bytes: &[u8]) -> bool
     pending.extend_from_slice(bytes).is_ok()
 }
 
-/// Writes what is still to be written, and returns `false` where the output fails.
-pub fn flush<O: Sink>(rt: &impl Wait, output: &mut O, pending: &mut Vec<u8>) -> bool
+/// Writes what is still to be written. Nothing is still to be written afterwards.
+///
+/// # Errors
+///
+/// `WriteFailed`, where the output failed.
+pub fn flush<O: Sink>(
+    rt: &impl Wait,
+    output: &mut O,
+    pending: &mut Vec<u8>,
+) -> Result<(), WriteFailed>
     ensures empty { pending.new.items ≡ [] }
-    ensures flushed { MatchBool result
-        (WritesAll pending.old.items (output_at (O.written output.old) (O.failures output.old))
+    ensures flushed { MatchResult result
+        (λ _. WritesAll pending.old.items (output_at (O.written output.old) (O.failures output.old))
         (output_at (O.written output.new) (O.failures output.new)))
-        (FailsIn pending.old.items (output_at (O.written output.old) (O.failures output.old))
+        (λ _. FailsIn pending.old.items (output_at (O.written output.old) (O.failures output.old))
         (output_at (O.written output.new) (O.failures output.new))) }
 {
     let written = write_all(rt, output, pending.as_slice());
@@ -107,16 +116,25 @@ pub fn flush<O: Sink>(rt: &impl Wait, output: &mut O, pending: &mut Vec<u8>) -> 
     written
 }
 
-/// Writes what is still to be written where that is more than `room` bytes, and returns `false` where the output fails.
-pub fn spill<O: Sink>(rt: &impl Wait, output: &mut O, pending: &mut Vec<u8>, room: usize) -> bool
+/// Writes what is still to be written where that is more than `room` bytes.
+///
+/// # Errors
+///
+/// `WriteFailed`, where the output failed.
+pub fn spill<O: Sink>(
+    rt: &impl Wait,
+    output: &mut O,
+    pending: &mut Vec<u8>,
+    room: usize,
+) -> Result<(), WriteFailed>
     ensures { (before : Output) (text : List ℕ)
         → Holds before (output_at (O.written output.old) (O.failures output.old)) pending.old.items text
-        → MatchBool result
-        (Holds before (output_at (O.written output.new) (O.failures output.new)) pending.new.items text)
-        (FailsIn text before (output_at (O.written output.new) (O.failures output.new))) }
+        → MatchResult result
+        (λ _. Holds before (output_at (O.written output.new) (O.failures output.new)) pending.new.items text)
+        (λ _. FailsIn text before (output_at (O.written output.new) (O.failures output.new))) }
 {
     if pending.len() <= room {
-        return true;
+        return Ok(());
     }
     flush(rt, output, pending)
 }

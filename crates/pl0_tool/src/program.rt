@@ -13,7 +13,7 @@ use crate::arguments::parse_arguments;
 use crate::files::Opener;
 use crate::output::WatchedOutput;
 use crate::report::{Ending, Report};
-use byte_streams::{Sink, Source, Writing, say, write_all};
+use byte_streams::{Sink, Source, WriteFailed, Writing, say, write_all};
 use clap::Error;
 use clap::error::ErrorKind;
 use std::alloc::{AllocError, Global};
@@ -216,12 +216,11 @@ fn tell<O: Sink, E: Sink>(rt: &impl Wait, report: &Report, output: &mut O, error
         (output_at (E.written errors.old) (E.failures errors.old))
         (output_at (E.written errors.new) (E.failures errors.new)) }
 {
-    let is_written = write_all(rt, output, report.output.as_slice());
+    let written = write_all(rt, output, report.output.as_slice());
     let _ = write_all(rt, errors, report.errors.as_slice());
-    if is_written {
-        report.ending
-    } else {
-        Ending::Unwritten
+    match written {
+        Ok(()) => report.ending,
+        Err(WriteFailed) => Ending::Unwritten,
     }
 }
 

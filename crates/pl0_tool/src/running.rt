@@ -1,6 +1,6 @@
 //! Running a program.
 
-ghost use Rattle.std.specs.Prelude.{◌≡◌, ◌<◌, ◌≤◌, ◌+◌, ◌⊎◌, ◌++◌, ◌∷◌, [], List, ℕ, None, Some, MatchBool};
+ghost use Rattle.std.specs.Prelude.{◌≡◌, ◌<◌, ◌≤◌, ◌+◌, ◌⊎◌, ◌++◌, ◌∷◌, [], List, ℕ, None, Some, MatchResult};
 ghost use Rattle.std.specs.Fmt.{signed_decimal};
 ghost use Rattle.pl0_machine.specs.Machine.{depth_of};
 ghost use Rattle.byte_streams.specs.Streams.{Output, WritesAll, FailsIn, output as output_at};
@@ -8,7 +8,7 @@ ghost use Rattle.pl0_tool.specs.Pending.{Holds};
 ghost use Rattle.pl0_tool.specs.Running.{HasRun, HasRunSlice, slice_steps};
 
 use crate::output::{flush, put};
-use byte_streams::Sink;
+use byte_streams::{Sink, WriteFailed};
 use itoa::Buffer;
 use pl0_machine::{Machine, StepOutcome};
 use pl0_meaning::{RunFault, meaning_laws};
@@ -80,8 +80,9 @@ pub fn run_slice<O: Sink>(
             None => return finish(rt, output, pending, None, RunEnd::WriteFailed),
             Some(StepOutcome::Went(None)) => {}
             Some(StepOutcome::Went(Some(number))) => {
-                if !put_line(rt, output, pending, room, number) {
-                    return Some(RunEnd::WriteFailed);
+                match put_line(rt, output, pending, room, number) {
+                    Ok(()) => {}
+                    Err(WriteFailed) => return Some(RunEnd::WriteFailed),
                 }
             }
             Some(StepOutcome::Done) => {
@@ -118,33 +119,33 @@ fn finish<O: Sink>(
         → ((result ≡ end) × WritesAll text before (output_at (O.written output.new) (O.failures output.new)))
         ⊎ ((result ≡ Some failed) × FailsIn text before (output_at (O.written output.new) (O.failures output.new))) }
 {
-    if flush(rt, output, pending) {
-        end
-    } else {
-        Some(failed)
+    match flush(rt, output, pending) {
+        Ok(()) => end,
+        Err(WriteFailed) => Some(failed),
     }
 }
 
-/// Writes a number on a line of its own, as `put` writes bytes.
+/// Writes a number on a line of its own, as [`put`] writes bytes.
+///
+/// # Errors
+///
+/// `WriteFailed`, where the output failed.
 fn put_line<O: Sink>(
     rt: &impl Wait,
     output: &mut O,
     pending: &mut Vec<u8>,
     room: usize,
     number: i64,
-) -> bool
+) -> Result<(), WriteFailed>
     ensures { (before : Output) (text : List ℕ)
         → Holds before (output_at (O.written output.old) (O.failures output.old)) pending.old.items text
-        → MatchBool result
-        (Holds before (output_at (O.written output.new) (O.failures output.new)) pending.new.items
+        → MatchResult result
+        (λ _. Holds before (output_at (O.written output.new) (O.failures output.new)) pending.new.items
         (text ++ (signed_decimal number ++ (10 ∷ []))))
-        (FailsIn (text ++ (signed_decimal number ++ (10 ∷ []))) before
+        (λ _. FailsIn (text ++ (signed_decimal number ++ (10 ∷ []))) before
         (output_at (O.written output.new) (O.failures output.new))) }
 {
     let mut digits = Buffer::new();
-    if put(rt, output, pending, room, digits.format(number).as_bytes()) {
-        put(rt, output, pending, room, b"\n")
-    } else {
-        false
-    }
+    put(rt, output, pending, room, digits.format(number).as_bytes())?;
+    put(rt, output, pending, room, b"\n")
 }

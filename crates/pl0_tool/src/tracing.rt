@@ -10,7 +10,7 @@ ghost use Rattle.pl0_tool.specs.Table.{head};
 use crate::drawing::{Drawing, draw_if};
 use crate::output::spill;
 use crate::table::put_row;
-use byte_streams::Sink;
+use byte_streams::{Sink, WriteFailed};
 use pl0_machine::{Machine, StepOutcome};
 use pl0_meaning::RunFault;
 use pl0_syntax::block;
@@ -126,10 +126,9 @@ fn tell_row<O: Sink>(
     let row = next_row(alloc, machine, drawn)?;
     let unit: &Unit = machine.unit();
     put_row(alloc, page, unit, &row)?;
-    if spill(rt, output, page, room) {
-        Ok(Some(row.outcome))
-    } else {
-        Ok(None)
+    match spill(rt, output, page, room) {
+        Ok(()) => Ok(Some(row.outcome)),
+        Err(WriteFailed) => Ok(None),
     }
 }
 

@@ -10,8 +10,8 @@ use Rattle.dap_server.specs.Conversation.{state}
 use Rattle.dap_server.proofs.Conversing.{answered}
 use Rattle.dap_server.proofs.serving.answer_value.Goals as goal
 
-pub returns-then-not-write_all-clause-err : goal.returns-then-not-write_all-clause-err
-returns-then-not-write_all-clause-err g c =
+pub returns-in-Err-write_all-clause-err : goal.returns-in-Err-write_all-clause-err
+returns-in-Err-write_all-clause-err g c =
     let d = view c.args.value.now in
     let name = c.in-Some-command_of.command.now in
     let typed : is_request d ≡ true = search rules in (
@@ -22,6 +22,6 @@ returns-then-not-write_all-clause-err g c =
           (AppendsPart (g.O.Sink.written c.args.output.now) (g.O.Sink.written c.write_all.new.output))
           typed c.in-Some.ensures c.in-Some-command_of.ensures refl
           (rw c.get.ensures at c.in_ok-reply.ensures) c.in-Ok.ensures.ok
-          (rw c.as_slice.ensures.value at c.if-not-write_all.ensures.written),
+          (rw c.as_slice.ensures.value at c.in-Err-write_all.ensures.written),
       refl {a = c.respond.new.self},
     )

@@ -2,15 +2,15 @@ use Rattle.pl0_tool.proofs.Common.{Holds, output, subst, sym}
 use Rattle.pl0_tool.proofs.PendingBytes.{put_last, holds_failed}
 use Rattle.pl0_tool.proofs.output.put.Goals as goal
 
-pub returns-then-flush : goal.returns-then-flush
-returns-then-flush g c before text held =
+pub returns : goal.returns
+returns g c before text held =
     let now = output (g.O.Sink.written c.args.output.now) (g.O.Sink.failures c.args.output.now) in
     let same = subst (λ p. Holds before now p text) (sym c.if-keep.ensures) held in
-    put_last c.write_all.result before _ _ _ _ _ text c.args.bytes.now same c.if-flush.ensures.flushed
+    put_last c.write_all.result before _ _ _ _ _ text c.args.bytes.now same c.in_ok-flush.ensures.flushed
     c.flush.ensures.empty c.write_all.ensures.written c.write_all.ensures.count
 
-pub returns-else-flush : goal.returns-else-flush
-returns-else-flush g c before text held =
+pub returns-in_err-flush : goal.returns-in_err-flush
+returns-in_err-flush g c before text held =
     let now = output (g.O.Sink.written c.args.output.now) (g.O.Sink.failures c.args.output.now) in
     let same = subst (λ p. Holds before now p text) (sym c.if-keep.ensures) held in
-    holds_failed before _ _ _ text c.args.bytes.now same c.if-flush.ensures.flushed
+    holds_failed before _ _ _ text c.args.bytes.now same c.in_err-flush.ensures.flushed

@@ -33,8 +33,8 @@ numbers-preserved-in-Some-Went-None g c =
       held_on start now new (Went None) before out c.numbers.pending.items refl came ran c.numbers.invariant.3,
     )
 
-pub returns-then-not-put_line-clause-ran : goal.returns-then-not-put_line-clause-ran
-returns-then-not-put_line-clause-ran g c =
+pub returns-in-Err-clause-ran : goal.returns-in-Err-clause-ran
+returns-in-Err-clause-ran g c =
     let start = c.args.machine.now in
     let now = c.numbers.machine in
     let new = c.run.new.self in
@@ -51,7 +51,7 @@ returns-then-not-put_line-clause-ran g c =
     failed_so start now new (Went (Some number)) before out came ran
     (subst (λ l. FailsIn l before out) (sym (wrote_on start now new (Went (Some number)) came ran))
     (subst (λ n. FailsIn (lines_between start now ++ (signed_decimal n ++ (10 ∷ []))) before out)
-    (to_z-of_z w64 number fits) (c.if-not-put_line.ensures before (lines_between start now) c.numbers.invariant.3)))
+    (to_z-of_z w64 number fits) (c.in-Err.ensures before (lines_between start now) c.numbers.invariant.3)))
 
 pub numbers-preserved : goal.numbers-preserved
 numbers-preserved g c =
@@ -75,7 +75,7 @@ numbers-preserved g c =
           (sym (wrote_on start now new (Went (Some number)) came ran))
           (subst (λ n. Holds before out c.put_line.new.pending.items
           (lines_between start now ++ (signed_decimal n ++ (10 ∷ [])))) (to_z-of_z w64 number fits)
-          (c.if-not-put_line.ensures before (lines_between start now) c.numbers.invariant.3)),
+          (c.in-Ok.ensures before (lines_between start now) c.numbers.invariant.3)),
     )
 
 pub returns-in-Some-Done-clause-ran : goal.returns-in-Some-Done-clause-ran

@@ -3,25 +3,25 @@ use Rattle.pl0_tool.specs.Table.{row_text}
 use Rattle.pl0_tool.proofs.TracedRows.{row_held}
 use Rattle.pl0_tool.proofs.tracing.tell_row.Goals as goal
 
-pub returns-then-spill : goal.returns-then-spill
-returns-then-spill g c =
+pub returns-in-Ok : goal.returns-in-Ok
+returns-in-Ok g c =
     let m = c.args.machine.now in
     let row = c.in_ok-row.row in (
       row,
       c.in_ok-row.ensures.0,
       c.in_ok-row.ensures.1,
-      λ first text held. c.if-spill.ensures first (text ++ row_text m.unit row)
+      λ first text held. c.in-Ok.ensures first (text ++ row_text m.unit row)
           (row_held m c.next_row.new.machine row.outcome c.deref-unit.result.now row first _ _ _ text
           c.in_ok-row.ensures.1 (c.deref-unit.ensures ∙ c.unit.ensures) c.in_ok-put_row.ensures held),
     )
 
-pub returns : goal.returns
-returns g c =
+pub returns-in-Err : goal.returns-in-Err
+returns-in-Err g c =
     let m = c.args.machine.now in
     let row = c.in_ok-row.row in (
       row,
       c.in_ok-row.ensures.0,
-      λ first text held. c.if-spill.ensures first (text ++ row_text m.unit row)
+      λ first text held. c.in-Err.ensures first (text ++ row_text m.unit row)
           (row_held m c.next_row.new.machine row.outcome c.deref-unit.result.now row first _ _ _ text
           c.in_ok-row.ensures.1 (c.deref-unit.ensures ∙ c.unit.ensures) c.in_ok-put_row.ensures held),
     )
