@@ -3,17 +3,18 @@ use Rattle.std.proofs.Common.{◌≡◌, ◌≤◌, List, [], ◌∷◌, ◌++�
 use Rattle.std.proofs.lemmas.List.{length-map}
 use Rattle.dbg_runner.specs.Orders.{plain_order}
 use Rattle.dbg_runner.specs.declared.order.Order.{Order}
+use Rattle.dap_wires.specs.declared.order_queue.TheConstants.{ORDERS_CAPACITY}
 
 -- where the queue is full
-pub four_pushed : (pushed taken inside : List Order) → pushed ≡ taken ++ inside → length inside ≡ 4
-    → 4 ≤ length (map plain_order pushed)
+pub four_pushed : (pushed taken inside : List Order) → pushed ≡ taken ++ inside → length inside ≡ ORDERS_CAPACITY
+    → ORDERS_CAPACITY ≤ length (map plain_order pushed)
 four_pushed pushed taken inside is four =
     let m = length-map pushed plain_order in let e =
     ap length is in let a = length-append taken inside in omega (arith, m, e, a, four)
 
 -- and after one order more
-pub still_four : (old new : List Order) (x : Order) → new ≡ old ++ x ∷ [] → 4 ≤ length (map plain_order old)
-    → 4 ≤ length (map plain_order new)
+pub still_four : (old new : List Order) (x : Order) → new ≡ old ++ x ∷ [] → ORDERS_CAPACITY ≤ length (map plain_order old)
+    → ORDERS_CAPACITY ≤ length (map plain_order new)
 still_four old new x is was =
     let m = length-map old plain_order in let n = length-map new plain_order in
     let e = ap length is in let a = length-append old (x ∷ []) in omega (arith, m, n, e, a, was)

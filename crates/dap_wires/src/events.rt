@@ -124,7 +124,7 @@ impl<R: Wait + Drop> Reports for ReportSender<R> {
             (refused_reports self.new ≡ refused_reports self.old ++ plain_report report ∷ []) }
         ensures keeps_sent { OnErr result (sent_reports self.new ≡ sent_reports self.old) }
         ensures back { IfErr result (λ back. back ≡ report) }
-        ensures quiet { is_quiet report ≡ true → kept_count self.old < 16
+        ensures quiet { is_quiet report ≡ true → kept_count self.old < QUIET_LIMIT
             → (result ≡ Ok tt) × (put_reports self.new ≡ put_reports self.old) }
         ensures origin { report_queue self.new ≡ report_queue self.old }
     {
@@ -144,7 +144,7 @@ impl<R: Wait + Drop> ReportSender<R> {
     #[tactic(auto, using(crate::proofs::Sending::report_kept, crate::proofs::Sending::quiet_kept))]
     fn keep(&mut self, report: Report)
         requires quiet { is_quiet report ≡ true }
-        requires few { kept_count self.old < 16 }
+        requires few { kept_count self.old < QUIET_LIMIT }
         ensures sent { sent_reports self.new ≡ sent_reports self.old ++ plain_report report ∷ [] }
         ensures put { put_reports self.new ≡ put_reports self.old }
         ensures refused { self.new.handed_back ≡ self.old.handed_back }

@@ -1,6 +1,7 @@
 //! The ends of an outbox.
 
 ghost use Rattle.std.specs.Prelude.{◌≡◌, true, false, []};
+ghost use Rattle.dap_wires.specs.declared.frames.TheConstants.{OUTBOX_CAPACITY};
 ghost use Rattle.dap_wires.specs.Ends.{sender_log, receiver_log, sender_room, receiver_room};
 ghost use Rattle.dap_wires.specs.WriterMessages.{has_end};
 
@@ -24,7 +25,7 @@ pub struct FrameSender<R: Wait + Drop> {
     pub(crate) is_gone: bool,
     ghost puts: { (sender_log end).first ≡ true },
     ghost unused_puts: { (sender_log unused).second ≡ true },
-    ghost room: { sender_room end ≡ 64 },
+    ghost room: { sender_room end ≡ OUTBOX_CAPACITY },
     ghost open: { has_end (sender_log end).put_first ≡ false },
     ghost gone: { is_gone ≡ false → refused.entries ≡ [] },
 }
@@ -45,5 +46,5 @@ pub struct EndedSender<R: Wait + Drop> {
 pub struct FrameReceiver<R: Wait + Drop> {
     pub(crate) end: ReceiveEnd<WriterMessage, R>,
     ghost takes: { (receiver_log end).takes ≡ true },
-    ghost room: { receiver_room end ≡ 64 },
+    ghost room: { receiver_room end ≡ OUTBOX_CAPACITY },
 }

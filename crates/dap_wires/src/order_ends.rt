@@ -4,6 +4,7 @@ ghost use Rattle.std.specs.Prelude.{◌≡◌, ◌≢◌, ◌≤◌, length, map
 ghost use Rattle.std.specs.Arc.{arc_value};
 ghost use Rattle.crossbeam_queue.specs.Passes.{view, IsPassOf, ruled_capacity};
 ghost use Rattle.dbg_runner.specs.Orders.{plain_order};
+ghost use Rattle.dap_wires.specs.declared.order_queue.TheConstants.{ORDERS_CAPACITY};
 
 use crate::end_log::EndLog;
 use crate::rule::{InOrder, Sent};
@@ -33,9 +34,10 @@ pub struct OrderSender<R: Wait + Drop> {
     // An entry for each time that the queue was full.
     pub(crate) fulls: GhostList<()>,
     ghost seated: { IsPassOf (arc_value queue) pass },
-    ghost four: { ruled_capacity (arc_value queue) ≡ 4 },
+    ghost room: { ruled_capacity (arc_value queue) ≡ ORDERS_CAPACITY },
     ghost pushes: { (view pass).first ≡ true },
-    ghost full: { length fulls.entries ≢ 0 → 4 ≤ length (map plain_order (view pass).put_first) },
+    ghost full: { length fulls.entries ≢ 0
+        → ORDERS_CAPACITY ≤ length (map plain_order (view pass).put_first) },
 }
 
 /// The end of the runner, which takes orders.

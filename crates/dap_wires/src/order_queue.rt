@@ -151,7 +151,7 @@ fn offer<R: Wait>(
     order: Order,
 ) -> Result<(), Order>
     requires seated { IsPassOf (arc_value queue.now) pass.old }
-    requires four { ruled_capacity (arc_value queue.now) ≡ 4 }
+    requires room { ruled_capacity (arc_value queue.now) ≡ ORDERS_CAPACITY }
     requires pushes { (view pass.old).first ≡ true }
     ensures seated { IsPassOf (arc_value queue.now) pass.new }
     ensures queue { pass.new.table_id ≡ pass.old.table_id }
@@ -160,10 +160,10 @@ fn offer<R: Wait>(
         ++ plain_order order ∷ []) }
     ensures refused { OnErr result (view pass.new ≡ view pass.old) }
     ensures full { OnErr result ((taken inside : List Order) × ((view pass.old).put_first ≡ taken ++ inside)
-        × (length inside ≡ 4)) }
-    ensures many { OnErr result (4 ≤ length (map plain_order (view pass.new).put_first)) }
-    ensures grows { 4 ≤ length (map plain_order (view pass.old).put_first) →
-        4 ≤ length (map plain_order (view pass.new).put_first) }
+        × (length inside ≡ ORDERS_CAPACITY)) }
+    ensures many { OnErr result (ORDERS_CAPACITY ≤ length (map plain_order (view pass.new).put_first)) }
+    ensures grows { ORDERS_CAPACITY ≤ length (map plain_order (view pass.old).put_first)
+        → ORDERS_CAPACITY ≤ length (map plain_order (view pass.new).put_first) }
 {
     match queue.push_as::<Puts, R>(rt, pass, order) {
         Ok(()) => Ok(()),

@@ -14,7 +14,7 @@ returns-in-Err-clause-full g c =
       held.0,
       held.2.1 c.requires.pushes ∙ all_first _,
       held.1
-          ∙ (ap ruled_capacity c.deref.ensures ∙ c.requires.four),
+          ∙ (ap ruled_capacity c.deref.ensures ∙ c.requires.room),
     )
 
 pub returns-in-Err-clause-many : goal.returns-in-Err-clause-many
@@ -22,7 +22,7 @@ returns-in-Err-clause-many g c =
     let held = c.in-Err.ensures.rule.2 in
     let kept = ap (λ v. v.put_first) c.in-Err.ensures.rule.1 in
     four_pushed (view c.push_as.new.pass).put_first held.2.0 held.0 (kept ∙ (held.2.1 c.requires.pushes ∙ all_first _))
-    (held.1 ∙ (ap ruled_capacity c.deref.ensures ∙ c.requires.four))
+    (held.1 ∙ (ap ruled_capacity c.deref.ensures ∙ c.requires.room))
 
 pub returns-in-Ok-clause-grows : goal.returns-in-Ok-clause-grows
 returns-in-Ok-clause-grows g c = λ was.
