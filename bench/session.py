@@ -64,6 +64,7 @@ class Client(protocol.Client):
         super().__init__(command, folder, wait=None, stderr=subprocess.DEVNULL)
 
     def more(self) -> bool:
+        """Reads once what is there, and tells whether anything came."""
         piece = os.read(self.child.stdout.fileno(), PIECE)
         self.frames.take(piece)
         return piece != b""
@@ -134,6 +135,7 @@ class Stop:
     line: int | None = None
 
     def reach(self, command: list[str], folder: str) -> Client:
+        """Starts a session that runs to the stop, and returns its client."""
         with open(os.path.join(folder, self.path), "w", encoding="ascii") as file:
             file.write(self.text)
         client = Client(command, folder)
@@ -451,6 +453,7 @@ class Loop:
     size: int = 0
 
     def seconds(self, program: str, folder: str) -> float:
+        """How many seconds a run of the loop takes."""
         path = f"loop{self.size}.pl0"
         with open(os.path.join(folder, path), "w", encoding="ascii") as file:
             file.write(loop().ljust(self.size))

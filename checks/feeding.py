@@ -41,6 +41,7 @@ class Notice:
         return self.text
 
     def close(self) -> None:
+        """Closes both ends of the pipe."""
         os.close(self.fd)
         os.close(self.write_end)
 

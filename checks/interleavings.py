@@ -82,6 +82,7 @@ class Following:
             self.take(model.twin(), taken, count)
 
     def take(self, model: Session, taken: int, count: int) -> None:
+        """Gives a twin of a model the next item, and keeps it if it agrees."""
         item = self.items[taken]
         if item.kind == "content":
             model.take_content(item.content)
@@ -109,6 +110,7 @@ class Following:
             self.expected.add(message)
 
     def keep(self, model: Session, taken: int, count: int) -> None:
+        """Keeps a model to go on from, if none like it was kept."""
         key = (taken, count, model.key())
         if key not in self.seen:
             self.seen.add(key)

@@ -359,6 +359,7 @@ class Maker:
         self.trace: list[Statement] = []
 
     def text(self, name: str) -> str:
+        """The text of a file of this name."""
         if name == "p.pl0":
             return self.texts.program()
         if name == "deep.pl0":
@@ -477,6 +478,7 @@ class Maker:
         return "stepOut" if self.model.machine.depth() > 1 else None
 
     def command(self) -> str:
+        """The next command, one that often fits the situation."""
         if self.chance.random() < 0.06:
             return self.chance.choice([command for command in COMMANDS if command != "disconnect"])
         likely = LIKELY[self.model.situation]
@@ -504,6 +506,7 @@ class Maker:
         return json.dumps(dict(members), indent=indent, ensure_ascii=self.chance.random() < 0.5).encode()
 
     def content(self) -> bytes:
+        """The next content, nearly always a request."""
         if self.chance.random() < 0.04:
             return self.chance.choice(SKIPPED + ODD_BUT_FINE)
         return self.request(self.command())

@@ -172,14 +172,17 @@ class Arguments:
         return value
 
     def truth(self, name: str, default: bool) -> bool:
+        """A member that is true or false."""
         value = self.members.get(name, default)
         return self.fit(value, isinstance(value, bool))
 
     def whole(self, name: str, default: int | None = None, most: int = LARGEST_SEQ) -> int:
+        """A member that is a whole number, at most so large."""
         value = self.members.get(name, default)
         return self.fit(value, is_whole(value, most))
 
     def text(self, name: str, default: str | None = None, most: int | None = LONGEST_TEXT) -> str:
+        """A member that is a text of at most so many bytes."""
         value = self.members.get(name, default)
         self.fit(value, isinstance(value, str))
         return self.fit(value, most is None or len(value.encode()) <= most)
@@ -425,6 +428,7 @@ class Session:
         return self.situation == "Closed"
 
     def put(self, message: dict) -> None:
+        """Sends a message under the next seq."""
         self.seq += 1
         whole = {**message, "seq": self.seq}
         self.sent.append(json.dumps(whole, sort_keys=True, separators=(",", ":"), ensure_ascii=False).encode())
@@ -433,11 +437,13 @@ class Session:
         self.put({"type": "event", "event": name, **({} if body is None else {"body": body})})
 
     def stop(self, reason: str, text: str | None = None) -> None:
+        """Reports a stop, or with a text a fault."""
         self.situation = "Stopped" if text is None else "Faulted"
         body = {"allThreadsStopped": True, "reason": reason, "threadId": 1}
         self.event("stopped", body if text is None else {**body, "text": text})
 
     def end(self, code: int) -> None:
+        """Reports the end of the program with this exit code."""
         self.situation = "Ended"
         self.event("exited", {"exitCode": code})
         self.event("terminated")
@@ -517,6 +523,7 @@ class Session:
             self.go(Mode("continue"))
 
     def resume(self, command: str) -> None:
+        """Goes on by a command; after a fault the program ends."""
         if self.situation == "Faulted":
             self.end(1)
         else:

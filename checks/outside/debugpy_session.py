@@ -44,6 +44,7 @@ class Events:
         pass  # the end of the adapter's output
 
     def wait(self, name: str) -> str | None:
+        """Waits for an event of this name: None once it came, else what is missing."""
         return None if self.came[name].acquire(timeout=LIMIT) else f"no event {name}"
 
 
@@ -57,6 +58,7 @@ class Session:
         self.channel.start()
 
     def ask(self, command: str, **arguments: object) -> messaging.MessageDict:
+        """Asks a request and returns the body of its answer; an exception where it is refused."""
         return self.channel.request(command, arguments)
 
     def refusal(self, command: str, **arguments: object) -> str:
@@ -68,9 +70,11 @@ class Session:
         return ""
 
     def names(self, answer: messaging.MessageDict, member: str) -> list[str]:
+        """The names in the list that a member of an answer is."""
         return [one["name"] for one in answer(member, messaging.json.array())]
 
     def set_breakpoints(self, breakpoints: list[dict]) -> messaging.MessageDict:
+        """Asks for these breakpoints in the program."""
         return self.ask("setBreakpoints", source={"path": PROGRAM}, breakpoints=breakpoints)
 
 
