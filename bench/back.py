@@ -4,10 +4,10 @@
 usage: back.py PROGRAM
 
 A loop of 50,000,000 turns runs to a stop 100,000,002 steps away; from there one step is taken back again and again, and
-then the run is reversed to its start, where nothing else is due. Another loop logs its variable at each turn. The loop in C,
-compiled without optimization, is recorded for a few thousand turns, since recording is slow and takes memory for each
-instruction; then gdb steps back. Times are from before a request is written to after the last message that it causes. It needs
-gdb, with Python, and clang.
+then the run is reversed to its start, where nothing else is due. Another loop logs its variable at each turn. The loop
+in C, compiled without optimization, is recorded for a few thousand turns, since recording is slow and takes memory for
+each instruction; then gdb steps back. Times are from before a request is written to after the last message that it
+causes. It needs gdb, with Python, and clang.
 """
 from __future__ import annotations
 
@@ -134,8 +134,9 @@ def record(folder: str, turns: int) -> None:
     if line is None:
         sys.exit(f"gdb recorded nothing:\n{ran.stdout}{ran.stderr}")
     run, instructions, kept, step = map(float, line.split()[1:])
-    print(f"gdb records {turns:,} turns: {instructions:,.0f} instructions in {run:.3f} s, {turns / run:,.0f} turns a second, "
-          f"{kept * 1024 / instructions:,.0f} bytes an instruction; `reverse-step` {step * 1e3:.2f} ms at best")
+    print(f"gdb records {turns:,} turns: {instructions:,.0f} instructions in {run:.3f} s, "
+          f"{turns / run:,.0f} turns a second, {kept * 1024 / instructions:,.0f} bytes an instruction; "
+          f"`reverse-step` {step * 1e3:.2f} ms at best")
 
 
 def main() -> None:

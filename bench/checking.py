@@ -111,8 +111,8 @@ def used() -> float:
 
 
 def seconds(program: str, texts: list[str]) -> list[float]:
-    """The processor's time of the best of some runs of each text, the program's start included. They take turns, so that
-    whatever else the computer does slows all."""
+    """The processor's time of the best of some runs of each text, the program's start included. They take turns, so
+    that whatever else the computer does slows all."""
     best = [float("inf")] * len(texts)
     with tempfile.TemporaryDirectory() as room:
         paths = [os.path.join(room, f"{number}.pl0") for number in range(len(texts))]

@@ -1,13 +1,13 @@
 #!/usr/bin/env python3
-"""Times whole debugged runs, from `configurationDone` to `exited`, beside a plain interpreter of the same code in C; and steps over
-what runs long, conditions, and a loop that writes, beside `continue`.
+"""Times whole debugged runs, from `configurationDone` to `exited`, beside a plain interpreter of the same code in C;
+and steps over what runs long, conditions, and a loop that writes, beside `continue`.
 
 usage: debugged.py PROGRAM
 
-PROGRAM is pl0dap. Programs such as students write, of bench/programs, run to their ends in a session without breakpoints and in
-the C interpreter, in turn, so that whatever else the computer does slows both. The figures to hold are 3.5 times the C
-interpreter's steps a second in the median, and 2.3 at least. Then a run of other commands, or under a breakpoint, is timed in turn
-with a run of the same text without, and `next` and `stepOut` are to take no longer.
+PROGRAM is pl0dap. Programs such as students write, of bench/programs, run to their ends in a session without
+breakpoints and in the C interpreter, in turn, so that whatever else the computer does slows both. The figures to hold
+are 3.5 times the C interpreter's steps a second in the median, and 2.3 at least. Then a run of other commands, or under
+a breakpoint, is timed in turn with a run of the same text without, and `next` and `stepOut` are to take no longer.
 """
 from __future__ import annotations
 
@@ -59,13 +59,14 @@ def ratio(name: str, program: str, yardstick: str, listing: str) -> float:
         steps, speed = rate([yardstick, listing])
         theirs.append(speed)
     session = steps / min(ours)
-    print(f"{name:10} {steps:12,} {session / 1e6:10.1f} {max(theirs) / 1e6:10.1f} {session / max(theirs):8.2f}", flush=True)
+    print(f"{name:10} {steps:12,} {session / 1e6:10.1f} {max(theirs) / 1e6:10.1f} {session / max(theirs):8.2f}",
+          flush=True)
     return session / max(theirs)
 
 
 class Way(NamedTuple):
-    """A way to run a text: what is asked at its entry, of which the last is timed, or else a breakpoint at its loop's body; and what
-    `continue` runs beside it, if that isn't the text itself."""
+    """A way to run a text: what is asked at its entry, of which the last is timed, or else a breakpoint at its loop's
+    body; and what `continue` runs beside it, if that isn't the text itself."""
 
     name: str
     text: str

@@ -3,12 +3,12 @@
 
 usage: instructions.py [--record] SPEED
 
-SPEED is the program `speed`. What is counted is what `valgrind --tool=callgrind` collects: of a step, by how much two runs of different
-length differ; of an answer, by how much two sessions over memory differ (`speed session`) that ask a question a few times and more
-often. Both run in one thread, so neither the computer's speed nor what else it does counts, and a build can be judged on any computer of
-the same kind; what the threads of pl0dap take to hand a message on isn't in it. Prints each figure beside the recorded one, and says
-which moved by more than 3 per cent; the status is 1 where one grew by more. --record writes the file anew, from a clean commit, whose
-name it says. It needs valgrind.
+SPEED is the program `speed`. What is counted is what `valgrind --tool=callgrind` collects: of a step, by how much two
+runs of different length differ; of an answer, by how much two sessions over memory differ (`speed session`) that ask a
+question a few times and more often. Both run in one thread, so neither the computer's speed nor what else it does
+counts, and a build can be judged on any computer of the same kind; what the threads of pl0dap take to hand a message on
+isn't in it. Prints each figure beside the recorded one, and says which moved by more than 3 per cent; the status is 1
+where one grew by more. --record writes the file anew, from a clean commit, whose name it says. It needs valgrind.
 """
 from __future__ import annotations
 
@@ -169,13 +169,15 @@ def commit() -> str:
     git = ["git", "-C", HERE]
     if subprocess.run([*git, "status", "--porcelain"], capture_output=True, text=True, check=True).stdout.strip():
         sys.exit("figures are recorded from a commit, and files here differ from it")
-    return subprocess.run([*git, "rev-parse", "--short=12", "HEAD"], capture_output=True, text=True, check=True).stdout.strip()
+    return subprocess.run([*git, "rev-parse", "--short=12", "HEAD"], capture_output=True, text=True,
+                          check=True).stdout.strip()
 
 
 def record(found: dict[str, float], where: str) -> None:
     with open(RECORD, "w", encoding="utf-8") as file:
         file.write(f"{HEAD}# Commit {where}.\n")
-        file.writelines(f"{figure:g}\t{name}\n" if figure < 1e5 else f"{figure:.0f}\t{name}\n" for name, figure in found.items())
+        file.writelines(f"{figure:g}\t{name}\n" if figure < 1e5 else f"{figure:.0f}\t{name}\n"
+                        for name, figure in found.items())
     print(f"recorded {len(found)} figures of {where} in {os.path.relpath(RECORD)}")
 
 

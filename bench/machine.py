@@ -3,9 +3,9 @@
 
 usage: machine.py PROGRAM SPEED
 
-PROGRAM is pl0dap, whose `--check` gives the code to the C interpreter; SPEED is the program `speed`, which steps the machine.
-Both run each of bench/programs to its end, in turn, so that whatever else the computer does slows both. The figures to hold are
-5 times the C interpreter's steps a second for `count`, 4.5 for `links` and 1.5 for `divide`.
+PROGRAM is pl0dap, whose `--check` gives the code to the C interpreter; SPEED is the program `speed`, which steps the
+machine. Both run each of bench/programs to its end, in turn, so that whatever else the computer does slows both. The
+figures to hold are 5 times the C interpreter's steps a second for `count`, 4.5 for `links` and 1.5 for `divide`.
 """
 from __future__ import annotations
 
@@ -23,8 +23,8 @@ PROGRAMS = ("count", "links", "divide", "primes", "nested")
 
 
 def interpreter(room: str) -> str:
-    """Builds the C interpreter into a folder. Of gcc 12 and clang 14 at -O2, clang's runs six of seven programs of bench/programs
-    faster, by up to 28 per cent; gcc's runs `fib` faster, by 8."""
+    """Builds the C interpreter into a folder. Of gcc 12 and clang 14 at -O2, clang's runs six of seven programs of
+    bench/programs faster, by up to 28 per cent; gcc's runs `fib` faster, by 8."""
     path = os.path.join(room, "interpreter")
     subprocess.run(["clang", "-O2", "-o", path, os.path.join(HERE, "interpreter.c")], check=True)
     return path

@@ -3,8 +3,9 @@
 
 usage: page.py LOG
 
-Each place of the page that stands between `<!--NAME-->` and `<!--end-->` is written anew from the lines of LOG. All of them must be
-there, from one run and one tree: it refuses a tree whose sources differ from its commit, which the page then names.
+Each place of the page that stands between `<!--NAME-->` and `<!--end-->` is written anew from the lines of LOG. All of
+them must be there, from one run and one tree: it refuses a tree whose sources differ from its commit, which the page
+then names.
 """
 from __future__ import annotations
 
@@ -52,7 +53,8 @@ class Log:
 
 
 class Goal(NamedTuple):
-    """What is wanted; how the figures are shown; these; a limit for each, the least or else the most; and what each is of."""
+    """What is wanted; how the figures are shown; these; a limit for each, the least or else the most; and what each is
+    of."""
 
     what: str
     shown: str
@@ -98,12 +100,14 @@ def session_goals(log: Log) -> list[Goal]:
     frames, variables = (ours_and_constant(log, label) for label in LARGE_ANSWERS)
     return [
         Goal("a session at 0.9 of slices alone, or at 2.5 times C",
-             f"{session / sliced:.2f}; {session / plain:.1f}", [max(session / sliced / 0.9, session / plain / 2.5)], [1]),
+             f"{session / sliced:.2f}; {session / plain:.1f}", [max(session / sliced / 0.9, session / plain / 2.5)],
+             [1]),
         Goal("the same at 0.19 in a text of 64 KiB, at 0.05 with 256 conditions of 1,024 bytes", "{:.2f}, {:.2f}",
              [long_text / sliced, long_conditions / sliced], [0.19, 0.05], ("the text", "the conditions")),
         Goal("25,000 `threads` at once at 5 times constant bytes", "{:.1f}", [at_once / constant], [5], least=False),
         Goal("`stackTrace`, `variables` of 1,024 at 4.5 times constant bytes", "{:.1f}, {:.1f}",
-             [frames[0] / frames[1], variables[0] / variables[1]], [4.5, 4.5], ("`stackTrace`", "`variables`"), least=False),
+             [frames[0] / frames[1], variables[0] / variables[1]], [4.5, 4.5], ("`stackTrace`", "`variables`"),
+             least=False),
     ]
 
 
@@ -135,14 +139,16 @@ def machine_goals(log: Log) -> list[Goal]:
              [log.figures("shell", name)[4] for name in PROGRAMS[:2]], [4, 4], names),
         Goal("slices at 0.95 of the machine", "{:.2f}", [sliced["slices, no breakpoints"][1]], [0.95]),
         Goal("256 breakpoints elsewhere at 0.85 of none", "{:.2f}", [sliced["256 breakpoints elsewhere"][2]], [0.85]),
-        Goal("a false condition at 150 million steps a second", "{:.1f}", [sliced["a false condition in the loop"][0]], [150]),
+        Goal("a false condition at 150 million steps a second", "{:.1f}", [sliced["a false condition in the loop"][0]],
+             [150]),
         Goal("instructions a step: `count` 23, `links` 29, `divide` 47, `primes` 55, `nested` 46, a false condition 46",
-             "{:.1f}, {:.1f}, {:.1f}, {:.1f}, {:.1f}, {:.1f}", [*counts, false], [23, 29, 47, 55, 46, 46], (*names, "the condition"),
-             least=False),
+             "{:.1f}, {:.1f}, {:.1f}, {:.1f}, {:.1f}, {:.1f}", [*counts, false], [23, 29, 47, 55, 46, 46],
+             (*names, "the condition"), least=False),
         Goal("instructions a step: " + ", ".join(f"{name} {most}" for _, name, most in STEPPING),
              ", ".join(["{:.1f}"] * len(STEPPING)), [log.figures("instructions", label)[0] for label, *_ in STEPPING],
              [most for *_, most in STEPPING], tuple(name for _, name, _ in STEPPING), least=False),
-        Goal("million instructions of `stackTrace`, `variables` of 1,024: 0.6, 0.42", "{:.2f}, {:.2f}", answers, [0.6, 0.42],
+        Goal("million instructions of `stackTrace`, `variables` of 1,024: 0.6, 0.42", "{:.2f}, {:.2f}", answers,
+             [0.6, 0.42],
              ("`stackTrace`", "`variables`"), least=False),
     ]
 
@@ -150,7 +156,8 @@ def machine_goals(log: Log) -> list[Goal]:
 def goals(log: Log) -> str:
     judged = [growth for text in texts(log) for growth in text[3:]]
     each = [
-        Goal("four times the requests or contents in at most 4.5 times the time", "{:.2f}", [max(growths(log))], [4.5], least=False),
+        Goal("four times the requests or contents in at most 4.5 times the time", "{:.2f}", [max(growths(log))], [4.5],
+             least=False),
         *session_goals(log), *machine_goals(log),
         Goal("twice the text judged in at most 2.3 times the time", "{:.2f}", [max(judged)], [2.3], least=False),
     ]
@@ -186,7 +193,8 @@ ANSWERS = [
 
 def answers(log: Log) -> str:
     rows = [[shown, *(f"{figure:,.0f}" for figure in ours_and_constant(log, label))] for label, shown in ANSWERS]
-    at_once, constant = (log.figures("session", f"25,000 `threads` at once{by}")[-1] / 1000 for by in ("", ", by `answer.c`"))
+    at_once, constant = (log.figures("session", f"25,000 `threads` at once{by}")[-1] / 1000
+                         for by in ("", ", by `answer.c`"))
     rows.append(["each of 25,000 `threads` at once, in the median", f"{at_once:.1f}", f"{constant:.1f}"])
     memory = [log.figures("session", f"a stop with {frames}")[0] for frames in ("1 frame", "1,024 frames")]
     return table(["Request to last message", "Microseconds", "Constant"], rows) + (
@@ -212,7 +220,8 @@ def debugged(log: Log) -> str:
     names = [line.split()[0] for line in log.lines["debugged"] if re.match(r"[a-z]+ +\d[\d,]{5}", line)]
     columns = {name: log.figures("debugged", name) for name in names}
     return table(["", *(f"`{name}`" for name in names)], [
-        ["Session", *(f"{columns[name][1]:.1f}" for name in names)], ["C", *(f"{columns[name][2]:.1f}" for name in names)]])
+        ["Session", *(f"{columns[name][1]:.1f}" for name in names)],
+        ["C", *(f"{columns[name][2]:.1f}" for name in names)]])
 
 
 def machine(log: Log) -> str:
@@ -231,7 +240,8 @@ SLICES = [
     ("runner, ports in memory", "the runner, ports in memory", "a step of `count`, by the runner"),
     ("slices, no breakpoints", "slices, no breakpoint", "a step of `count`, in slices"),
     ("256 breakpoints elsewhere", "256 breakpoints elsewhere", "a step in slices, 256 breakpoints elsewhere"),
-    ("a false condition in the loop", "a false condition in the loop", "a step in slices, a false condition in the loop"),
+    ("a false condition in the loop", "a false condition in the loop",
+     "a step in slices, a false condition in the loop"),
 ]
 
 
@@ -248,10 +258,12 @@ def back(log: Log) -> str:
     best, median, worst = log.figures("back", "`stepBack` from there, 20 times")
     start, logged = log.figures("back", "`reverseContinue` to the start")[0], log.figures("back", "100,000 logs in")[0]
     turns = log.figures("back", "gdb records 16,000 turns")
-    return (f"The way forward, with checkpoints kept, takes {forward:.3f} s and {memory:,.0f} KiB at most; `stepBack` from there "
-            f"{best / 1000:.1f} ms at best,\n{median / 1000:.1f} in the median and {worst / 1000:.1f} at worst; `reverseContinue` to the start "
-            f"{start:.3f} s. 100,000 logs take {logged:.3f} s. gdb\nrecords 16,000 turns in {turns[1]:.3f} s, with {turns[3]:.0f} bytes an "
-            f"instruction, and its `reverse-step` takes {turns[4]:.2f} ms at best.")
+    return (f"The way forward, with checkpoints kept, takes {forward:.3f} s and {memory:,.0f} KiB at most; "
+            f"`stepBack` from there {best / 1000:.1f} ms at best,\n"
+            f"{median / 1000:.1f} in the median and {worst / 1000:.1f} at worst; `reverseContinue` to the start "
+            f"{start:.3f} s. 100,000 logs take {logged:.3f} s. gdb\n"
+            f"records 16,000 turns in {turns[1]:.3f} s, with {turns[3]:.0f} bytes an instruction, "
+            f"and its `reverse-step` takes {turns[4]:.2f} ms at best.")
 
 
 def checking(log: Log) -> str:
@@ -264,29 +276,33 @@ def many(log: Log) -> str:
     wrong, seconds, pauses = ([log.figures("soak", name, later) for name in names] for later in (2, 2, 3))
     memory = max(log.figures("soak", name, 4)[1] for name in names)
     return (f"9,000 one after the other took {seconds[0][1]:.2f} s, and 200 at once {seconds[1][1]:.2f} s; "
-            f"{sum(each[0] for each in wrong):.0f} went wrong. From `pause` to the stop were\n{pauses[0][0]:,.0f} us in the median and "
-            f"{pauses[0][1]:,.0f} at most, or {pauses[1][0]:,.0f} and {pauses[1][1]:,.0f}. No process had more than {memory:,.0f} KiB.")
+            f"{sum(each[0] for each in wrong):.0f} went wrong. From `pause` to the stop were\n"
+            f"{pauses[0][0]:,.0f} us in the median and {pauses[0][1]:,.0f} at most, or {pauses[1][0]:,.0f} and "
+            f"{pauses[1][1]:,.0f}. No process had more than {memory:,.0f} KiB.")
 
 
 def build(log: Log) -> str:
     with open("/proc/cpuinfo", encoding="utf-8") as file:
         model = re.search(r"^model name\s*: (.*)$", file.read(), re.MULTILINE)[1]
-    commit = subprocess.run(["git", "rev-parse", "--short=12", "HEAD"], cwd=TOP, capture_output=True, text=True, check=True).stdout.strip()
+    commit = subprocess.run(["git", "rev-parse", "--short=12", "HEAD"], cwd=TOP, capture_output=True, text=True,
+                            check=True).stdout.strip()
     load, processors = log.figures("session", "load")[:2]
-    return (f"All figures are of one proved build, of commit `{commit}`, measured on {datetime.date.today().isoformat()} on {processors:.0f} of\n"
+    return (f"All figures are of one proved build, of commit `{commit}`, "
+            f"measured on {datetime.date.today().isoformat()} on {processors:.0f} of\n"
             f"{model}, shared with others; the load was {load:.2f} when `session.py` began.")
 
 
 BLOCKS: dict[str, Callable[[Log], str]] = {
-    "build": build, "goals": goals, "throughput": throughput, "answers": answers, "runs": runs, "debugged": debugged, "machine": machine,
-    "slices": slices, "back": back, "checking": checking, "many": many,
+    "build": build, "goals": goals, "throughput": throughput, "answers": answers, "runs": runs, "debugged": debugged,
+    "machine": machine, "slices": slices, "back": back, "checking": checking, "many": many,
 }
 
 
 def main() -> int:
     if len(sys.argv) != 2:
         sys.exit(__doc__)
-    changed = subprocess.run(["git", "status", "--porcelain", "--", *SOURCES], cwd=TOP, capture_output=True, text=True, check=True).stdout
+    changed = subprocess.run(["git", "status", "--porcelain", "--", *SOURCES], cwd=TOP, capture_output=True, text=True,
+                             check=True).stdout
     if changed:
         sys.exit(f"the tree differs from its commit: {changed.split()[1]}")
     log, page = Log(pathlib.Path(sys.argv[1]).read_text(encoding="utf-8")), PAGE.read_text(encoding="utf-8")

@@ -1,15 +1,15 @@
 #!/usr/bin/env python3
-"""Times debug sessions: the start, the answers at a stop, many requests at once, pauses, the way to the next stop, and runs under
-a breakpoint; looks at the memory at a stop; and counts the outputs that come before a pause takes effect.
+"""Times debug sessions: the start, the answers at a stop, many requests at once, pauses, the way to the next stop, and
+runs under a breakpoint; looks at the memory at a stop; and counts the outputs that come before a pause takes effect.
 
 usage: session.py PROGRAM [SPEED]
 
-One request is sent at a time, over pipes, and its answer waited for, but where many are sent at once. Beside the program stands
-`answer.c`, in turn with it, which answers each frame with the same bytes: what the pipes and this script take. A time is from
-before the request is written, or the process is started, to after the last message was read that it causes. Instructions are what
-`valgrind --tool=callgrind` counts more where a session has more of a request. A run is timed up to the event `exited`; beside it
-stand a C interpreter of the same code, and the program `speed` where it is given. It needs clang, and valgrind for the
-instructions.
+One request is sent at a time, over pipes, and its answer waited for, but where many are sent at once. Beside the
+program stands `answer.c`, in turn with it, which answers each frame with the same bytes: what the pipes and this script
+take. A time is from before the request is written, or the process is started, to after the last message was read that
+it causes. Instructions are what `valgrind --tool=callgrind` counts more where a session has more of a request. A run is
+timed up to the event `exited`; beside it stand a C interpreter of the same code, and the program `speed` where it is
+given. It needs clang, and valgrind for the instructions.
 """
 from __future__ import annotations
 
@@ -226,7 +226,8 @@ def paused() -> Stop:
 
 
 def spaced() -> Stop:
-    """A breakpoint that is reached each 10,000 steps: one of the outer loop, two assignments, and 9,997 of the inner loop."""
+    """A breakpoint that is reached each 10,000 steps: one of the outer loop, two assignments, and 9,997 of the inner
+    loop."""
     inner = "while x < 4998 do x := x + 1"
     return Stop("spaced.pl0", f"var x;\nwhile 1 = 1 do\nbegin x := 0;\nx := 0;\n{inner} end.\n", 3)
 
@@ -323,7 +324,8 @@ def show_questions(program: str, answer: str, folder: str) -> None:
         content = client.ask(question.command, question.arguments)
         other = Client(constant(answer, [content], folder), folder)
         times = [
-            [one.seconds(question.command, question.arguments) for one in (client, other)] for _ in range(question.count)
+            [one.seconds(question.command, question.arguments) for one in (client, other)]
+            for _ in range(question.count)
         ]
         client.end()
         other.end()
@@ -338,8 +340,10 @@ def show_journeys(program: str, answer: str, folder: str) -> None:
         client = journey.stop.reach([program], folder)
         if not journey.breakpoints:
             client.ask("setBreakpoints", {"source": {"path": journey.stop.path}, "breakpoints": []})
-        last = b'{"body":{"allThreadsStopped":true,"reason":"breakpoint","threadId":1},"event":"stopped","seq":99,"type":"event"}'
-        granted = b'{"command":"%s","request_seq":98,"seq":98,"success":true,"type":"response"}' % journey.command.encode()
+        last = (b'{"body":{"allThreadsStopped":true,"reason":"breakpoint","threadId":1},'
+                b'"event":"stopped","seq":99,"type":"event"}')
+        command = journey.command.encode()
+        granted = b'{"command":"%s","request_seq":98,"seq":98,"success":true,"type":"response"}' % command
         other = Client(constant(answer, [granted, last], folder), folder)
         times = []
         for _ in range(MANY):
@@ -416,8 +420,10 @@ def outputs_until(client: Client, name: str) -> int:
 
 
 def show_outputs(program: str, folder: str) -> None:
-    """The most outputs around a pause, and before the answer to `disconnect`, of loops that print, where the client rests before."""
-    bodies = {"prints at each step": "! 1; " * PRINTS, "prints at each second step": "x := x + 1; ! x", "prints at one step of 16": "x := x + 1; " * 15 + "! x"}
+    """The most outputs around a pause, and before the answer to `disconnect`, of loops that print, where the client
+    rests before."""
+    bodies = {"prints at each step": "! 1; " * PRINTS, "prints at each second step": "x := x + 1; ! x",
+              "prints at one step of 16": "x := x + 1; " * 15 + "! x"}
     for name, body in bodies.items():
         with open(os.path.join(folder, "prints.pl0"), "w", encoding="ascii") as file:
             file.write(f"var x; while 1 = 1 do begin {body} end.\n")
@@ -435,12 +441,14 @@ def show_outputs(program: str, folder: str) -> None:
         client.put(client.framed("disconnect"))
         last = outputs_until(client, "disconnect")
         client.end()
-        print(f"a loop that {name}: at most {max(before):,} outputs before the answer to `pause` and {max(between):,} between it "
-              f"and the stop, of {FEW} times; {last:,} before the answer to `disconnect`, those in the pipe with them")
+        print(f"a loop that {name}: at most {max(before):,} outputs before the answer to `pause` and "
+              f"{max(between):,} between it and the stop, of {FEW} times; "
+              f"{last:,} before the answer to `disconnect`, those in the pipe with them")
 
 
 def loop() -> str:
-    """A loop, in front of which stands a procedure that is never called, with as many lines as there may be breakpoints."""
+    """A loop, in front of which stands a procedure that is never called, with as many lines as there may be
+    breakpoints."""
     idle = "x := 0;\n" * BREAKPOINTS
     return f"var x;\nprocedure idle;\nbegin\n{idle}end;\nwhile x < {TURNS} do\nx := x + 1.\n"
 

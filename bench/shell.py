@@ -3,10 +3,10 @@
 
 usage: shell.py PROGRAM PL0
 
-PROGRAM is pl0dap, whose `--check` gives the code to the C interpreter. Each of bench/programs runs to its end by all three in
-turn, so that whatever else the computer does slows all. The Pascal program is the text of the PL/0 program with another sign or
-word here and there, and numbers of 64 bits; `fpc -O2 -Co` compiles it, which looks for results that don't fit. The figure to hold
-is 4 times the C interpreter's steps a second. It needs clang and fpc.
+PROGRAM is pl0dap, whose `--check` gives the code to the C interpreter. Each of bench/programs runs to its end by all
+three in turn, so that whatever else the computer does slows all. The Pascal program is the text of the PL/0 program
+with another sign or word here and there, and numbers of 64 bits; `fpc -O2 -Co` compiles it, which looks for results
+that don't fit. The figure to hold is 4 times the C interpreter's steps a second. It needs clang and fpc.
 """
 from __future__ import annotations
 
@@ -61,12 +61,14 @@ def row(name: str, commands: list[list[str]]) -> str:
             if index == 0:
                 steps = int(re.search(r"after (\d+) steps", said).group(1))
     interpreter, ours, compiled = (steps / taken / 1e6 for taken in best)
-    return f"{name:10} {steps:12,} {interpreter:8.1f} {ours:8.1f} {compiled:8.1f} {ours / interpreter:8.2f} {compiled / ours:8.2f}"
+    return (f"{name:10} {steps:12,} {interpreter:8.1f} {ours:8.1f} {compiled:8.1f} "
+            f"{ours / interpreter:8.2f} {compiled / ours:8.2f}")
 
 
 def main() -> int:
     program, pl0 = (os.path.abspath(word) for word in sys.argv[1:3])
-    print(f"{'program':10} {'steps':>12} {'C':>8} {'pl0':>8} {'Pascal':>8} {'pl0/C':>8} {'P./pl0':>8}   (million steps a second)")
+    print(f"{'program':10} {'steps':>12} {'C':>8} {'pl0':>8} {'Pascal':>8} {'pl0/C':>8} {'P./pl0':>8}"
+          "   (million steps a second)")
     with tempfile.TemporaryDirectory() as room:
         interpreter = os.path.join(room, "interpreter")
         subprocess.run(["clang", "-O2", "-o", interpreter, os.path.join(HERE, "interpreter.c")], check=True)

@@ -3,9 +3,9 @@
 
 usage: throughput.py PROGRAM
 
-For each load the input is a file, taken at a size and at four times that size. By single bytes `single.c` holds each read
-of the program to one byte. What is looked at is the growth: four times the input is to take at most 4.5 times the time.
-It needs a C compiler.
+For each load the input is a file, taken at a size and at four times that size. By single bytes `single.c` holds each
+read of the program to one byte. What is looked at is the growth: four times the input is to take at most 4.5 times the
+time. It needs a C compiler.
 """
 from __future__ import annotations
 

@@ -3,9 +3,9 @@
 
 usage: turns.py PROGRAM OTHER
 
-What is timed is what `session.py` times of starts, questions at a stop, ways to a stop and runs of a loop. Each request goes to one
-program and then to the other, beside `answer.c` where it can, so that whatever else the computer does slows all of them. The times
-are in microseconds, the best and the median of each.
+What is timed is what `session.py` times of starts, questions at a stop, ways to a stop and runs of a loop. Each request
+goes to one program and then to the other, beside `answer.c` where it can, so that whatever else the computer does slows
+all of them. The times are in microseconds, the best and the median of each.
 """
 from __future__ import annotations
 

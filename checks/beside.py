@@ -3,11 +3,11 @@
 
 usage: beside.py PROGRAM SPEED [COUNT] [SEED]
 
-SPEED is the program `speed`, whose `session` drives a session in one thread by the bytes that the client sends. Nothing is
-sent while a program runs, so there is one order of events, and the two outputs must be equal. Where `drive` gives up, what
-it put before must be what the adapter writes before it ends with the status of that fault. Every other seed from SEED on is
-played, until COUNT sessions were compared; 200 from seed 1 on where nothing is given. At a difference this prints the seed,
-both outputs and ends, and ends with status 1. At the end it counts the faults.
+SPEED is the program `speed`, whose `session` drives a session in one thread by the bytes that the client sends. Nothing
+is sent while a program runs, so there is one order of events, and the two outputs must be equal. Where `drive` gives
+up, what it put before must be what the adapter writes before it ends with the status of that fault. Every other seed
+from SEED on is played, until COUNT sessions were compared; 200 from seed 1 on where nothing is given. At a difference
+this prints the seed, both outputs and ends, and ends with status 1. At the end it counts the faults.
 """
 from __future__ import annotations
 
@@ -47,8 +47,8 @@ def status_of(fault: str) -> int:
 
 
 def served(program: str, folder: str, story: Story) -> tuple[bytes, int]:
-    """What the program writes to a client that waits for each run to end, and its status; the model says how many messages
-    come before."""
+    """What the program writes to a client that waits for each run to end, and its status; the model says how many
+    messages come before."""
     model, adapter = Session(folder), Client(program, folder)
     came = b""
     for part in story.parts:

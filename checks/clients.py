@@ -3,13 +3,13 @@
 
 usage: clients.py PROGRAM [SECONDS]
 
-Each client has a process of its own; all are there at the same time. One stops reading while a program logs at each turn of a
-loop, and reads again after 1.5 times SECONDS, 3 where none are given: no message may be missing. Two go away while a program
-runs, one of which takes messages until then: the process has to be gone. One sends a request a byte a second: it has to be
-answered. One stops reading and ends its input: the process has to wait without processor time, and to end when it reads again.
-Two launch a named pipe and a folder: they have to be refused at once. Two keep the input open after `disconnect`, at a stop and
-in a run: half of the threads have to stay, take no processor time, and be gone when the input ends. Prints what was seen and
-measured of each, and ends with status 1 where something is wrong.
+Each client has a process of its own; all are there at the same time. One stops reading while a program logs at each
+turn of a loop, and reads again after 1.5 times SECONDS, 3 where none are given: no message may be missing. Two go away
+while a program runs, one of which takes messages until then: the process has to be gone. One sends a request a byte a
+second: it has to be answered. One stops reading and ends its input: the process has to wait without processor time, and
+to end when it reads again. Two launch a named pipe and a folder: they have to be refused at once. Two keep the input
+open after `disconnect`, at a stop and in a run: half of the threads have to stay, take no processor time, and be gone
+when the input ends. Prints what was seen and measured of each, and ends with status 1 where something is wrong.
 """
 from __future__ import annotations
 
@@ -74,7 +74,8 @@ class Watched(Client):
         return f"{taken:.2f} s of the processor in {seconds:.0f} s"
 
     def must_end(self, statuses: dict[int, str]) -> str:
-        """Waits for the end of the process, which must be with one of these statuses, and last lines on standard error."""
+        """Waits for the end of the process, which must be with one of these statuses, and last lines on standard
+        error."""
         start = time.monotonic()
         status = self.child.wait(MOST_SECONDS)
         taken = time.monotonic() - start

@@ -1,7 +1,8 @@
 """Feeds debug sessions to the adapter over pipes, and has what they must write.
 
-A request that is meant for a stop is sent when the stop was written. Where the adapter gave up it still waits in a read, which
-nothing but its input ends: so once a call was refused, and a thread of the adapter has ended, the input is closed.
+A request that is meant for a stop is sent when the stop was written. Where the adapter gave up it still waits in a
+read, which nothing but its input ends: so once a call was refused, and a thread of the adapter has ended, the input is
+closed.
 """
 from __future__ import annotations
 
@@ -19,7 +20,8 @@ from client import Client, Frames, frame
 MOST_SECONDS = 20
 # The session's own thread, the reader, the runner and the writer.
 THREADS = 4
-# How long a frame is waited for before it is looked whether the adapter gave up, and how often in a row it must seem so.
+# How long a frame is waited for before it is looked whether the adapter gave up, and how often in a row it must seem
+# so.
 MOMENT = 0.004
 LOOKS = 3
 

@@ -3,16 +3,18 @@
 
 usage: hostile.py PROGRAM [FROM_ZERO]
 
-FROM_ZERO is `pl0dap_from_zero`, to which the cases are played as well. Only the `seq` 0 differs there: it is a number like any other.
+FROM_ZERO is `pl0dap_from_zero`, to which the cases are played as well. Only the `seq` 0 differs there: it is a number
+like any other.
 
-Each case is played to a process of its own, which is first brought into a situation. What must come stands beside each case, as
-the page has it. Then the next request follows, `threads`, and after it `disconnect`: both have to be answered, but after a
-framing fault, after a `disconnect`, and where a header says that more is to come. At last the input ends, and the process has
-to end with the status and the last line on standard error that the page names. The `seq` of all messages have to run from 1.
+Each case is played to a process of its own, which is first brought into a situation. What must come stands beside each
+case, as the page has it. Then the next request follows, `threads`, and after it `disconnect`: both have to be answered,
+but after a framing fault, after a `disconnect`, and where a header says that more is to come. At last the input ends,
+and the process has to end with the status and the last line on standard error that the page names. The `seq` of all
+messages have to run from 1.
 
-Other clients ask one request at a time of a process whose output is full or closed, and keep its input open. The page says
-at which request the reason has to stand on standard error, and that the next one ends the process.
-Prints a line for each case that differs and one for all, and ends with status 1 where one differs.
+Other clients ask one request at a time of a process whose output is full or closed, and keep its input open. The page
+says at which request the reason has to stand on standard error, and that the next one ends the process. Prints a line
+for each case that differs and one for all, and ends with status 1 where one differs.
 """
 from __future__ import annotations
 
@@ -31,8 +33,8 @@ from notation import said_of
 FRESH, READY, CONFIGURING, RUNNING, PRINTING, STOPPED, FAULTED, ENDED = SITUATIONS = (
     "fresh", "ready", "configuring", "running", "printing", "stopped", "faulted", "ended",
 )
-# What comes after a case: the next request is answered; it is taken for a part of what was announced; the session is closed; or
-# the input ends at once. After a framing fault, it is the fault's number.
+# What comes after a case: the next request is answered; it is taken for a part of what was announced; the session is
+# closed; or the input ends at once. After a framing fault, it is the fault's number.
 HEARD, DEAF, CLOSED, END, NO_OUTPUT = "heard", "deaf", "closed", "end", "no output"
 
 FILES = {
@@ -145,8 +147,8 @@ RESUMING = ("continue", "next", "stepIn", "stepOut", "stepBack", "reverseContinu
 # Commands with arguments that fit, but for `initialize` and `disconnect`.
 FITTING = [
     ("launch", '{"program":"stop.pl0"}'), ("setBreakpoints", source("[]")), ("configurationDone", ""), ("threads", ""),
-    *((command, THREAD) for command in RESUMING), ("pause", THREAD), ("stackTrace", THREAD), ("scopes", '{"frameId":1}'),
-    ("variables", '{"variablesReference":1}'), ("evaluate", '{"expression":"x"}'),
+    *((command, THREAD) for command in RESUMING), ("pause", THREAD), ("stackTrace", THREAD),
+    ("scopes", '{"frameId":1}'), ("variables", '{"variablesReference":1}'), ("evaluate", '{"expression":"x"}'),
 ]
 
 HEADERS = [
@@ -174,13 +176,17 @@ HEADERS = [
     Case("a length of one byte too few", READY, [headed(b"Content-Length: 46")], [], 2),
     Case("1,024 bytes and no line", READY, [b"a" * 1024], [], 1),
     Case("a length of more bytes than there are", READY, [headed(b"Content-Length: 1000")], [], DEAF),
-    Case("a header of 1,024 bytes", READY, [headed(b"Content-Length: 47\r\nX: " + b"a" * 997)], ["ok threads/10"], HEARD),
-    Case("other fields", READY, [headed(b"Content-Type: x; y=z\r\nContent-Length: 47\r\nX-1: ")], ["ok threads/10"], HEARD),
+    Case("a header of 1,024 bytes", READY, [headed(b"Content-Length: 47\r\nX: " + b"a" * 997)], ["ok threads/10"],
+         HEARD),
+    Case("other fields", READY, [headed(b"Content-Type: x; y=z\r\nContent-Length: 47\r\nX-1: ")], ["ok threads/10"],
+         HEARD),
 ]
 
 CONTENTS = [
-    silent("contents that are no JSON", b"", b"{", b'{"seq":10,}', b"threads", ASKED + ASKED, ASKED + b"//", ASKED[:-1]),
-    silent("contents that are no texts", bytes(47), b"\xff" * 47, b"\xef\xbb\xbf" + ASKED, ASKED[:-1] + b',"x":"\xe9"}'),
+    silent("contents that are no JSON", b"", b"{", b'{"seq":10,}', b"threads", ASKED + ASKED, ASKED + b"//",
+           ASKED[:-1]),
+    silent("contents that are no texts", bytes(47), b"\xff" * 47, b"\xef\xbb\xbf" + ASKED,
+           ASKED[:-1] + b',"x":"\xe9"}'),
     silent("contents that are no objects", b"[%s]" % ASKED, b'"threads"', b"10", b"null", b"true", b"[]"),
     silent("half of a surrogate pair", ASKED[:-1] + b',"x":"\\ud800"}'),
     silent("1,048,576 opening brackets", b"[" * 1048576),
@@ -203,34 +209,42 @@ TYPES = [
     silent("a command that is no text of printable characters", b'{"seq":10,"type":"request"}', *(
         b'{"seq":10,"type":"request","command":%s}' % name
         for name in (b'""', b"1", b"null", b'["threads"]', b'"a\\n"', b'"\xc3\xa9"'))),
-    all_ask("arguments that are no object", READY, "launch", "badArguments", "null", "[]", '"stop.pl0"', "1", "true", "{}"),
+    all_ask("arguments that are no object", READY, "launch", "badArguments", "null", "[]", '"stop.pl0"', "1", "true",
+            "{}"),
     all_ask("arguments that are ignored", READY, "threads", "ok", "null", "[]", '"x"', "1", '{"threadId":9}'),
-    all_ask("members of `launch` of other types", READY, "launch", "badArguments", '{"program":1}', '{"program":null}', *(
+    all_ask("members of `launch` of other types", READY, "launch", "badArguments", '{"program":1}',
+            '{"program":null}', *(
         f'{{"program":"stop.pl0",{one}}}'
-        for one in ('"stopOnEntry":1', '"stopOnEntry":"true"', '"stopOnEntry":null', '"noDebug":null', '"noDebug":true'))),
+        for one in ('"stopOnEntry":1', '"stopOnEntry":"true"', '"stopOnEntry":null', '"noDebug":null',
+                    '"noDebug":true'))),
     all_ask("sources and breakpoints of other types", CONFIGURING, "setBreakpoints", "badArguments", "{}",
             source("[]", "null"), source("[]", '"stop.pl0"'), source("[]", "[]"), source("[]", '{"path":1}'),
-            source("[]", '{"path":null}'), source("null"), source("{}"), source("[3]"), source("[null]"), source("[{}]")),
+            source("[]", '{"path":null}'), source("null"), source("{}"), source("[3]"), source("[null]"),
+            source("[{}]")),
     all_ask("members of a breakpoint of other types", CONFIGURING, "setBreakpoints", "badArguments", *(
         source(f'[{{"line":{one}}}]') for one in ('"3"', "null", "-1", "3.0", "3.5", "[3]", 2**31)), *(
         line(one)
-        for one in ('"condition":null', '"condition":1', '"hitCondition":3', '"logMessage":null', '"logMessage":["x"]'))),
+        for one in ('"condition":null', '"condition":1', '"hitCondition":3', '"logMessage":null',
+                    '"logMessage":["x"]'))),
     asks("numbers of other types", STOPPED, *(
         ("stackTrace", one, "badArguments") for one in (
             "{}", '{"threadId":null}', '{"threadId":"1"}', '{"threadId":1.0}', '{"threadId":-1}', '{"threadId":true}',
             '{"threadId":1,"levels":-1}', '{"threadId":1,"startFrame":0.5}', '{"threadId":1,"levels":null}')),
         ("scopes", '{"frameId":"1"}', "badArguments"), ("variables", '{"variablesReference":[1]}', "badArguments"),
-        ("evaluate", '{"expression":1}', "badArguments"), ("evaluate", '{"expression":"x","frameId":null}', "badArguments")),
+        ("evaluate", '{"expression":1}', "badArguments"),
+        ("evaluate", '{"expression":"x","frameId":null}', "badArguments")),
 ]
 
 IDS = [
     Case("the largest `seq`", READY, [request(2**53 - 1, "threads")], ["ok threads/9007199254740991"], HEARD),
-    Case("one `seq` many times, and smaller ones after it", READY, [request(seq, "threads") for seq in (10, 10, 10, 1, 2, 1)],
+    Case("one `seq` many times, and smaller ones after it", READY,
+         [request(seq, "threads") for seq in (10, 10, 10, 1, 2, 1)],
          [f"ok threads/{seq}" for seq in (10, 10, 10, 1, 2, 1)], HEARD),
     asks("threads that aren't there", STOPPED, *(
         (command, arguments, "unknownThread")
         for command in (*RESUMING, "pause", "stackTrace") for arguments in ('{"threadId":0}', OTHER_THREAD)),
-        ("pause", f'{{"threadId":{2**53 - 1}}}', "unknownThread"), ("pause", f'{{"threadId":{2**53}}}', "badArguments")),
+        ("pause", f'{{"threadId":{2**53 - 1}}}', "unknownThread"),
+        ("pause", f'{{"threadId":{2**53}}}', "badArguments")),
     asks("frames that aren't there", STOPPED, *(
         ("scopes", f'{{"frameId":{one}}}', "unknownFrame") for one in (0, 2, 2**53 - 1)), *(
         ("evaluate", f'{{"expression":"x +","frameId":{one}}}', "unknownFrame") for one in (0, 2, 2**53 - 1)),
@@ -248,7 +262,8 @@ SIZES = [
             ("a" * 255, "cannotRead"), ("a" * 256, "badArguments"), ("", "badArguments"), ("\\u0000", "badArguments"),
             ("stop.pl0\\u0000", "badArguments"), ("\u00e9", "badArguments"), (".", "cannotRead"),
             ("stop.pl0/x", "cannotRead")))),
-    asks("256 and 257 breakpoints", CONFIGURING, ("setBreakpoints", source(many_lines(256)), "ok " + " ".join(["3"] * 256)),
+    asks("256 and 257 breakpoints", CONFIGURING,
+         ("setBreakpoints", source(many_lines(256)), "ok " + " ".join(["3"] * 256)),
          ("setBreakpoints", source(many_lines(257)), "badArguments")),
     asks("lines at both ends", CONFIGURING, ("setBreakpoints", source('[{"line":0},{"line":5}]'), "ok 3 5"),
          ("setBreakpoints", source(f'[{{"line":6}},{{"line":{2**31 - 1}}}]'), "ok noStep noStep")),
@@ -262,15 +277,18 @@ SIZES = [
          ("evaluate", expression("(" * 65 + "x" + ")" * 65), "badExpression"),
          ("setBreakpoints", line('"condition":"' + "(" * 65 + "x" + ")" * 65 + ' = 0"'), "ok badCondition")),
     all_ask("hit conditions that are none", CONFIGURING, "setBreakpoints", "ok badHitCondition", *(
-        line(f'"hitCondition":"{one}"') for one in ("0", "%0", "03", "-1", " 3", "%", "3%", "%%3", "1e1", 2**31, 10**300))),
+        line(f'"hitCondition":"{one}"')
+        for one in ("0", "%0", "03", "-1", " 3", "%", "3%", "%%3", "1e1", 2**31, 10**300))),
     asks("log messages with many expressions and braces", CONFIGURING, *(
         ("setBreakpoints", line(f'"logMessage":"{one}"'), said) for one, said in (
-            ("{x}" * 8, "ok 3"), ("{x}" * 9, "ok badLogMessage"), ("{x", "ok badLogMessage"), ("{{x}}", "ok badLogMessage"),
+            ("{x}" * 8, "ok 3"), ("{x}" * 9, "ok badLogMessage"), ("{x", "ok badLogMessage"),
+            ("{{x}}", "ok badLogMessage"),
             ("{}", "ok badLogMessage"), ("}" * 1024, "ok 3"), ("{" * 1024, "ok badLogMessage")))),
     Case("program texts of 65,536 bytes and one more", READY, [
         request(10, "launch", '{"program":"too_long.pl0"}'), request(11, "launch", '{"program":"longest.pl0"}')],
         ["no launch/10 syntax 1 1 1", "ok launch/11", "initialized"], HEARD),
-    asks("program texts that are none, and what is no regular file", READY, ("launch", '{"program":"empty.pl0"}', "syntax 6 1 1"),
+    asks("program texts that are none, and what is no regular file", READY,
+         ("launch", '{"program":"empty.pl0"}', "syntax 6 1 1"),
          ("launch", '{"program":"zeros.pl0"}', "syntax 3 1 1"), ("launch", '{"program":"bytes.pl0"}', "syntax 2 1 1"),
          ("launch", '{"program":"/dev/zero"}', "cannotRead")),
 ]
@@ -283,8 +301,8 @@ PHASES = [
          ("configurationDone", "", "wrongPhase")),
     asks("all in a run", RUNNING, *((command, THREAD, "notStopped") for command in (*RESUMING, "stackTrace")),
          *((command, OTHER_THREAD, "notStopped") for command in (*RESUMING, "stackTrace")),
-         ("pause", OTHER_THREAD, "unknownThread"), ("initialize", "", "wrongPhase"), ("scopes", '{"frameId":9}', "notStopped"),
-         ("variables", '{"variablesReference":9}', "notStopped"),
+         ("pause", OTHER_THREAD, "unknownThread"), ("initialize", "", "wrongPhase"),
+         ("scopes", '{"frameId":9}', "notStopped"), ("variables", '{"variablesReference":9}', "notStopped"),
          ("evaluate", expression("("), "notStopped"), ("launch", '{"program":"stop.pl0"}', "wrongPhase")),
     Case("a pause and a step after a fault", FAULTED, [request(10, "pause", THREAD) + request(11, "stepIn", THREAD)],
          ["ok pause/10", "ok stepIn/11", "exited 1", "terminated"], HEARD),
@@ -300,7 +318,8 @@ MANY = b"".join(request(seq, "threads") for seq in range(10, 310))
 CUTS = [
     Case("a request byte by byte", READY, [ACCENT[at:at + 1] for at in range(len(ACCENT))], ["ok threads/10"], HEARD),
     Case("300 requests by one write", READY, [MANY], [f"ok threads/{seq}" for seq in range(10, 310)], HEARD),
-    Case("a fault between two requests of one write", READY, [request(10, "threads") + b"\r\n" + request(11, "threads")],
+    Case("a fault between two requests of one write", READY,
+         [request(10, "threads") + b"\r\n" + request(11, "threads")],
          ["ok threads/10"], 3),
 ]
 
@@ -309,7 +328,8 @@ ENDS = [
     Case("the end within a content", READY, [request(10, "threads")[:-1]], [], END),
     Case("the end in a run", RUNNING, [], [], END),
     Case("a framing fault in a run", RUNNING, [b"\r\n\r\n"], [], 3),
-    Case("a disconnect, and more by the same write", RUNNING, [request(10, "disconnect") + request(11, "disconnect") + b"\r\n"],
+    Case("a disconnect, and more by the same write", RUNNING,
+         [request(10, "disconnect") + request(11, "disconnect") + b"\r\n"],
          ["ok disconnect/10"], CLOSED),
     Case("nobody takes the output", RUNNING, [request(10, "threads")], [], NO_OUTPUT),
 ]
@@ -407,7 +427,8 @@ SOON = 20.0
 
 
 class Filed(Client):
-    """A process whose output is a file, which has room until it is full. Its signal for that is ignored, as a shell may do."""
+    """A process whose output is a file, which has room until it is full. Its signal for that is ignored, as a shell may
+    do."""
 
     def __init__(self, program: str, folder: str):
         path = os.path.join(folder, "output")

@@ -1,8 +1,8 @@
 """Whether what an adapter sent is lawful, where requests arrive while a program runs.
 
-The adapter reads, runs, answers and writes in threads. So requests and reports of slices come to the session in one of many
-orders, and a run is held after its first slice or a later one. The model of `plain_session` is followed through all of
-them, as far as each agrees with what was sent.
+The adapter reads, runs, answers and writes in threads. So requests and reports of slices come to the session in one of
+many orders, and a run is held after its first slice or a later one. The model of `plain_session` is followed through
+all of them, as far as each agrees with what was sent.
 """
 from __future__ import annotations
 
@@ -15,7 +15,8 @@ from plain_session import FrameFault, Frames, Session, request_of
 
 @dataclasses.dataclass
 class Item:
-    """A thing that the input gives: a content, a framing fault or the end; and how many messages had left before it was whole."""
+    """A thing that the input gives: a content, a framing fault or the end; and how many messages had left before it was
+    whole."""
 
     kind: str
     content: bytes

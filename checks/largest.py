@@ -3,11 +3,12 @@
 
 usage: largest.py PROGRAM
 
-The text has 65,536 bytes and names of 64 letters. 256 breakpoints have conditions of 1,024 bytes, of which none holds. The program is
-stepped a thousand times; it takes more than a million steps; a recursion stops at 1,024 frames, with a level of procedures
-between the declaration of a variable and its use; 300 numbers are written one after the other; and 10,000 requests are sent
-without waiting. Each request must be granted under its own number, the numbers of what comes must run 1, 2, 3, and the stop
-must have the frames and values that the text gives. Prints what was seen, and ends with status 1 where something is wrong.
+The text has 65,536 bytes and names of 64 letters. 256 breakpoints have conditions of 1,024 bytes, of which none holds.
+The program is stepped a thousand times; it takes more than a million steps; a recursion stops at 1,024 frames, with a
+level of procedures between the declaration of a variable and its use; 300 numbers are written one after the other; and
+10,000 requests are sent without waiting. Each request must be granted under its own number, the numbers of what comes
+must run 1, 2, 3, and the stop must have the frames and values that the text gives. Prints what was seen, and ends with
+status 1 where something is wrong.
 """
 from __future__ import annotations
 

@@ -3,9 +3,9 @@
 
 usage: last_position.py
 
-Copies the crates, puts that number in place of the machine's last position, and drives a session over memory (`speed session`)
-through `rt try`, which proves nothing. A loop without end has to stop there, before an assignment, with `stepLimit`; its variable says how
-many steps were taken. The status is 1 where it is otherwise.
+Copies the crates, puts that number in place of the machine's last position, and drives a session over memory (`speed
+session`) through `rt try`, which proves nothing. A loop without end has to stop there, before an assignment, with
+`stepLimit`; its variable says how many steps were taken. The status is 1 where it is otherwise.
 """
 from __future__ import annotations
 
@@ -50,7 +50,8 @@ def play(top: pathlib.Path) -> dict[str, dict]:
     (top / "sent").write_bytes(b"".join(frame(request(seq, *one)) for seq, one in enumerate(REQUESTS, 1)))
     (top / "loop.pl0").write_text(PROGRAM)
     files = [word for name in ("sent", "loop.pl0") for word in ("--data", f"{name}={top / name}")]
-    run = subprocess.run(["rt", "try", "--seconds", "300", *files, "--", "session", "sent"], cwd=top / "crates/speed", stdout=subprocess.PIPE)
+    run = subprocess.run(["rt", "try", "--seconds", "300", *files, "--", "session", "sent"], cwd=top / "crates/speed",
+                         stdout=subprocess.PIPE)
     said, frames = {}, Frames()
     frames.take(run.stdout)
     for content in frames:

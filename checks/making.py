@@ -1,7 +1,7 @@
 """Makes random sessions: programs with and without mistakes, and pieces of input that are mostly timely.
 
-A session is made beside a model of the adapter, so that what is asked fits the situation more often than not. In a session that
-crosses, requests are sent while the program runs too; in another one the client waits for the stop first.
+A session is made beside a model of the adapter, so that what is asked fits the situation more often than not. In a
+session that crosses, requests are sent while the program runs too; in another one the client waits for the stop first.
 """
 from __future__ import annotations
 
@@ -20,28 +20,35 @@ SIGNS = ["+", "-", "*", "/"]
 COMPARISONS = ["=", "#", "<", "<=", ">", ">="]
 NUMBERS = ["0", "1", "2", "3", "5", "7", "10", "100", "007", "3037000500", "9223372036854775807"]
 SPACES = [" ", " ", " ", "\n", "\n", "\n", "  ", "\t", "\r\n", "\n\n", "\r", "\n\r"]
-STRANGE = ["(", ")", ";", ".", "?", ":", "é", "end", "begin", "odd", "=", ":=", "const", "zz", "9223372036854775808", "N" * 64,
+STRANGE = ["(", ")", ";", ".", "?", ":", "é", "end", "begin", "odd", "=", ":=", "const", "zz", "9223372036854775808",
+           "N" * 64,
            "N" * 65, "(" * 65, "begin " * 65, "\x00", "1x", "call", "!"]
 HITS = ["", "1", "2", "3", "%1", "%2", "%2", "%3", "%3", "%7", "10", "2147483647", "%2147483647"]
 BAD_HITS = ["0", "%0", "03", " 2", "2 ", "+2", "%", "2147483648", "%%2", "x", "²", "1\n"]
 # The parts of log messages, with expressions and without, and messages that can't be read.
-MESSAGE_TEXTS = ["", "x is ", " ", ", ", "}", "}}", "k", "\\", "\"", "\n", "é", "\u2028", "\x7f", "\x00", "100 %", "log"]
-BAD_MESSAGES = ["{", "{}", "{x", "x {", "{ }", "{ {1} }", "{1}{", "{1 +}", "{1}}{", "{call p}", "{1 = 1}", "{é}", "{1}" * 9, "{zz}",
+MESSAGE_TEXTS = ["", "x is ", " ", ", ", "}", "}}", "k", "\\", "\"", "\n", "é", "\u2028", "\x7f", "\x00", "100 %",
+                 "log"]
+BAD_MESSAGES = ["{", "{}", "{x", "x {", "{ }", "{ {1} }", "{1}{", "{1 +}", "{1}}{", "{call p}", "{1 = 1}", "{é}",
+                "{1}" * 9, "{zz}",
                 "{1}" + "x" * 1022, "é" * 513]
 BAD_TEXTS = [" ", "x >", "(x = 1", "x = 1.", "x = é", "zz + 1", "call p", "1 +", "- - 1", "odd", "x := 1",
              "(" * 64 + "1" + ")" * 64,
              "(" * 65 + "1" + ")" * 65, "9223372036854775808", "1;", "p", "\x00", "é" * 513, "1" + " " * 1023,
              "1" + " " * 1024]
 LEAST = "(- 9223372036854775807 - 1)"
-EDGES = [LEAST, f"{LEAST} - 1", f"{LEAST} / (-1)", f"-{LEAST}", f"{LEAST} * (-1)", "9223372036854775807 + 1", "1 / 0", "zz + 1 / 0",
-         "1 / 0 + (9223372036854775807 + 1)", "3037000500 * 3037000500", "3037000499 * 3037000499", "-7 / 2", "7 / (-2)", "-1 / 2"]
-STRANGE_VALUES = [None, True, False, 0, 1, 2, -1, 1.0, 2**31 - 1, 2**31, 2**53 - 1, 2**53, 2**64, "", "x", "1", "x" * 1024,
+EDGES = [LEAST, f"{LEAST} - 1", f"{LEAST} / (-1)", f"-{LEAST}", f"{LEAST} * (-1)", "9223372036854775807 + 1", "1 / 0",
+         "zz + 1 / 0",
+         "1 / 0 + (9223372036854775807 + 1)", "3037000500 * 3037000500", "3037000499 * 3037000499", "-7 / 2",
+         "7 / (-2)", "-1 / 2"]
+STRANGE_VALUES = [None, True, False, 0, 1, 2, -1, 1.0, 2**31 - 1, 2**31, 2**53 - 1, 2**53, 2**64, "", "x", "1",
+                  "x" * 1024,
                   "x" * 1025, "é" * 512, "é" * 513, [], {}, [1], {"path": None}, [{}], [None], [{"line": 0}], "p.pl0"]
 SKIPPED = [
     b"", b"[", b"null", b"[]", b'"x"', b"{}", b'{"seq":1}', b"\xff\xfe", b'{"seq":1,"type":"request"}',
     b'{"seq":0,"type":"request","command":"threads"}', b'{"seq":1.0,"type":"request","command":"threads"}',
     b'{"seq":-0,"type":"request","command":"threads"}', b'{"seq":"1","type":"request","command":"threads"}',
-    b'{"seq":9007199254740992,"type":"request","command":"threads"}', b'{"seq":true,"type":"request","command":"threads"}',
+    b'{"seq":9007199254740992,"type":"request","command":"threads"}',
+    b'{"seq":true,"type":"request","command":"threads"}',
     b'{"seq":1,"type":"event","command":"threads"}', b'{"seq":1,"type":"request","command":""}',
     b'{"seq":1,"type":"request","command":"%s"}' % (b"c" * 65), b'{"seq":1,"type":"request","command":"a\\tb"}',
     b'{"seq":1,"type":"request","command":"\\u00e9"}', b'{"seq":1,"type":"request","command":"threads","x":1e400}',
@@ -70,12 +77,15 @@ ODD_BUT_FINE = [
 ]
 FAULTY = [
     b"\r\n", b"\r\n\r\n", b"content-length: 2\r\n\r\n{}", b"Content-Length: 02\r\n\r\n", b"Content-Length:2\r\n\r\n",
-    b"Content-Length: 2\r\nContent-Length: 2\r\n\r\n", b"Content-Length: 1048577\r\n\r\n", b"Content-Length: 12345678\r\n\r\n",
-    b"A b: c\r\n", b"X: \x7f\r\n", b"X: " + b"a" * 1022, b"Content-Length: 2\n\n{}\r\n\r\n", b"Content-Length: \r\n", b": x\r\n",
+    b"Content-Length: 2\r\nContent-Length: 2\r\n\r\n", b"Content-Length: 1048577\r\n\r\n",
+    b"Content-Length: 12345678\r\n\r\n",
+    b"A b: c\r\n", b"X: \x7f\r\n", b"X: " + b"a" * 1022, b"Content-Length: 2\n\n{}\r\n\r\n", b"Content-Length: \r\n",
+    b": x\r\n",
 ]
 FIELDS = [b""] * 4 + [b"X-Y: z\r\n", b"Content-Type: application/vscode-jsonrpc; charset=utf-8\r\n",
           b"content-length: 7\r\n", b"0: \r\n"]
-CHANGES = [b"", b'"', b"{", b"}", b"[", b"]", b",", b":", b"0", b"1", b"9", b"-", b".", b"e", b"\\", b"/", b" ", b"\n", b"\r",
+CHANGES = [b"", b'"', b"{", b"}", b"[", b"]", b",", b":", b"0", b"1", b"9", b"-", b".", b"e", b"\\", b"/", b" ", b"\n",
+           b"\r",
            b"\x00", b"\x7f", b"\xc3", b"\xff", "é".encode(), b"x", b"null"]
 # It runs for so long that requests arrive in the middle.
 LONG = """var a, b, c, x;
@@ -102,20 +112,25 @@ call p end;
 while n < {rounds} do
 begin call q;
 n := n + 1 end."""
-PATHS = {"p.pl0": 20, "calls.pl0": 5, "deep.pl0": 3, "bad.pl0": 6, "worse.pl0": 6, "missing.pl0": 1, ".": 1, "p.pl0/": 1,
+PATHS = {"p.pl0": 20, "calls.pl0": 5, "deep.pl0": 3, "bad.pl0": 6, "worse.pl0": 6, "missing.pl0": 1, ".": 1,
+         "p.pl0/": 1,
          "./p.pl0": 1, "x" * 255: 1}
 FILES = ("p.pl0", "calls.pl0", "deep.pl0", "bad.pl0", "worse.pl0", "long.pl0")
-COMMANDS = [*FITTING, "attach", "restart", "terminate", "cancel", "source", "completions", "stepback", "setVariable", "goto"]
+COMMANDS = [*FITTING, "attach", "restart", "terminate", "cancel", "source", "completions", "stepback", "setVariable",
+            "goto"]
 # What is asked in a situation, and how often.
 LIKELY = {
     "Fresh": {"initialize": 20, "threads": 1, "launch": 1},
     "Ready": {"launch": 20, "threads": 1, "setBreakpoints": 1},
     "Configuring": {"setBreakpoints": 10, "configurationDone": 8, "threads": 1, "evaluate": 1},
-    "Running": {"pause": 6, "setBreakpoints": 8, "threads": 1, "continue": 1, "stepBack": 1, "stackTrace": 1, "evaluate": 1,
+    "Running": {"pause": 6, "setBreakpoints": 8, "threads": 1, "continue": 1, "stepBack": 1, "stackTrace": 1,
+                "evaluate": 1,
                 "configurationDone": 1},
-    "Stopped": {"continue": 5, "next": 9, "stepIn": 9, "stepOut": 4, "stepBack": 5, "reverseContinue": 5, "setBreakpoints": 4,
+    "Stopped": {"continue": 5, "next": 9, "stepIn": 9, "stepOut": 4, "stepBack": 5, "reverseContinue": 5,
+                "setBreakpoints": 4,
                 "stackTrace": 4, "scopes": 4, "variables": 5, "evaluate": 6, "pause": 1, "threads": 1},
-    "Faulted": {"continue": 2, "next": 1, "stepIn": 1, "stepOut": 1, "stepBack": 2, "reverseContinue": 2, "setBreakpoints": 2,
+    "Faulted": {"continue": 2, "next": 1, "stepIn": 1, "stepOut": 1, "stepBack": 2, "reverseContinue": 2,
+                "setBreakpoints": 2,
                 "stackTrace": 3, "scopes": 3, "variables": 3, "evaluate": 4, "pause": 1, "threads": 1},
     "Ended": {"setBreakpoints": 3, "threads": 2, "continue": 1, "reverseContinue": 1, "stackTrace": 1, "disconnect": 4},
 }
@@ -169,7 +184,8 @@ class Texts:
         if not name or self.chance.random() < 0.3:
             return self.condition(names)
         number = self.chance.choice(["1", "2", "3", "10"])
-        return self.chance.choice([["odd", name], ["odd", name, "/", "2"], [name, self.chance.choice(COMPARISONS), number]])
+        return self.chance.choice([["odd", name], ["odd", name, "/", "2"],
+                                   [name, self.chance.choice(COMPARISONS), number]])
 
     def condition(self, names: dict[str, str]) -> list[str]:
         if self.chance.random() < 0.15:
@@ -190,7 +206,8 @@ class Texts:
         name, procedure = self.one(names, "var"), self.one(names, "procedure", "open")
         if not name or not procedure:
             return []
-        return ["if", name, "<", self.chance.choice(["3", "6", "20"]), "then", "begin", name, ":=", name, "+", "1", ";", "call",
+        return ["if", name, "<", self.chance.choice(["3", "6", "20"]), "then", "begin", name, ":=", name, "+", "1", ";",
+                "call",
                 procedure, "end"]
 
     def loop(self, names: dict[str, str], size: int) -> list[str]:
@@ -327,8 +344,8 @@ def lasts(model: Session, command: str) -> bool:
 
 @dataclasses.dataclass
 class Part:
-    """A part of the input, and what the client waits for after it: a `stop` and all answers, all `answers`, a `moment`, or
-    `nothing`."""
+    """A part of the input, and what the client waits for after it: a `stop` and all answers, all `answers`, a `moment`,
+    or `nothing`."""
 
     text: bytes
     wait: str
@@ -424,12 +441,14 @@ class Maker:
 
     def frame_id(self) -> int:
         depth = self.model.machine.depth() if self.model.machine else 1
-        return self.often(self.chance.randrange(1, depth + 1) if depth else 1, [0, depth + 1, depth, 1024, 2**53 - 1], 0.15)
+        return self.often(self.chance.randrange(1, depth + 1) if depth else 1, [0, depth + 1, depth, 1024, 2**53 - 1],
+                          0.15)
 
     def arguments(self, command: str) -> dict:
         chance = self.chance
         if command == "initialize":
-            return {name: chance.random() < 0.5 for name in ("linesStartAt1", "columnsStartAt1") if chance.random() < 0.4}
+            return {name: chance.random() < 0.5 for name in ("linesStartAt1", "columnsStartAt1")
+                    if chance.random() < 0.4}
         if command == "launch":
             path = chance.choices(list(PATHS), list(PATHS.values()))[0]
             path = "long.pl0" if self.crosses and chance.random() < 0.3 else path
@@ -472,7 +491,8 @@ class Maker:
         return arguments
 
     def step_over_frames(self) -> str | None:
-        """A step that passes over what is done in other frames: over the call that comes next, or out of a procedure."""
+        """A step that passes over what is done in other frames: over the call that comes next, or out of a
+        procedure."""
         if self.model.machine.top().kind == "call":
             return "next"
         return "stepOut" if self.model.machine.depth() > 1 else None
@@ -528,8 +548,8 @@ class Maker:
         return text[:at] + self.chance.choice(CHANGES) + text[at + 1:]
 
     def piece(self) -> list[Part]:
-        """A piece, after which the program doesn't run, mostly. Its last frame may be cut, so that the rest comes with the next
-        piece."""
+        """A piece, after which the program doesn't run, mostly. Its last frame may be cut, so that the rest comes with
+        the next piece."""
         parts = [self.rest] if self.rest else []
         self.model.take(self.rest)
         self.rest = b""
@@ -561,7 +581,8 @@ class Maker:
         one = self.chance.random() < 0.4
         texts = [b"".join(cut)] if one else cut
         waits = [self.chance.choice(["nothing", "nothing", "answers", "moment"]) for _ in texts[1:]]
-        return [Part(text, wait) for text, wait in zip(texts, [*waits, self.often("stop", ["answers", "nothing"], 0.2)])]
+        waits.append(self.often("stop", ["answers", "nothing"], 0.2))
+        return [Part(text, wait) for text, wait in zip(texts, waits)]
 
     def cut(self, part: bytes) -> list[bytes]:
         if len(part) < 2 or self.chance.random() < 0.8:
@@ -570,8 +591,8 @@ class Maker:
         return [part[:at], part[at:]]
 
     def last(self) -> list[Part]:
-        """What ends a session: a request to leave with more after it, a frame that is none, or the end of the input. Where
-        requests cross, it may come while the program runs."""
+        """What ends a session: a request to leave with more after it, a frame that is none, or the end of the input.
+        Where requests cross, it may come while the program runs."""
         kind = self.texts.pick(leave=6, fault=2, end=2)
         before = []
         if self.crosses and not self.rest and self.model.situation == "Stopped" and self.chance.random() < 0.5:
@@ -579,7 +600,8 @@ class Maker:
         if kind == "end":
             return before
         # The rest may be of a request that lets the program run.
-        rest = [Part(self.rest, self.chance.choice(["nothing", "stop"]) if self.crosses else "stop")] if self.rest else []
+        rest = [Part(self.rest, self.chance.choice(["nothing", "stop"]) if self.crosses
+                     else "stop")] if self.rest else []
         if kind == "fault":
             return [*before, *rest, Part(self.chance.choice(FAULTY), "nothing")]
         more = self.often(b"", [*FAULTY, frame(self.content())], 0.3)

@@ -1,12 +1,12 @@
 #!/usr/bin/env python3
-"""Speaks with the adapter over a socket that doesn't block, as a parent with an event loop hands it over, and looks that no message
-is lost in either direction.
+"""Speaks with the adapter over a socket that doesn't block, as a parent with an event loop hands it over, and looks
+that no message is lost in either direction.
 
 usage: nonblocking.py PROGRAM..
 
-One socket is the adapter's standard input and output, and doesn't block on its side. It is left without anything to read for a while,
-and then without room for what is written: REQUESTS requests are sent while no answer is read. All have to be answered, each once and
-in their order, and the process has to end with status 0 and say nothing.
+One socket is the adapter's standard input and output, and doesn't block on its side. It is left without anything to
+read for a while, and then without room for what is written: REQUESTS requests are sent while no answer is read. All
+have to be answered, each once and in their order, and the process has to end with status 0 and say nothing.
 """
 from __future__ import annotations
 

@@ -7,10 +7,10 @@
 - `end`, the end of the input once all that stands before it has come; without it the input ends after the last request;
 - `// ..`, a remark, which the demo prints.
 
-A message in short is `ok COMMAND/SEQ` with what its body says, `no COMMAND/SEQ REASON` or an event: `stopped REASON`, `output NUMBER`,
-`console TEXT` (what a log point says, as JSON has it), `exited STATUS`, `initialized` or `terminated`. Some lines stand for others, as in session_tests,
-whose `verbs.rt` lists them. What session_tests says of a session over memory is passed over here: `S ..` (a report), `! ..` (an order)
-and `= ..` (how it ended).
+A message in short is `ok COMMAND/SEQ` with what its body says, `no COMMAND/SEQ REASON` or an event: `stopped REASON`,
+`output NUMBER`, `console TEXT` (what a log point says, as JSON has it), `exited STATUS`, `initialized` or `terminated`.
+Some lines stand for others, as in session_tests, whose `verbs.rt` lists them. What session_tests says of a session over
+memory is passed over here: `S ..` (a report), `! ..` (an order) and `= ..` (how it ended).
 """
 from __future__ import annotations
 
@@ -54,14 +54,16 @@ STARTED = re.compile(r"started (\d+)/(\d+)$")
 RESUMED = re.compile(r"(continue|next|stepIn|stepOut|stepBack|reverseContinue) \d+ (\d+)/(\d+)$")
 MESSAGE = re.compile(r"\d+: ")
 PASSED_OVER = ("S", "!", "=")
-# Events that a client can't cause, or contents that it doesn't send by itself; what lets a program run; and what ends its run.
+# Events that a client can't cause, or contents that it doesn't send by itself; what lets a program run; and what ends
+# its run.
 UNPLAYABLE = (">>", ">>>", "+>", "R", "F", "read", "no", "refused")
 STARTS = re.compile(r"\d+: ok (?:configurationDone|continue|next|stepIn|stepOut|stepBack|reverseContinue)/")
 STOPS = re.compile(r"\d+: (?:stopped|terminated|\{.*\"event\":\"(?:stopped|terminated)\")")
 
 
 class Exchange(NamedTuple):
-    """Requests that are sent by one write, the remarks before each, and the contents that must come before more is sent."""
+    """Requests that are sent by one write, the remarks before each, and the contents that must come before more is
+    sent."""
 
     requests: list[bytes]
     remarks: list[list[str]]
@@ -92,8 +94,8 @@ def sessions(text: str, first: int = 1) -> list[Session]:
 
 
 def of_session_tests(source: str, first: int = 1) -> list[Session]:
-    """The sessions of a source of session_tests that a program can be played too: none has events that a client can't cause, and
-    in none something is sent while the program runs, which might come sooner or later."""
+    """The sessions of a source of session_tests that a program can be played too: none has events that a client can't
+    cause, and in none something is sent while the program runs, which might come sooner or later."""
     texts = re.findall(r'r#"(.*?)"#;', source, re.DOTALL)
     parts = [part.partition("\n")[::2] for text in texts for part in ("\n" + text).split("\n# ")[1:]]
     return [session(name, text, first) for name, text in parts if is_playable(text)]
@@ -103,7 +105,8 @@ def is_playable(text: str) -> bool:
     runs = False
     for line in (one for line in text.splitlines() for one in spelled_out(line).splitlines()):
         sign = line.partition(" ")[0]
-        if sign in UNPLAYABLE or line == "S noMemory" or "~" in line or (runs and (sign in (">", "+") or line == "end")):
+        if sign in UNPLAYABLE or line == "S noMemory" or "~" in line or (runs and (sign in (">", "+")
+                                                                                   or line == "end")):
             return False
         began, is_stop = STARTS.match(line), STOPS.match(line)
         runs = bool(began) or (runs and not is_stop)
@@ -157,7 +160,8 @@ def launched(asked: str) -> str | None:
 
 
 def content(line: str, path: str, first: int = 1) -> bytes:
-    """The content of a message in short, in a session with the program of this path, whose requests are numbered from `first` on."""
+    """The content of a message in short, in a session with the program of this path, whose requests are numbered from
+    `first` on."""
     seq, _, text = line.partition(": ")
     one = json.loads(text) if text.startswith("{") else {**message(text, path), "seq": int(seq)}
     if "request_seq" in one:
@@ -203,7 +207,8 @@ def response_body(command: str, shown: str, path: str) -> dict | None:
         total, _, frames = shown.partition(" frames:")
         return {"stackFrames": [frame_body(one, path) for one in listed(frames)], "totalFrames": int(total)}
     if command == "scopes":
-        return {"scopes": [{"name": name, "variablesReference": int(one), "expensive": False} for name, one in pairs(shown)]}
+        return {"scopes": [{"name": name, "variablesReference": int(one), "expensive": False}
+                           for name, one in pairs(shown)]}
     if command == "variables":
         return {"variables": [{"name": name, "value": value, "variablesReference": 0} for name, value in pairs(shown)]}
     if command == "evaluate":

@@ -3,11 +3,12 @@
 
 usage: outside_clients.py PL0DAP PL0DAP_FROM_ZERO STACK_ADAPTER
 
-Microsoft's `debugpy.common.messaging` plays a session, and one to the example of a stack language. They, and the editors' sessions
-that `make editors` plays, are recorded anew in out/clients/. Then each message that the adapter sent in them is decoded by `go-dap`, which refuses unknown fields, and type-checked
-against Microsoft's `@vscode/debugprotocol`. At last the extension for Visual Studio Code is loaded over a stand-in for the editor.
-Nothing is installed. Status 0: all was done, and all is right. Status 1: something is wrong. Status 2: only something that is needed is
-missing.
+Microsoft's `debugpy.common.messaging` plays a session, and one to the example of a stack language. They, and the
+editors' sessions that `make editors` plays, are recorded anew in out/clients/. Then each message that the adapter sent
+in them is decoded by `go-dap`, which refuses unknown fields, and type-checked against Microsoft's
+`@vscode/debugprotocol`. At last the extension for Visual Studio Code is loaded over a stand-in for the editor. Nothing
+is installed. Status 0: all was done, and all is right. Status 1: something is wrong. Status 2: only something that is
+needed is missing.
 """
 import json
 import os
@@ -92,7 +93,8 @@ def check_types(places: list[str]) -> int:
     options = {"strict": True, "noEmit": True, "baseUrl": NODE_PACKAGES, "paths": {"*": ["*"]}, "types": []}
     with open(os.path.join(MADE, "tsconfig.json"), "w", encoding="utf-8") as file:
         json.dump({"compilerOptions": options, "files": ["messages.ts"]}, file)
-    failed = run(*script("message_types.py"), os.path.join(MADE, "messages.ts"), *places) or run("tsc", "--project", MADE)
+    failed = run(*script("message_types.py"), os.path.join(MADE, "messages.ts"), *places) or run("tsc", "--project",
+                                                                                                 MADE)
     return 1 if failed else 0
 
 

@@ -4,14 +4,14 @@
 usage: pl0_pages.py PL0
 
 Each row of the table of mistakes in docs/PL0.md is tried where its example is a text: the code is the number of the
-fault, and the sentence and the place are what `pl0 check` tells. So is what the table below it says beside a token that can't
-stand where it does, and of each text in checks/mistakes it tells the line of told.txt there. For each of the examples `pl0 list` shows the same
-instructions, and the same steps beside them, as `pl0dap --check` prints, whose stored output the gate compares. The table of a run in
-docs/PL0.md is what `pl0 trace` writes, also where it begins later or ends earlier, and so is the machine that is drawn
-there. A program that writes more than a megabyte writes it all to a pipe. Where nobody reads on, each command ends at once with
-status 3, and says nothing; where the disk is full, it says so once, after a fault too. A run that is stopped keeps what it wrote,
-and `pl0 check` tells which files can't be read, and why. Prints what is wrong, and ends with status 1 where
-anything is.
+fault, and the sentence and the place are what `pl0 check` tells. So is what the table below it says beside a token that
+can't stand where it does, and of each text in checks/mistakes it tells the line of told.txt there. For each of the
+examples `pl0 list` shows the same instructions, and the same steps beside them, as `pl0dap --check` prints, whose
+stored output the gate compares. The table of a run in docs/PL0.md is what `pl0 trace` writes, also where it begins
+later or ends earlier, and so is the machine that is drawn there. A program that writes more than a megabyte writes it
+all to a pipe. Where nobody reads on, each command ends at once with status 3, and says nothing; where the disk is full,
+it says so once, after a fault too. A run that is stopped keeps what it wrote, and `pl0 check` tells which files can't
+be read, and why. Prints what is wrong, and ends with status 1 where anything is.
 """
 import itertools
 import os
@@ -58,7 +58,8 @@ def wrong_mistakes(pl0: str):
 def wrong_hints(pl0: str):
     """What is wrong with the table of what is said beside a token that can't stand where it does."""
     page = (TOP / "docs" / "PL0.md").read_text(encoding="utf-8")
-    rows = [row for line in page.split("| Said beside it |")[1].split("\n\n")[0].splitlines() if (row := HINT.match(line))]
+    rows = [row for line in page.split("| Said beside it |")[1].split("\n\n")[0].splitlines()
+            if (row := HINT.match(line))]
     for row in rows:
         hint, text = row.groups()
         told = run(pl0, "check", "-", text=text.encode())
@@ -112,7 +113,8 @@ def drawn(command: str) -> bytes:
 
 
 def wrong_traces(pl0: str):
-    """What is wrong with the table of a run, its parts, the machine drawn, and a run that ends or faults before all that."""
+    """What is wrong with the table of a run, its parts, the machine drawn, and a run that ends or faults before all
+    that."""
     table = drawn("pl0 trace procedures.pl0").splitlines(keepends=True)
     program = str(TOP / "crates" / "pl0_runs" / "data" / "procedures.pl0")
     options = ["--machine", "--from", "10", "--steps", "1"]
@@ -130,7 +132,8 @@ def wrong_traces(pl0: str):
             yield f"a trace of {steps} steps from {start}: {told}, where {wanted!r} is wanted"
     for start in ("0", "3", "7"):
         told = run(pl0, "trace", "-", "--from", start, text=FAULTY)
-        if told.returncode != 1 or not told.stderr.startswith(b"-:1:22: fault: division by zero\n  in main at -:1:22\n"):
+        said = b"-:1:22: fault: division by zero\n  in main at -:1:22\n"
+        if told.returncode != 1 or not told.stderr.startswith(said):
             yield f"a trace from {start} of a run that faults: {told}"
 
 
@@ -170,7 +173,8 @@ def wrong_outputs(pl0: str):
 
 
 def wrong_stops(pl0: str):
-    """What is wrong with a run that is ended from outside, with a fault whose output fails, and with files that can't be read."""
+    """What is wrong with a run that is ended from outside, with a fault whose output fails, and with files that can't
+    be read."""
     pipe = subprocess.PIPE
     with subprocess.Popen([pl0, "run", "-"], stdin=pipe, stdout=pipe) as program:
         program.stdin.write(STUCK)
@@ -188,7 +192,8 @@ def wrong_stops(pl0: str):
         yield f"a fault, with a full disk: {told}"
     told = run(pl0, "check", "missing", str(TOP / "docs"), str(TOP / "checks" / "mistakes" / "mod.pl0"))
     said = told.stderr.splitlines()
-    if told.returncode != 3 or [line.rsplit(b": ", 1)[1] for line in said[:2]] != UNREAD or b"error: `mod`" not in said[2]:
+    if told.returncode != 3 or [line.rsplit(b": ", 1)[1]
+                                for line in said[:2]] != UNREAD or b"error: `mod`" not in said[2]:
         yield f"a check of a file that is missing, a folder and a mistake: {told}"
 
 

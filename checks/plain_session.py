@@ -225,11 +225,13 @@ def fit_thread(arguments: Arguments) -> dict:
 
 
 FITTING = {
-    "initialize": lambda given: {"lines": given.truth("linesStartAt1", True), "columns": given.truth("columnsStartAt1", True)},
+    "initialize": lambda given: {"lines": given.truth("linesStartAt1", True),
+                                 "columns": given.truth("columnsStartAt1", True)},
     "launch": fit_launch,
     "setBreakpoints": fit_breakpoints,
     **{command: fit_thread for command in (*RESUMING, *GOING_BACK, "pause")},
-    "stackTrace": lambda given: {**fit_thread(given), "start": given.whole("startFrame", 0), "levels": given.whole("levels", 0)},
+    "stackTrace": lambda given: {**fit_thread(given), "start": given.whole("startFrame", 0),
+                                 "levels": given.whole("levels", 0)},
     "scopes": lambda given: {"frame": given.whole("frameId")},
     "variables": lambda given: {"reference": given.whole("variablesReference")},
     "evaluate": lambda given: {"expression": given.text("expression"), "frame": given.whole("frameId", 1)},
@@ -374,8 +376,8 @@ class Session:
     """A session: what it is given changes it, and adds to the contents that leave.
 
     A piece of input is taken whole by `take`. While the program runs, `slice` accepts the report of its next slice, and
-    `give_back` that it is held, which may come after a slice of the run, once there is reason for it (`may_be_held`). When each
-    comes is open.
+    `give_back` that it is held, which may come after a slice of the run, once there is reason for it (`may_be_held`).
+    When each comes is open.
     """
 
     def __init__(self, folder: str):
@@ -415,8 +417,8 @@ class Session:
         return twin
 
     def key(self) -> tuple:
-        """What the rest of the session depends on, beside what was taken of its input, since a program's run is always the
-        same."""
+        """What the rest of the session depends on, beside what was taken of its input, since a program's run is always
+        the same."""
         return (
             self.situation, self.machine and self.machine.position, self.slices > 0, self.is_held, self.waiting_pause,
             self.waiting_plan is None, self.asked_plans, self.plan_number, tuple(one.arrivals for one in self.plan),
@@ -675,7 +677,8 @@ class Session:
         self.plan = [one.anew() for one in self.plan]
         self.report([], reason)
 
-    def report(self, numbers: list[int], reason: str | None = None, text: str | None = None, logs: tuple[str, ...] = ()) -> None:
+    def report(self, numbers: list[int], reason: str | None = None, text: str | None = None,
+               logs: tuple[str, ...] = ()) -> None:
         for number in numbers:
             self.written += 1
             if self.written > self.numbers_sent:

@@ -43,12 +43,13 @@ CONDITION = "total > 2000"
 STOP = 893
 LINES = 20
 
-# How a run of pl0dap may end in which something of a kind was refused: the status, and what stands on standard error. An
-# allocation that the program can do without changes nothing. Fault 2 of the session is out of memory.
+# How a run of pl0dap may end in which something of a kind was refused: the status, and what stands on standard error.
+# An allocation that the program can do without changes nothing. Fault 2 of the session is out of memory.
 ALLOCATION_ENDS = [(0, ""), (3, "pl0dap: no memory"), (3, "pl0dap: refused 2")]
 WRITE_ENDS = [(1, "pl0dap: write failed")]
 NO_THREAD = (3, "pl0dap: refused 7")
-# A thread may also be refused where memory runs out. The last read of a session, after its `disconnect`, changes nothing.
+# A thread may also be refused where memory runs out. The last read of a session, after its `disconnect`, changes
+# nothing.
 SESSION_ENDS = {
     "allocation": [*ALLOCATION_ENDS, NO_THREAD],
     "thread": [NO_THREAD],
@@ -113,7 +114,8 @@ SLICES_ENDS = WORK_ENDS + [
 
 @dataclasses.dataclass
 class Run:
-    """A command, the pieces that it writes where nothing is refused, and how it may end where something of a kind is."""
+    """A command, the pieces that it writes where nothing is refused, and how it may end where something of a kind
+    is."""
 
     command: list[str]
     pieces: list[bytes]
@@ -125,7 +127,8 @@ class Run:
     exchanges: list[notation.Exchange] | None = None
     # Whether it runs for as long as the client likes.
     is_endless: bool = False
-    # Of which kind one refusal must make it write other pieces, with status 0, which these are, and what that is called.
+    # Of which kind one refusal must make it write other pieces, with status 0, which these are, and what that is
+    # called.
     instead: tuple[str, list[bytes], str] = ("", [], "")
     # Whether calls are also refused from one on, and hindered.
     is_whole_program: bool = True
@@ -227,8 +230,8 @@ def runs_of_texts(speed: str) -> dict[str, Run]:
 
 
 def stored_run(line: str) -> tuple[list[str], bytes]:
-    """The arguments of a command line of pl0 whose run is stored, with the whole path of its file, and what it writes to
-    standard output."""
+    """The arguments of a command line of pl0 whose run is stored, with the whole path of its file, and what it writes
+    to standard output."""
     folder = pathlib.Path(CRATES, "pl0_runs")
     _, rest = (folder / "stdout").read_bytes().split(f"$ {line}\n".encode(), 1)
     _, *options, name = line.split()
@@ -254,8 +257,8 @@ def runs_of_pl0(pl0: str) -> dict[str, Run]:
 
 @dataclasses.dataclass
 class Outcome:
-    """What a run wrote, its status, what it said on standard error beside its log, whether a call was refused, and whether
-    no thread had been asked for then."""
+    """What a run wrote, its status, what it said on standard error beside its log, whether a call was refused, and
+    whether no thread had been asked for then."""
 
     written: bytes
     status: int
@@ -312,8 +315,8 @@ def judged(run: Run, kind: str, later: str, number: int, library: str) -> tuple[
 
 
 def is_judged(name: str, run: Run, kind: str, later: str, library: str) -> bool:
-    """Refuses each call of a kind in turn, with an s for `later` also all after it; prints how the runs ended, and answers
-    whether all ended as they may."""
+    """Refuses each call of a kind in turn, with an s for `later` also all after it; prints how the runs ended, and
+    answers whether all ended as they may."""
     ends: collections.Counter[str] = collections.Counter()
     wrong = unasked = early = 0
     for number in numbers(run):

@@ -3,12 +3,13 @@
 
 usage: release.py [CHECK]
 
-Each check is a target of the Makefile. They are run one after the other, the short ones first, and all of them also where one fails;
-the soak, which takes an hour, is run beside those that stand before it. It says which commit, which kit and which computer, and refuses
-a tree that differs from its commit; the transcripts and pictures that `make editors` writes and the record of `make plants` aren't
-looked at. With CHECK it goes on from that check, and keeps what was found of those before it, which must be of the same commit and
-kit. A check that the Makefile doesn't have counts as not run. What each one printed is in out/release/. The status is 0 where every
-check passed, 1 where one failed, and 2 where none did, but one was not run or not whole.
+Each check is a target of the Makefile. They are run one after the other, the short ones first, and all of them also
+where one fails; the soak, which takes an hour, is run beside those that stand before it. It says which commit, which
+kit and which computer, and refuses a tree that differs from its commit; the transcripts and pictures that `make
+editors` writes and the record of `make plants` aren't looked at. With CHECK it goes on from that check, and keeps what
+was found of those before it, which must be of the same commit and kit. A check that the Makefile doesn't have counts as
+not run. What each one printed is in out/release/. The status is 0 where every check passed, 1 where one failed, and 2
+where none did, but one was not run or not whole.
 """
 from __future__ import annotations
 
@@ -34,7 +35,8 @@ RUNNING: set[subprocess.Popen] = set()
 
 
 class Check(NamedTuple):
-    """A target, its variables, what it is, and whether it is one to go on with another day, and one to run beside others."""
+    """A target, its variables, what it is, and whether it is one to go on with another day, and one to run beside
+    others."""
 
     name: str
     what: str
@@ -76,7 +78,8 @@ def output(*command: str) -> str:
 
 def changed() -> list[str]:
     """The files that differ from the commit, but for what the checks write."""
-    lines = subprocess.run(["git", "status", "--porcelain"], cwd=TOP, capture_output=True, text=True, check=True).stdout.splitlines()
+    lines = subprocess.run(["git", "status", "--porcelain"], cwd=TOP, capture_output=True, text=True,
+                           check=True).stdout.splitlines()
     return [line[3:] for line in lines if not line[3:].startswith(WRITTEN)]
 
 
@@ -85,7 +88,8 @@ def computer() -> str:
         models = re.findall(r"^model name\s*: (.*)$", file.read(), re.MULTILINE)
     memory = os.sysconf("SC_PAGE_SIZE") * os.sysconf("SC_PHYS_PAGES") / 2**30
     model = models[0] if models else platform.processor() or platform.machine()
-    return f"{os.cpu_count()} of {model}, {memory:.0f} GiB, {platform.system()} {platform.release()}, Python {platform.python_version()}"
+    system = f"{platform.system()} {platform.release()}, Python {platform.python_version()}"
+    return f"{os.cpu_count()} of {model}, {memory:.0f} GiB, {system}"
 
 
 def identity() -> dict[str, str]:
@@ -115,7 +119,8 @@ def run(check: Check) -> dict[str, object]:
     commands = set(output(*command, "--dry-run").splitlines())
     log, begin = LOGS / f"{check.name}.log", time.monotonic()
     with open(log, "w", encoding="utf-8") as file:
-        with subprocess.Popen(command, cwd=TOP, stdin=subprocess.DEVNULL, stdout=file, stderr=subprocess.STDOUT) as child:
+        with subprocess.Popen(command, cwd=TOP, stdin=subprocess.DEVNULL, stdout=file,
+                              stderr=subprocess.STDOUT) as child:
             RUNNING.add(child)
             status = child.wait()
             RUNNING.remove(child)
@@ -185,7 +190,8 @@ def main() -> int:
         sys.exit(f"the tree differs from its commit: {', '.join(files[:5])}{' ..' if files[5:] else ''}")
     who = identity()
     results = kept(who, sys.argv[1]) if sys.argv[1:] else {}
-    who.update({"computer": computer(), "begun": time.strftime("%Y-%m-%d %H:%M UTC", time.gmtime()), "load": f"{os.getloadavg()[0]:.2f}"})
+    who.update({"computer": computer(), "begun": time.strftime("%Y-%m-%d %H:%M UTC", time.gmtime()),
+                "load": f"{os.getloadavg()[0]:.2f}"})
     OUT.mkdir(exist_ok=True)
     print("\n".join(f"{name}: {what}" for name, what in who.items()), flush=True)
     run_all(CHECKS[names.index(sys.argv[1]) if sys.argv[1:] else 0:], who, results)

@@ -3,12 +3,13 @@
 
 usage: rows.py PROGRAM [FROM_ZERO]
 
-Each input goes in whole and cut in two at a number of places, and one of at most 4,096 bytes a byte at a time. Between two parts
-of an input the client waits for what must come of the first. Then the worked sessions of worked.session are played, and those of
-crates/session_tests that a program can be played too, each request after the messages that are due before it. At last the sessions
-of demo/ are played, and the messages of the first compared with those of the session in docs/PROTOCOL.md. FROM_ZERO is
-`pl0dap_from_zero`, to which all of it is played as well, and then the worked sessions with requests that are numbered from 0. Prints a
-line for each input and each session, and ends with status 1 where one differs.
+Each input goes in whole and cut in two at a number of places, and one of at most 4,096 bytes a byte at a time. Between
+two parts of an input the client waits for what must come of the first. Then the worked sessions of worked.session are
+played, and those of crates/session_tests that a program can be played too, each request after the messages that are due
+before it. At last the sessions of demo/ are played, and the messages of the first compared with those of the session in
+docs/PROTOCOL.md. FROM_ZERO is `pl0dap_from_zero`, to which all of it is played as well, and then the worked sessions
+with requests that are numbered from 0. Prints a line for each input and each session, and ends with status 1 where one
+differs.
 """
 from __future__ import annotations
 
@@ -32,7 +33,8 @@ ANSWERS = [INITIALIZED, notation.content("2: ok disconnect/2", "")]
 
 
 class Row(NamedTuple):
-    """An input in parts, what must come of each before the next is given, and the status and the last line on standard error."""
+    """An input in parts, what must come of each before the next is given, and the status and the last line on standard
+    error."""
 
     name: str
     parts: list[bytes]
@@ -165,7 +167,8 @@ ROWS = [
     raw("hello", HELLO, ANSWERS),
     raw("nothing", b"", []),
     raw("last byte missing", HELLO[:-1], [INITIALIZED]),
-    raw("largest content", headed(b"Content-Length: 1048576") + b" " * 1048527 + frame(request(2, "disconnect")), ANSWERS),
+    raw("largest content", headed(b"Content-Length: 1048576") + b" " * 1048527 + frame(request(2, "disconnect")),
+        ANSWERS),
     raw("content too large", headed(b"Content-Length: 1048577"), [], 2, "pl0dap: frame 6"),
     raw("longest header", headed(b"Content-Length: 49\r\nX: " + b"a" * 997), [INITIALIZED]),
     raw("header too long", headed(b"Content-Length: 49\r\nX: " + b"a" * 998), [], 2, "pl0dap: frame 1"),
@@ -173,7 +176,8 @@ ROWS = [
     raw("two lengths", headed(b"Content-Length: 49\r\nContent-Length: 49"), [], 2, "pl0dap: frame 4"),
     raw("leading zero", headed(b"Content-Length: 049"), [], 2, "pl0dap: frame 5"),
     raw("no space", headed(b"Content-Length:49"), [], 2, "pl0dap: frame 2"),
-    raw("skipped contents", b"".join(map(frame, (b'{"seq":1}', b"[", b""))) + SKIPPED.exchanges[0].piece(), SKIPPED.answers()),
+    raw("skipped contents", b"".join(map(frame, (b'{"seq":1}', b"[", b""))) + SKIPPED.exchanges[0].piece(),
+        SKIPPED.answers()),
     *PLAYED.values(),
     raw("a framing fault in a loop without end", LOOP.parts[0] + b"\r\n", LOOP.answers[0], 2, "pl0dap: frame 3"),
     raw("two disconnects", frame(request(1, "disconnect")) + frame(request(2, "disconnect")),

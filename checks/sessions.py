@@ -4,11 +4,11 @@
 usage: sessions.py PROGRAM [COUNT] [SEED]
 
 Session number n has the seed SEED + n - 1; the seed is 1 where none is given. What must leave is worked out by
-`plain_session`, which is written apart from the adapter. In a session with an odd seed nothing is sent while a program runs, so
-each message is compared as it comes. In one with an even seed requests cross the reports of a run: what leaves must be lawful
-for one of the orders in which they can meet (`interleavings`), so two plays of a seed can differ. At a difference this prints
-the seed, the session, and the shortest one found that shows it, and ends with status 1; `sessions.py PROGRAM 1 SEED` plays that
-seed again.
+`plain_session`, which is written apart from the adapter. In a session with an odd seed nothing is sent while a program
+runs, so each message is compared as it comes. In one with an even seed requests cross the reports of a run: what leaves
+must be lawful for one of the orders in which they can meet (`interleavings`), so two plays of a seed can differ. At a
+difference this prints the seed, the session, and the shortest one found that shows it, and ends with status 1;
+`sessions.py PROGRAM 1 SEED` plays that seed again.
 """
 from __future__ import annotations
 
@@ -38,8 +38,8 @@ BEGINNING = ("configurationDone", *RESUMING, *GOING_BACK)
 
 @dataclasses.dataclass
 class Found:
-    """Where the adapter first differs from what is lawful, if it does, the messages that came, and after how many slices runs
-    may have been held."""
+    """Where the adapter first differs from what is lawful, if it does, the messages that came, and after how many
+    slices runs may have been held."""
 
     difference: str | None
     messages: list[bytes]
@@ -110,7 +110,8 @@ class Talk:
     def wait(self, kind: str) -> None:
         if kind == "moment":
             time.sleep(MOMENT)
-        while kind in ("stop", "answers") and (self.answered < self.asked or (kind == "stop" and self.runs and not self.is_over)):
+        while kind in ("stop", "answers") and (self.answered < self.asked
+                                               or (kind == "stop" and self.runs and not self.is_over)):
             if not self.receive():
                 return
 
@@ -254,12 +255,13 @@ def main() -> int:
             return 1
         counts[story.crosses] += kinds(found.messages)
         held += found.held
-    print(f"{number} sessions from seed {first} on, {sum(sum(one.values()) for one in counts.values())} messages: as they must be")
+    messages = sum(sum(one.values()) for one in counts.values())
+    print(f"{number} sessions from seed {first} on, {messages} messages: as they must be")
     for crosses, name in ((False, "exactly compared"), (True, "with requests during runs")):
         print(f"{name}: " + ", ".join(f"{count} {kind}" for kind, count in sorted(counts[crosses].items())))
     if held:
-        print(f"runs were held {len(held)} times, {sum(one > 1 for one in held)} of these after a later slice than the first, the "
-              f"latest after {max(held)}")
+        print(f"runs were held {len(held)} times, {sum(one > 1 for one in held)} of these after a later slice than the "
+              f"first, the latest after {max(held)}")
     return 0
 
 

@@ -3,13 +3,14 @@
 
 usage: soak.py [--seconds SECONDS] PROGRAM [ONE_BY_ONE] [AT_ONCE]
 
-100 sessions are played one after the other, and 20 at once. In each the loop is paused twice, and looked at between the pauses; in
-turn it only runs, or logs a message at each thousandth turn, or goes back after the first pause, by a step and to the beginning.
-A session ends, in turn, by `disconnect` where the program stopped, by `disconnect` while it runs, or by the end of the input
-while it runs. While the loop runs, the adapter must have its four threads, and as many open files as at its start, but for one that
-is open for a moment; after the session its process must be gone, with status 0 and nothing said; and at the end this script must
-have as many open files and threads as at the beginning. A session that takes more than 30 seconds, or all of them together more than
-5 minutes, hang. All of it is played again until SECONDS have passed. Ends with status 1 where something is wrong.
+100 sessions are played one after the other, and 20 at once. In each the loop is paused twice, and looked at between the
+pauses; in turn it only runs, or logs a message at each thousandth turn, or goes back after the first pause, by a step
+and to the beginning. A session ends, in turn, by `disconnect` where the program stopped, by `disconnect` while it runs,
+or by the end of the input while it runs. While the loop runs, the adapter must have its four threads, and as many open
+files as at its start, but for one that is open for a moment; after the session its process must be gone, with status 0
+and nothing said; and at the end this script must have as many open files and threads as at the beginning. A session
+that takes more than 30 seconds, or all of them together more than 5 minutes, hang. All of it is played again until
+SECONDS have passed. Ends with status 1 where something is wrong.
 """
 from __future__ import annotations
 
@@ -45,8 +46,8 @@ MOST_MEMORY = re.compile(r"^VmHWM:\s+([0-9]+) kB$", re.MULTILINE)
 
 @dataclasses.dataclass
 class Played:
-    """How a session went: its kind and end, how long it took, how long after a pause the stop came, how many messages were
-    logged, and how much memory the process had at most, in KiB."""
+    """How a session went: its kind and end, how long it took, how long after a pause the stop came, how many messages
+    were logged, and how much memory the process had at most, in KiB."""
 
     kind: str
     end: str
@@ -198,9 +199,11 @@ def tell(name: str, sessions: list[Played], seconds: float) -> bool:
     pauses = [taken for one in sessions for taken in one.pauses] or [0.0]
     print(f"{len(sessions)} sessions {name}: {counts([one.kind for one in sessions])};")
     print(f"  {counts(['by ' + one.end for one in sessions])}")
-    print(f"  {len(wrong)} went wrong; {seconds:.2f} s in all; a session at most {max(one.seconds for one in sessions):.3f} s")
-    print(f"  from `pause` to `stopped`: median {statistics.median(pauses) * 1e6:.0f} us, at most {max(pauses) * 1e6:.0f} us")
-    print(f"  {sum(one.logs for one in sessions)} messages logged; a process had at most {max(one.memory for one in sessions)} KiB")
+    longest, memory = max(one.seconds for one in sessions), max(one.memory for one in sessions)
+    print(f"  {len(wrong)} went wrong; {seconds:.2f} s in all; a session at most {longest:.3f} s")
+    print(f"  from `pause` to `stopped`: median {statistics.median(pauses) * 1e6:.0f} us, "
+          f"at most {max(pauses) * 1e6:.0f} us")
+    print(f"  {sum(one.logs for one in sessions)} messages logged; a process had at most {memory} KiB")
     for one in wrong[:5]:
         print(f"  {one.kind}, {one.end}: {one.wrong}")
     return not wrong
@@ -216,7 +219,8 @@ def round_of(program: str, folder: str, single: int, together: int) -> bool:
     watch = threading.Timer(MOST_SECONDS, give_up)
     watch.start()
     start = time.monotonic()
-    good = tell("one after the other", [played(program, folder, number) for number in range(single)], time.monotonic() - start)
+    good = tell("one after the other", [played(program, folder, number) for number in range(single)],
+                time.monotonic() - start)
     start = time.monotonic()
     with concurrent.futures.ThreadPoolExecutor(together) as pool:
         sessions = list(pool.map(lambda number: played(program, folder, number), range(together)))

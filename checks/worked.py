@@ -1,4 +1,5 @@
-"""The worked sessions, those of session_tests that a program can be played too, and where the adapter goes differently."""
+"""The worked sessions, those of session_tests that a program can be played too, and where the adapter goes
+differently."""
 from __future__ import annotations
 
 import os
@@ -65,7 +66,8 @@ def of_tests(first: int) -> list[Session]:
 
 
 def differences(program: str, first: int = 1) -> Iterator[tuple[str, str | None]]:
-    """The name of each worked session, whose requests are numbered from `first` on, and where it goes differently, or None."""
+    """The name of each worked session, whose requests are numbered from `first` on, and where it goes differently, or
+    None."""
     with open(os.path.join(HERE, "worked.session"), encoding="utf-8") as file:
         worked = sessions(file.read(), first)
     for one in [*worked, *of_tests(first)]:

@@ -3,11 +3,11 @@
 
 usage: session.py [--short] SESSION PROGRAM [ARGUMENT..]
 
-SESSION is written as checks/notation.py says. Requests are sent when all messages that stand before them have come; where some are
-joined by `+`, at once. The input ends after the last of them.
+SESSION is written as checks/notation.py says. Requests are sent when all messages that stand before them have come;
+where some are joined by `+`, at once. The input ends after the last of them.
 
-With --short, each message is printed by what it says, and not as it is. The status is that of the program, or 1 where a message
-isn't the one that SESSION has.
+With --short, each message is printed by what it says, and not as it is. The status is that of the program, or 1 where a
+message isn't the one that SESSION has.
 """
 from __future__ import annotations
 

@@ -1,14 +1,16 @@
 #!/usr/bin/env python3
-"""Compares what Visual Studio Code and Kate mark in programs, token by token, and with the steps that the adapter finds.
+"""Compares what Visual Studio Code and Kate mark in programs, token by token, and with the steps that the adapter
+finds.
 
 usage: highlighting.py PROGRAM TEXT..
 
-Each TEXT is a PL/0 program. The grammar of editors/vscode and the highlighting of editors/kate are read and followed here, as far
-as they go: a grammar that is a list of patterns, and one context of rules. Both have to mark each token of PL/0, as a keyword, a
-name, a number, a sign or a write, and nothing else; and the steps that `PROGRAM --check TEXT` lists have to begin at tokens of
-their kind. Some texts of this script's own, with tokens that touch each other, are compared as well, but for the steps. Where
-Kate's own engine is installed (`kate-syntax-highlighter`), it has to give the characters of each kind a look of their own. Prints
-a line for each difference, and ends with status 1 where there is one.
+Each TEXT is a PL/0 program. The grammar of editors/vscode and the highlighting of editors/kate are read and followed
+here, as far as they go: a grammar that is a list of patterns, and one context of rules. Both have to mark each token of
+PL/0, as a keyword, a name, a number, a sign or a write, and nothing else; and the steps that `PROGRAM --check TEXT`
+lists have to begin at tokens of their kind. Some texts of this script's own, with tokens that touch each other, are
+compared as well, but for the steps. Where Kate's own engine is installed (`kate-syntax-highlighter`), it has to give
+the characters of each kind a look of their own. Prints a line for each difference, and ends with status 1 where there
+is one.
 """
 from __future__ import annotations
 
@@ -33,14 +35,15 @@ WORDS = frozenset("const var procedure call begin end if then while do odd".spli
 TOKEN = re.compile(r"([A-Za-z][A-Za-z0-9]*)|([0-9]+)|(!)|(:=|<=|>=|[-+*/()=#<>,;.])")
 # The kind for a scope of the grammar, of which the longest beginning counts; and for an attribute of Kate's.
 SCOPES = {
-    "keyword": KEYWORD, "storage": KEYWORD, "variable": NAME, "entity": NAME, "constant": NUMBER, "keyword.operator": SIGN,
+    "keyword": KEYWORD, "storage": KEYWORD, "variable": NAME, "entity": NAME, "constant": NUMBER,
+    "keyword.operator": SIGN,
     "keyword.operator.word": KEYWORD, "punctuation": SIGN, "support": WRITE, "invalid": "mistake",
 }
 ATTRIBUTES = {"Keyword": KEYWORD, "Name": NAME, "Number": NUMBER, "Operator": SIGN, "Write": WRITE}
 # The text and the kind of the token with which a step begins, or which it is for a return.
 BEGINNINGS = {
-    "assign": ("", NAME), "call": ("call", KEYWORD), "if": ("if", KEYWORD), "while": ("while", KEYWORD), "write": ("!", WRITE),
-    "return": ("", SIGN),
+    "assign": ("", NAME), "call": ("call", KEYWORD), "if": ("if", KEYWORD), "while": ("while", KEYWORD),
+    "write": ("!", WRITE), "return": ("", SIGN),
 }
 TOUCHING = (
     "const a=1,b2=22;var begin2,Begin,odder,endx;procedure call2;;begin2:=-a+(b2*3)/4;",
@@ -209,7 +212,8 @@ def looks(text: str) -> list[tuple[str, str]]:
         with open(place, "w", encoding="ascii", newline="") as file:
             file.write(text)
         settings = {**os.environ, "XDG_DATA_HOME": home, "QT_QPA_PLATFORM": "offscreen"}
-        run = subprocess.run([ENGINE, "--syntax", "PL/0", place], env=settings, stdout=subprocess.PIPE, text=True, check=True)
+        run = subprocess.run([ENGINE, "--syntax", "PL/0", place], env=settings, stdout=subprocess.PIPE, text=True,
+                             check=True)
     page = Looks()
     page.feed(run.stdout)
     return page.looks
@@ -243,7 +247,8 @@ class Comparison:
         wanted = marks(text, tokens)
         self.counts["texts"] += 1
         self.counts["tokens"] += len(wanted)
-        yield from first_difference("Visual Studio Code", wanted, marks(text, lambda *at: marks_of_code(*at, self.code)))
+        yield from first_difference("Visual Studio Code", wanted,
+                                    marks(text, lambda *at: marks_of_code(*at, self.code)))
         yield from first_difference("Kate", wanted, marks(text, lambda *at: marks_of_kate(*at, self.kate)))
         if self.has_engine:
             yield from wrong_looks(text, wanted, self.looks)

@@ -3,10 +3,10 @@
 
 usage: vsix.py FILE
 
-A `.vsix` is a zip with a list of content types, a manifest, and the extension's files in the folder `extension`. The same files
-give the same bytes. After packing, FILE is read back: the manifest has to say what package.json says, each file that one of
-them names has to be there, the grammar's patterns and the snippets have to be readable, and the snippets have to be texts of
-PL/0 tokens. Prints what is wrong, and ends with status 1 where anything is.
+A `.vsix` is a zip with a list of content types, a manifest, and the extension's files in the folder `extension`. The
+same files give the same bytes. After packing, FILE is read back: the manifest has to say what package.json says, each
+file that one of them names has to be there, the grammar's patterns and the snippets have to be readable, and the
+snippets have to be texts of PL/0 tokens. Prints what is wrong, and ends with status 1 where anything is.
 """
 from __future__ import annotations
 
@@ -97,7 +97,8 @@ def pack(place: str) -> None:
 
 
 def wrong_types(file: zipfile.ZipFile) -> Iterator[str]:
-    kinds = {one.get("Extension") for one in xml.etree.ElementTree.fromstring(file.read(TYPES)).iter(f"{TYPES_SPACE}Default")}
+    kinds = {one.get("Extension")
+             for one in xml.etree.ElementTree.fromstring(file.read(TYPES)).iter(f"{TYPES_SPACE}Default")}
     for name in file.namelist():
         if name != TYPES and os.path.splitext(name)[1] not in kinds:
             yield f"{TYPES} has no type for {name}"

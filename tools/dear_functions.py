@@ -3,10 +3,10 @@
 
 usage: dear_functions.py [CRATE..]
 
-Reads what `rt check` keeps of a function in a crate's `out/incremental`, the file whose name ends in `.Lts.oantt`, and takes
-two processor seconds for each million bytes of it; measured, it is 1.3 to 2. Prints a row for each of the ten largest of each
-crate, or of all that were checked if none is given, and then a line for each function that takes over ten seconds: the status
-is 1 where there is one. A function that is no longer in `src/` isn't looked at.
+Reads what `rt check` keeps of a function in a crate's `out/incremental`, the file whose name ends in `.Lts.oantt`, and
+takes two processor seconds for each million bytes of it; measured, it is 1.3 to 2. Prints a row for each of the ten
+largest of each crate, or of all that were checked if none is given, and then a line for each function that takes over
+ten seconds: the status is 1 where there is one. A function that is no longer in `src/` isn't looked at.
 """
 from __future__ import annotations
 
@@ -86,7 +86,8 @@ def main() -> int:
             print(f"| `{name}` | `{function.path}` | {function.size / 1_000_000:.1f} | {function.seconds:.0f} |")
         dear += [function for function in functions if function.seconds > LIMIT]
     for function in sorted(dear, key=lambda function: -function.size):
-        print(f"{function.crate}: {function.path} takes some {function.seconds:.0f} processor seconds, over {LIMIT:.0f}")
+        print(f"{function.crate}: {function.path} takes some {function.seconds:.0f} processor seconds, "
+              f"over {LIMIT:.0f}")
     return 1 if dear else 0
 
 

@@ -3,10 +3,10 @@
 
 usage: dist.py
 
-`make install` copies the programs into the archive's folder, and editors/vsix.py packs the extension. Its file INSTALL.md says
-how to install it, of which commit and by which kit the programs were proved, and their digests. The version is the one that the
-program's help says. The same programs at the same commit give the same bytes. Prints the archive's place and size. Nothing is
-proved or built.
+`make install` copies the programs into the archive's folder, and editors/vsix.py packs the extension. Its file
+INSTALL.md says how to install it, of which commit and by which kit the programs were proved, and their digests. The
+version is the one that the program's help says. The same programs at the same commit give the same bytes. Prints the
+archive's place and size. Nothing is proved or built.
 """
 from __future__ import annotations
 
@@ -83,7 +83,8 @@ def glibc(programs: list[pathlib.Path]) -> str:
 def install_page(folder: pathlib.Path) -> str:
     """What the archive says of itself."""
     programs = [folder / "bin" / name for name in PROVED]
-    copied = sorted(path.relative_to(folder) for top in ("bin", "share") for path in (folder / top).rglob("*") if path.is_file())
+    copied = sorted(path.relative_to(folder) for top in ("bin", "share") for path in (folder / top).rglob("*")
+                    if path.is_file())
     return INSTALL.format(
         version=version(), glibc=glibc(programs), installed=" ".join(map(str, copied)),
         programs=", ".join(f"`{name}`" for name in PROVED), commit=commit(), kit=said("rt", "version"),

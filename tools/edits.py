@@ -3,9 +3,9 @@
 
 usage: edits.py
 
-An edit has lines `file: F`, and after each pairs of lines `old: TEXT` and `new: TEXT`; each old text has to stand exactly
-once in F, after the pairs before it. Prints what is wrong, also where a crate has more than four in must-fail/, and ends
-with status 1 where anything is.
+An edit has lines `file: F`, and after each pairs of lines `old: TEXT` and `new: TEXT`; each old text has to stand
+exactly once in F, after the pairs before it. Prints what is wrong, also where a crate has more than four in must-fail/,
+and ends with status 1 where anything is.
 """
 from __future__ import annotations
 

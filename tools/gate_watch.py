@@ -3,10 +3,11 @@
 
 usage: gate_watch.py [COMMAND..]
 
-Runs `rt ci --anew`, or COMMAND, and looks once a second at the processes below it. At its end it prints a row for each crate, the
-processor seconds of the prover and the compilers that worked for it, the dearest first, then the sum, the wall time, and the most
-memory that all had together. What a process takes after the last look at it is missed. The status is that of the command, or 1 where
-that is 0 and the budget isn't kept: what is above it stands on standard error.
+Runs `rt ci --anew`, or COMMAND, and looks once a second at the processes below it. At its end it prints a row for each
+crate, the processor seconds of the prover and the compilers that worked for it, the dearest first, then the sum, the
+wall time, and the most memory that all had together. What a process takes after the last look at it is missed. The
+status is that of the command, or 1 where that is 0 and the budget isn't kept: what is above it stands on standard
+error.
 """
 from __future__ import annotations
 
@@ -99,9 +100,11 @@ def watch(command: list[str]) -> Watched:
 
 def above_budget(seconds: dict[str, float]) -> list[str]:
     """What takes more than it may."""
-    found = [f"{name} takes over {CRATE_MINUTES} minutes" for name, spent in seconds.items() if spent > 60 * CRATE_MINUTES]
+    found = [f"{name} takes over {CRATE_MINUTES} minutes" for name, spent in seconds.items()
+             if spent > 60 * CRATE_MINUTES]
     whole = sum(seconds.values()) / 60
-    return found + ([f"the whole takes {whole:.0f} minutes, and may take {WHOLE_MINUTES}"] if whole > WHOLE_MINUTES else [])
+    return found + ([f"the whole takes {whole:.0f} minutes, and may take {WHOLE_MINUTES}"] if whole > WHOLE_MINUTES
+                    else [])
 
 
 def main() -> int:

@@ -3,20 +3,21 @@
 
 usage: pages.py [--laws]
 
-In README.md, CHANGELOG.md and docs/*.md a link has to lead to a file, and to a heading where it names one. A name in backquotes
-that ends like a source file or a script has to be that of a file of the repository, or the end of its path; names that stand for
-others, such as `src/NAME.rt`, aren't looked at. A name that stands with its file, as in "`NAME` (`FILE`)", "(`NAME`, `FILE`)",
-"`NAME`: `FILE`" and "`NAME` in `FILE`", or before its file in a row of a table, has to be declared in that file. Prose has lines of
-at most 124 columns. In docs/PROMISES.md stand the name of each law of a session's history and of each of its clauses. The version in
-the first line of the program's help is that of the manual pages, of the extension, and of the newest changes. In the model of the
-threads each process and inline names, in the comment before it, what it stands for: `@ FILE: NAME, NAME`. The files and their
-functions, types and variants have to be there, and a size, `@size FILE: NAME (VALUE)`, has to be the constant's.
+In README.md, CHANGELOG.md and docs/*.md a link has to lead to a file, and to a heading where it names one. A name in
+backquotes that ends like a source file or a script has to be that of a file of the repository, or the end of its path;
+names that stand for others, such as `src/NAME.rt`, aren't looked at. A name that stands with its file, as in "`NAME`
+(`FILE`)", "(`NAME`, `FILE`)", "`NAME`: `FILE`" and "`NAME` in `FILE`", or before its file in a row of a table, has to
+be declared in that file. Prose has lines of at most 124 columns. In docs/PROMISES.md stand the name of each law of a
+session's history and of each of its clauses. The version in the first line of the program's help is that of the manual
+pages, of the extension, and of the newest changes. In the model of the threads each process and inline names, in the
+comment before it, what it stands for: `@ FILE: NAME, NAME`. The files and their functions, types and variants have to
+be there, and a size, `@size FILE: NAME (VALUE)`, has to be the constant's.
 
-In sources no function has over 40 lines, contracts not counted, but those of LONG_FUNCTIONS. Lines of contracts, definitions and
-proofs have at most 120 columns, but for imports, which the kit keeps on one line, and names of goals.
+In sources no function has over 40 lines, contracts not counted, but those of LONG_FUNCTIONS. Lines of contracts,
+definitions and proofs have at most 120 columns, but for imports, which the kit keeps on one line, and names of goals.
 
-Prints what is wrong, and ends with status 1 where anything is. With --laws it prints instead, for each law function that proofs
-answer, each of its clauses, what that says, and the lemmas by which it is answered, with their files.
+Prints what is wrong, and ends with status 1 where anything is. With --laws it prints instead, for each law function
+that proofs answer, each of its clauses, what that says, and the lemmas by which it is answered, with their files.
 """
 from __future__ import annotations
 
@@ -45,7 +46,8 @@ LINK = re.compile(r"\]\(([^)#]*)(?:#([^)]*))?\)")
 NAME = re.compile(r"`([\w./*-]+\.(?:rt|antt|py|edit|session|md|lua|json|el|txt|c))`")
 # What stands for a name, and what begins a file of a user's own.
 STANDS_FOR = re.compile(r"NAME|MODULE|\bName\b|\bX\.|/F/|^\.")
-# A law function with its clauses, and one of these; the answer to a goal of one, and a lemma file with what is used of it.
+# A law function with its clauses, and one of these; the answer to a goal of one, and a lemma file with what is used of
+# it.
 LAW = re.compile(r"^pub fn (\w+_laws)\(.*\)\n((?:    (?:ensures|//| ) .*\n)+)", re.MULTILINE)
 CLAUSE = re.compile(r"^    ensures (\w*) ?\{ (.*?) \}$", re.MULTILINE | re.DOTALL)
 ANSWER = re.compile(r"^returns(?:-clause-(\w+))? c =(.*?)(?=^pub |\Z)", re.MULTILINE | re.DOTALL)
@@ -64,11 +66,13 @@ FUNCTION = re.compile(r"^( *)(?:pub(?:\([a-z ]+\))? )?(?:const )?(?:unsafe )?(?:
 CONTRACT = re.compile(r"^ *(?:requires|ensures|decreases|invariant)\b")
 # A line of a contract, of a type's ghost field or invariant, or of what goes on with one.
 STATED = re.compile(r"^ *(?:(?:requires|ensures|decreases|invariant)\b|(?:pub )?ghost (?!use |fn )\w|[×→∧∨])")
-# A file, and names in a row in front of one: in prose with a word or a bracket between, or as the last two cells of a row.
+# A file, and names in a row in front of one: in prose with a word or a bracket between, or as the last two cells of a
+# row.
 FILE = r"`(?:[\w./-]+/)?\w+\.(?:rt|antt|py)`"
 WORDS = r"`[\w:]+`(?:(?:, | and |, and | or )`[\w:]+`)*"
 FILES = rf"{FILE}(?:(?:, | and ){FILE})*"
-# What declares a name: an item's word before it, or what follows a field, a variant, a lemma or a constant; or a list that passes it on.
+# What declares a name: an item's word before it, or what follows a field, a variant, a lemma or a constant; or a list
+# that passes it on.
 DECLARED = (
     r"^ *(?:pub(?:\([a-z ]+\))? )?(?:(?:(?:const |unsafe |ghost )*(?:fn|struct|enum|trait|const|static|type|mod)"
     r"|data|record|def|class) {0}\b|(?:(?:abbrev|opaque|pub) )*{0}(?: ?[:,(={{]|$))|^(?:pub use|from) .*\b{0}\b"
@@ -172,15 +176,18 @@ def wrong_laws() -> Iterator[str]:
 
 
 def answered_laws() -> Iterator[tuple[str, str, str, str]]:
-    """Each clause of a law that its proofs answer: the law, the clause, what it says, and the lemmas with their files."""
+    """Each clause of a law that its proofs answer: the law, the clause, what it says, and the lemmas with their
+    files."""
     for answers in sorted(TOP.glob("crates/*/proofs/**/*_laws/Answers.antt")):
         crate, text = answers.relative_to(TOP).parts[1], answers.read_text(encoding="utf-8")
-        sources = "".join(file.read_text(encoding="utf-8") for file in sorted((TOP / "crates" / crate / "src").rglob("*.rt")))
+        sources = "".join(file.read_text(encoding="utf-8")
+                          for file in sorted((TOP / "crates" / crate / "src").rglob("*.rt")))
         says = dict(CLAUSE.findall(dict(LAW.findall(sources)).get(answers.parent.name, "")))
         used = [(name.strip(), f"{of}/proofs/{path.replace('.', '/')}.antt")
                 for of, path, names in LEMMAS.findall(text) if of == crate for name in names.split(",")]
         for clause, body in ANSWER.findall(text):
-            lemmas = [f"{name} ({file})" for name, file in used if re.search(rf"(?<![\w-]){re.escape(name)}(?![\w-])", body)]
+            lemmas = [f"{name} ({file})" for name, file in used
+                      if re.search(rf"(?<![\w-]){re.escape(name)}(?![\w-])", body)]
             said = says.get(clause, "") if clause else " ".join(says.values())
             yield answers.parent.name, clause or " ".join(says), said, ", ".join(lemmas)
 
@@ -246,7 +253,8 @@ def functions(text: str) -> Iterator[tuple[str, int]]:
 
 def is_last(line: str, indent: str) -> bool:
     """Whether a line ends a function that is indented so far: its brace, or the end of a declaration without a body."""
-    return line == indent + "}" or line.startswith(indent) and line.endswith((";", "{}", " }")) and not line.startswith(indent + " ")
+    ends = line.endswith((";", "{}", " }"))
+    return line == indent + "}" or line.startswith(indent) and ends and not line.startswith(indent + " ")
 
 
 def long_functions() -> Iterator[str]:

@@ -1,5 +1,6 @@
 #!/usr/bin/env python3
-"""Proves the libraries of programs, side by side where none stands below another, those with the longest chain above them first.
+"""Proves the libraries of programs, side by side where none stands below another, those with the longest chain above
+them first.
 
 usage: prove.py CRATE..
 
@@ -66,7 +67,8 @@ def copy_to(folder: pathlib.Path) -> pathlib.Path:
 
 
 def jobs(running: int, ready: int) -> int:
-    """How many processors work on a library: all where it is alone, two while less than half of them have work, else one."""
+    """How many processors work on a library: all where it is alone, two while less than half of them have work, else
+    one."""
     cores = len(os.sched_getaffinity(0))
     if running == 0 and ready == 1:
         return cores
@@ -95,8 +97,8 @@ def prove(top: pathlib.Path, name: str, processors: int) -> Proof:
         bring(library, PROVED, TOP, top)
     bring(name, WORK, TOP, top)
     run = subprocess.run(
-        ["rt", "lib", "--jobs", str(processors)], cwd=top / "crates" / name, stdin=subprocess.DEVNULL, stdout=subprocess.PIPE,
-        stderr=subprocess.STDOUT, text=True, errors="replace",
+        ["rt", "lib", "--jobs", str(processors)], cwd=top / "crates" / name, stdin=subprocess.DEVNULL,
+        stdout=subprocess.PIPE, stderr=subprocess.STDOUT, text=True, errors="replace",
     )
     if run.returncode == 0:
         bring(name, PROVED, top, TOP)
@@ -164,7 +166,8 @@ def main() -> int:
         print(f"{len(names)} libraries are proved, in {len(copies)} copies of the crates", flush=True)
         proving = Proving(names, copies)
         proving.run()
-    print(f"{len(proving.proved)} of {len(names)} libraries are proved, in {(time.monotonic() - begin) / 60:.1f} minutes", flush=True)
+    minutes = (time.monotonic() - begin) / 60
+    print(f"{len(proving.proved)} of {len(names)} libraries are proved, in {minutes:.1f} minutes", flush=True)
     return 1 if proving.failed else 0
 
 

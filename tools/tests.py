@@ -4,10 +4,10 @@
 usage: tests.py [PART..]
 
 The parts are the crates of tests, which `rt try --test` builds and runs; two programs, which are built as files in
-out/unproved/; the scripts of checks/ that try these; and `make pages`. A part isn't run again while its files are as they
-were when it last passed: the sources of its crate and of the libraries below it, and for a script those of its program, and
-all pages, examples, scripts and stored runs. The pages are looked at each time. With PART only these are run, and the
-programs that they need.
+out/unproved/; the scripts of checks/ that try these; and `make pages`. A part isn't run again while its files are as
+they were when it last passed: the sources of its crate and of the libraries below it, and for a script those of its
+program, and all pages, examples, scripts and stored runs. The pages are looked at each time. With PART only these are
+run, and the programs that they need.
 
 Prints a line for each part as it ends, and all that a part printed that fails. The last line is `unproved: N passed, M
 failed`, where each test of a crate counts, and each other part once. The status is 0 where nothing failed, else 1.
@@ -47,7 +47,8 @@ RUNNING: set[subprocess.Popen] = set()
 
 
 class Part(NamedTuple):
-    """What is run, in which folder, of which crate, if of one; the program that it needs and the file that it makes, if it does."""
+    """What is run, in which folder, of which crate, if of one; the program that it needs and the file that it makes, if
+    it does."""
 
     name: str
     crate: str
@@ -117,7 +118,8 @@ def files_of(part: Part) -> Iterator[pathlib.Path]:
 
 
 def checksum(part: Part, kit: str) -> str:
-    """A number that changes with what the outcome of a part rests on: its command, the kit, its crates' libraries, its files."""
+    """A number that changes with what the outcome of a part rests on: its command, the kit, its crates' libraries, its
+    files."""
     lines = crate_lines()
     crates = [lines[crate] for crate in [*libraries(part.crate), part.crate]] if part.crate else []
     found = hashlib.sha256(repr((part.command, kit, crates)).encode())
@@ -132,8 +134,8 @@ def run(part: Part) -> Outcome:
     begin = time.monotonic()
     environment = {**os.environ, "PYTHONUNBUFFERED": "1"}
     with subprocess.Popen(
-        part.command, cwd=part.folder, env=environment, stdin=subprocess.DEVNULL, stdout=subprocess.PIPE, stderr=subprocess.STDOUT,
-        text=True, errors="replace",
+        part.command, cwd=part.folder, env=environment, stdin=subprocess.DEVNULL, stdout=subprocess.PIPE,
+        stderr=subprocess.STDOUT, text=True, errors="replace",
     ) as child:
         RUNNING.add(child)
         text, _ = child.communicate()
@@ -146,7 +148,8 @@ def run(part: Part) -> Outcome:
 
 
 class Record:
-    """What passed, with the checksum of each part then; kept in a file, so that a run that is broken off loses nothing."""
+    """What passed, with the checksum of each part then; kept in a file, so that a run that is broken off loses
+    nothing."""
 
     def __init__(self, kit: str):
         self.kit = kit
@@ -239,15 +242,17 @@ def main() -> int:
     UNPROVED.mkdir(parents=True, exist_ok=True)
     kit = subprocess.run(["rt", "version"], capture_output=True, text=True, check=True).stdout
     begin, some = time.monotonic(), Tests(parts, Record(kit))
-    print("Nothing is proved here: tests run on what is built without a proof. `make check` is the merge gate.", flush=True)
+    print("Nothing is proved here: tests run on what is built without a proof. `make check` is the merge gate.",
+          flush=True)
     try:
         some.run(side_by_side())
     finally:
         for child in set(RUNNING):
             child.terminate()
     used = resource.getrusage(resource.RUSAGE_CHILDREN)
-    minutes = f"{(time.monotonic() - begin) / 60:.1f} minutes, {(used.ru_utime + used.ru_stime) / 60:.0f} of the processors"
-    print(f"{minutes}; the largest process took {used.ru_maxrss / 2**20:.1f} GB. Nothing was proved.")
+    minutes, work = (time.monotonic() - begin) / 60, (used.ru_utime + used.ru_stime) / 60
+    print(f"{minutes:.1f} minutes, {work:.0f} of the processors; the largest process took "
+          f"{used.ru_maxrss / 2**20:.1f} GB. Nothing was proved.")
     passed, failed = (sum(one[place] for one in some.outcomes.values()) for place in (0, 1))
     print(f"unproved: {passed} passed, {failed} failed")
     return 1 if failed else 0

@@ -3,10 +3,11 @@
 
 usage: unproved.py PROGRAM FILE
 
-`rt try` builds the program with checks in it, which stop it at an overflow, an index out of range or a wrong use of memory, and
-make it some 40 times slower than the proved one. It deletes what it has built as soon as that has ended. So the program is run
-to check the text in a pipe, and while it waits for this text its file is copied. Prints how long it takes, and, where the
-program isn't built, what `rt try` said. The status is 1 where it isn't, or where it doesn't check the text rightly.
+`rt try` builds the program with checks in it, which stop it at an overflow, an index out of range or a wrong use of
+memory, and make it some 40 times slower than the proved one. It deletes what it has built as soon as that has ended. So
+the program is run to check the text in a pipe, and while it waits for this text its file is copied. Prints how long it
+takes, and, where the program isn't built, what `rt try` said. The status is 1 where it isn't, or where it doesn't check
+the text rightly.
 """
 from __future__ import annotations
 
@@ -35,7 +36,8 @@ def opened(pipe: pathlib.Path) -> int | None:
 
 
 def wait_for_reader(name: str, trying: subprocess.Popen, pipe: pathlib.Path) -> int | None:
-    """The end of the pipe to write to, once the program reads it; None where `rt try` ends before. Says how long it takes."""
+    """The end of the pipe to write to, once the program reads it; None where `rt try` ends before. Says how long it
+    takes."""
     begin = said = time.monotonic()
     while (end := opened(pipe)) is None and trying.poll() is None:
         time.sleep(0.05)
@@ -51,8 +53,8 @@ def build(name: str, file: pathlib.Path) -> bool:
         pipe = pathlib.Path(folder, "text.pl0")
         os.mkfifo(pipe)
         trying = subprocess.Popen(
-            ["rt", "try", "--", *CHECKING[name], str(pipe)], cwd=TOP / "crates" / name, env={**os.environ, "TMPDIR": folder},
-            stdin=subprocess.DEVNULL, stdout=notes, stderr=notes,
+            ["rt", "try", "--", *CHECKING[name], str(pipe)], cwd=TOP / "crates" / name,
+            env={**os.environ, "TMPDIR": folder}, stdin=subprocess.DEVNULL, stdout=notes, stderr=notes,
         )
         try:
             end = wait_for_reader(name, trying, pipe)

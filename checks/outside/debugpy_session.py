@@ -3,9 +3,9 @@
 
 usage: debugpy_session.py PROGRAM [ARGUMENT..]
 
-PROGRAM is the adapter. The session has a breakpoint with a condition, a log point, frames, scopes, variables, an expression, a step
-back and the program's end; before it two launches are refused. Prints what is wrong, and ends with status 1 where anything is. Status
-2: `debugpy.common.messaging` isn't installed (Debian: python3-debugpy).
+PROGRAM is the adapter. The session has a breakpoint with a condition, a log point, frames, scopes, variables, an
+expression, a step back and the program's end; before it two launches are refused. Prints what is wrong, and ends with
+status 1 where anything is. Status 2: `debugpy.common.messaging` isn't installed (Debian: python3-debugpy).
 """
 import os
 import subprocess
@@ -54,7 +54,8 @@ class Session:
     def __init__(self, command: list[str]):
         self.child = subprocess.Popen(command, stdin=subprocess.PIPE, stdout=subprocess.PIPE)
         self.events = Events()
-        self.channel = messaging.JsonMessageChannel(messaging.JsonIOStream.from_process(self.child, name="pl0dap"), self.events)
+        self.channel = messaging.JsonMessageChannel(messaging.JsonIOStream.from_process(self.child, name="pl0dap"),
+                                                    self.events)
         self.channel.start()
 
     def ask(self, command: str, **arguments: object) -> messaging.MessageDict:
@@ -92,11 +93,13 @@ def start(session: Session) -> Iterator[str]:
         wrong.write("! x.")
         wrong.flush()
         yield from differs("a wrong text", "syntax 10 1 3" in session.refusal("launch", program=wrong.name), True)
-    yield from differs("no file", "cannotRead" in session.refusal("launch", program=os.path.join(TOP, "none.pl0")), True)
+    yield from differs("no file", "cannotRead" in session.refusal("launch", program=os.path.join(TOP, "none.pl0")),
+                       True)
     session.ask("launch", program=PROGRAM)
     yield from filter(None, [session.events.wait("initialized")])
     answer = session.set_breakpoints(BREAKPOINTS)
-    yield from differs("breakpoints", [one["verified"] for one in answer("breakpoints", messaging.json.array())], [True, True])
+    yield from differs("breakpoints", [one["verified"] for one in answer("breakpoints", messaging.json.array())],
+                       [True, True])
     session.ask("configurationDone")
     yield from filter(None, [session.events.wait("stopped")])
 
@@ -125,7 +128,8 @@ def leave(session: Session) -> Iterator[str]:
     session.channel.close()
     yield from differs("the status", session.child.wait(LIMIT), 0)
     yield from differs("logs", [text for category, text in session.events.outputs if category == "console"], LOGS)
-    yield from differs("numbers", [text for category, text in session.events.outputs if category == "stdout"], ["3628800\n"])
+    yield from differs("numbers", [text for category, text in session.events.outputs if category == "stdout"],
+                       ["3628800\n"])
 
 
 def main() -> int:

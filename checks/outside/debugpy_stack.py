@@ -3,10 +3,10 @@
 
 usage: debugpy_stack.py PROGRAM [ARGUMENT..]
 
-PROGRAM is the example `stack_adapter`. The session has a stop on entry, breakpoints, a step out of a call, frames, scopes, variables,
-an expression, a fault, a second launch that comes to its end, and a third that is paused in a loop without end; before them two
-launches are refused. Prints what is wrong, and ends with status 1 where anything is. Status 2: `debugpy.common.messaging` isn't
-installed (Debian: python3-debugpy).
+PROGRAM is the example `stack_adapter`. The session has a stop on entry, breakpoints, a step out of a call, frames,
+scopes, variables, an expression, a fault, a second launch that comes to its end, and a third that is paused in a loop
+without end; before them two launches are refused. Prints what is wrong, and ends with status 1 where anything is.
+Status 2: `debugpy.common.messaging` isn't installed (Debian: python3-debugpy).
 """
 import os
 import sys

@@ -3,9 +3,9 @@
 
 usage: message_types.py FILE TRANSCRIPT..
 
-In a transcript each line that begins with `<-` is a content that the adapter sent. FILE gets each as a constant of its type in
-`@vscode/debugprotocol`; of contents that differ in digits alone one is written. Prints how many there were, and how many were
-written. Ends with status 1 where a content is of no known type, or where there is none.
+In a transcript each line that begins with `<-` is a content that the adapter sent. FILE gets each as a constant of its
+type in `@vscode/debugprotocol`; of contents that differ in digits alone one is written. Prints how many there were, and
+how many were written. Ends with status 1 where a content is of no known type, or where there is none.
 """
 import json
 import re
@@ -15,8 +15,8 @@ from collections.abc import Iterator
 SENT = "<- "
 EVENTS = ("initialized", "output", "stopped", "exited", "terminated")
 RESPONSES = (
-    "initialize", "launch", "setBreakpoints", "configurationDone", "threads", "continue", "next", "stepIn", "stepOut", "stepBack",
-    "reverseContinue", "pause", "stackTrace", "scopes", "variables", "evaluate", "disconnect",
+    "initialize", "launch", "setBreakpoints", "configurationDone", "threads", "continue", "next", "stepIn", "stepOut",
+    "stepBack", "reverseContinue", "pause", "stackTrace", "scopes", "variables", "evaluate", "disconnect",
 )
 
 

@@ -3,14 +3,16 @@
 
 usage: listen.py PORT PROGRAM [ARGUMENT..]
 
-CodeLite 17 starts this as its `dap` server, and connects to PORT of this computer. One connection is taken; the adapter PROGRAM gets
-what comes over it, and what it writes goes back. Some messages are changed on the way, and all else is passed on as it is:
+CodeLite 17 starts this as its `dap` server, and connects to PORT of this computer. One connection is taken; the adapter
+PROGRAM gets what comes over it, and what it writes goes back. Some messages are changed on the way, and all else is
+passed on as it is:
 
-- CodeLite says in `initialize` that it counts lines and columns from 0, but counts them from 1: both members become true.
+- CodeLite says in `initialize` that it counts lines and columns from 0, but counts them from 1: both members become
+  true.
 - Before a first stop CodeLite pauses thread -1: that becomes 1, the one thread there is.
 - Each breakpoint of an answer gets an `id` and its `source`: CodeLite drops those from its list that have none.
-- Where a launch is refused for a mistake in the text, the message becomes what `pl0 check` says of it, if that can be started. It is
-  printed to standard error too.
+- Where a launch is refused for a mistake in the text, the message becomes what `pl0 check` says of it, if that can be
+  started. It is printed to standard error too.
 """
 from __future__ import annotations
 
@@ -47,7 +49,8 @@ def mistake(program: str) -> str | None:
     if checker is None:
         return None
     try:
-        run = subprocess.run([checker, "check", program], stdin=subprocess.DEVNULL, capture_output=True, text=True, timeout=CHECKING)
+        run = subprocess.run([checker, "check", program], stdin=subprocess.DEVNULL, capture_output=True, text=True,
+                             timeout=CHECKING)
     except (OSError, ValueError, subprocess.TimeoutExpired):
         return None
     return run.stderr.strip() if run.returncode == HAS_MISTAKE else None
@@ -105,7 +108,8 @@ class Session:
 
 
 def frames(stream) -> Iterator[tuple[bytes, bytes | None]]:
-    """What comes, frame by frame: each as it is, and its content; None in place of the content where it is no whole frame."""
+    """What comes, frame by frame: each as it is, and its content; None in place of the content where it is no whole
+    frame."""
     while line := stream.readline():
         header = line
         while line and not header.endswith(b"\r\n\r\n"):
@@ -153,7 +157,8 @@ def main() -> int:
     try:
         server = socket.create_server(("127.0.0.1", int(sys.argv[1])))
     except (OSError, OverflowError) as error:
-        print(f"Port {sys.argv[1]} can't be used: {error}. Choose another one, in both places of the settings.", file=sys.stderr)
+        print(f"Port {sys.argv[1]} can't be used: {error}. Choose another one, in both places of the settings.",
+              file=sys.stderr)
         return NO_PORT
     with server:
         connection, _ = server.accept()

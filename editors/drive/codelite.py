@@ -1,11 +1,13 @@
 #!/usr/bin/env python3
-"""CodeLite debugs a program on a display of its own: keys and the mouse are pressed for it, and what it shows isn't looked at.
+"""CodeLite debugs a program on a display of its own: keys and the mouse are pressed for it, and what it shows isn't
+looked at.
 
 usage: codelite.py SESSION COMMAND..
 
-SESSION is factorial or endless. COMMAND starts the adapter, or the proxy before it. Ends with status 0 once all is pressed; the
-session is in the proxy's transcript. Needs codelite (17), Xvfb and xdotool. CodeLite's settings are in a folder that is removed
-afterwards. It has no window manager, and so the window's place, and that of all in it, is always the same.
+SESSION is factorial or endless. COMMAND starts the adapter, or the proxy before it. Ends with status 0 once all is
+pressed; the session is in the proxy's transcript. Needs codelite (17), Xvfb and xdotool. CodeLite's settings are in a
+folder that is removed afterwards. It has no window manager, and so the window's place, and that of all in it, is always
+the same.
 """
 from __future__ import annotations
 
@@ -24,7 +26,8 @@ LISTEN = os.path.join(TOP, "editors", "codelite", "listen.py")
 SETTINGS = os.path.join(TOP, "editors", "codelite", "debug-adapter-client.conf")
 START, REST = 60, 2.0  # seconds that CodeLite gets at most to start, and after each press
 LONG = float(os.environ.get("DRIVE_SECONDS", "8"))  # seconds that the adapter gets to start
-# What CodeLite has debugged before: it takes the program only from the list of these, and no path that was typed just now.
+# What CodeLite has debugged before: it takes the program only from the list of these, and no path that was typed just
+# now.
 DEBUGGED = """<?xml version="1.0" encoding="utf-8"?>
 <CodeLite Version="2.0.2">
   <ArchiveObject Name="QuickDebugDlg">
@@ -42,7 +45,8 @@ DEBUGGED = """<?xml version="1.0" encoding="utf-8"?>
 </CodeLite>
 """
 LINE_9, MENU = (600, 339), (483, 92)
-START_OR_CONTINUE, PAUSE, STOP, NEXT, TOGGLE, QUICK_DEBUG = 117, 217, 243, 318, 471, 572  # how far down the menu Debugger
+# How far down the menu Debugger each stands.
+START_OR_CONTINUE, PAUSE, STOP, NEXT, TOGGLE, QUICK_DEBUG = 117, 217, 243, 318, 471, 572
 OK = (644, 583)  # of the window Quick Debug, in which adapter and program are those of the settings
 MAIN, FACTORIAL = (634, 461), (634, 440)  # open the scopes of the newest frame, the lower one first
 
@@ -64,7 +68,8 @@ def free_port() -> str:
 
 
 def settings(home: str, program: str, command: list[str]) -> None:
-    """CodeLite's settings: the adapter as editors/codelite has it, but by this command and port; no wizard and no questions."""
+    """CodeLite's settings: the adapter as editors/codelite has it, but by this command and port; no wizard and no
+    questions."""
     with open(SETTINGS, encoding="utf-8") as file:
         (adapter,) = json.load(file)
     address, _, written = adapter["connection_string"].rpartition(":")

@@ -3,12 +3,13 @@
 
 usage: drive.py PL0DAP PL0DAP_FROM_ZERO [PL0]
 
-First, sessions that were recorded, or written by what is known of an editor, are played by replay.py: those of editors that
-number their requests from 0 to the second program; and listening.py looks at what CodeLite has beside the adapter. Then Emacs,
-Kate and CodeLite debug programs, and Neovim shows a mistake. out/ gets a transcript of each session, a picture of Emacs and one
-of Kate at a stop; with RECORD=1 docs/ does, but for sessions with a mistake. PL0 says what is wrong with a text: where it isn't
-given, the one that `make build` has made. Nothing is installed. Status 0: all that was wanted was done. Status 1: the adapter
-sent something else than a session says, or an editor failed. Status 2: only an editor, or what a picture needs, is missing.
+First, sessions that were recorded, or written by what is known of an editor, are played by replay.py: those of editors
+that number their requests from 0 to the second program; and listening.py looks at what CodeLite has beside the adapter.
+Then Emacs, Kate and CodeLite debug programs, and Neovim shows a mistake. out/ gets a transcript of each session, a
+picture of Emacs and one of Kate at a stop; with RECORD=1 docs/ does, but for sessions with a mistake. PL0 says what is
+wrong with a text: where it isn't given, the one that `make build` has made. Nothing is installed. Status 0: all that
+was wanted was done. Status 1: the adapter sent something else than a session says, or an editor failed. Status 2: only
+an editor, or what a picture needs, is missing.
 """
 from __future__ import annotations
 
@@ -32,8 +33,8 @@ WRITTEN = ("vscode.txt", "vscode_back.txt", "vscode_log.txt", "neovim.txt", "neo
 # Those of editors that number their requests from 0.
 FROM_ZERO = ("kate.txt", "kate_condition.txt", "kate_endless.txt", "neovim.txt", "neovim_back.txt")
 RECORDED = (
-    "emacs.txt", "emacs_back.txt", "emacs_fault.txt", "emacs_endless.txt", "emacs_refused.txt", "kate.txt", "kate_condition.txt",
-    "kate_endless.txt", "codelite.txt", "codelite_endless.txt",
+    "emacs.txt", "emacs_back.txt", "emacs_fault.txt", "emacs_endless.txt", "emacs_refused.txt", "kate.txt",
+    "kate_condition.txt", "kate_endless.txt", "codelite.txt", "codelite_endless.txt",
 )
 # What a session comes to: the program's end, where nothing else is said.
 AT_THE_END, BY_DISCONNECT, BY_PAUSE = '"event":"terminated"', '"command":"disconnect","request_seq"', '"reason":"pause"'
@@ -149,7 +150,8 @@ def drive_all(program: str, from_zero: str, has_pl0: bool) -> tuple[bool, bool]:
     ):
         if lacks:
             is_whole = False
-            print(f"{editor} was not driven. Missing: {', '.join(lacks)}. docs/CLIENTS.md names the packages.", flush=True)
+            print(f"{editor} was not driven. Missing: {', '.join(lacks)}. docs/CLIENTS.md names the packages.",
+                  flush=True)
             continue
         for session in sessions:
             print(f"{editor}, session {session}:", flush=True)

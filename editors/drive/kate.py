@@ -3,10 +3,10 @@
 
 usage: kate.py SESSION PICTURE COMMAND..
 
-SESSION is factorial, condition, endless or mistake. COMMAND starts the adapter, or the proxy before it. Ends with status 0 once
-all keys are pressed; the session is in the proxy's transcript. PICTURE gets a picture of the last stop at a breakpoint of
-factorial. Needs kate (22.12), Xvfb and xdotool; the icons are those of breeze-icon-theme, where it is installed. Kate's settings
-are in a folder that is removed afterwards.
+SESSION is factorial, condition, endless or mistake. COMMAND starts the adapter, or the proxy before it. Ends with
+status 0 once all keys are pressed; the session is in the proxy's transcript. PICTURE gets a picture of the last stop at
+a breakpoint of factorial. Needs kate (22.12), Xvfb and xdotool; the icons are those of breeze-icon-theme, where it is
+installed. Kate's settings are in a folder that is removed afterwards.
 """
 from __future__ import annotations
 
@@ -72,12 +72,14 @@ def write(path: str, text: str) -> None:
 
 
 def settings(home: str, program: str, configuration: str, command: list[str]) -> None:
-    """Kate's settings: the adapter as editors/kate/dap.json has it, but by this command; and a session that debugs the program."""
+    """Kate's settings: the adapter as editors/kate/dap.json has it, but by this command; and a session that debugs the
+    program."""
     with open(os.path.join(TOP, "editors", "kate", "dap.json"), encoding="utf-8") as file:
         adapters = json.load(file)
     adapters["dap"]["pl0dap"]["run"]["command"] = command
     write(os.path.join(home, ".config", "kate", "gdbplugin", "dap.json"), json.dumps(adapters))
-    target = {"debuggerKey": "pl0dap", "debuggerProfile": configuration, "target": "PL/0", "variables": {"file": program}}
+    target = {"debuggerKey": "pl0dap", "debuggerProfile": configuration, "target": "PL/0",
+              "variables": {"file": program}}
     write(os.path.join(home, ".local", "share", "kate", "sessions", "pl0.katesession"), SESSION % json.dumps(target))
     with open(os.path.join(TOP, "editors", "kate", "pl0.xml"), encoding="utf-8") as file:
         write(os.path.join(home, ".local", "share", *HIGHLIGHTING), file.read())
@@ -86,7 +88,8 @@ def settings(home: str, program: str, configuration: str, command: list[str]) ->
 def show_locals(screen: Screen) -> None:
     """Opens the view of variables and frames, and makes it so wide that the frames' lines can be read."""
     action("Show Locals and Stack")
-    screen.do("mousemove", str(WIDTH - 242), "300", "mousedown", "1", "mousemove", str(WIDTH - 460), "300", "mouseup", "1")
+    screen.do("mousemove", str(WIDTH - 242), "300", "mousedown", "1", "mousemove", str(WIDTH - 460), "300", "mouseup",
+              "1")
     time.sleep(REST)
 
 
@@ -112,7 +115,8 @@ def factorial(screen: Screen, picture: str) -> None:
 
 
 def condition(screen: Screen, _picture: str) -> None:
-    """A breakpoint, for which one with a condition is typed at its first stop, the stop where it holds, a step and the end."""
+    """A breakpoint, for which one with a condition is typed at its first stop, the stop where it holds, a step and the
+    end."""
     focus(screen)
     keys("ctrl+F7")
     time.sleep(ADAPTER)

@@ -3,8 +3,8 @@
 
 usage: listening.py PL0DAP
 
-Messages are given to its functions. Then it stands between this script, which sends as CodeLite does, and the adapter, or a program
-that writes what it reads. Prints what is wrong, and ends with status 1 where anything is.
+Messages are given to its functions. Then it stands between this script, which sends as CodeLite does, and the adapter,
+or a program that writes what it reads. Prints what is wrong, and ends with status 1 where anything is.
 """
 from __future__ import annotations
 
@@ -32,16 +32,18 @@ CHECKER = f"#!/bin/sh\necho '{WORDS}' >&2\nexit 2\n"
 SOURCE = {"path": PROGRAM, "name": "factorial.pl0"}
 # What is sent, and the member of it that is changed: its value before and after.
 CHANGED = (
-    ("initialize", {"linesStartAt1": False, "columnsStartAt1": False}, {"linesStartAt1": True, "columnsStartAt1": True}),
+    ("initialize", {"linesStartAt1": False, "columnsStartAt1": False},
+     {"linesStartAt1": True, "columnsStartAt1": True}),
     ("initialize", {"adapterID": "x"}, {"adapterID": "x", "linesStartAt1": True, "columnsStartAt1": True}),
     ("pause", {"threadId": -1}, {"threadId": 1}),
     ("next", {"threadId": -1, "granularity": "line"}, {"threadId": 1, "granularity": "line"}),
 )
 # What is passed on as it is, to the adapter and from it.
 KEPT = (
-    b'{ "seq":7, "type":"request", "command":"pause", "arguments":{"threadId":1} }', b'{"seq":1,"command":"initialize"}',
-    b'{"seq":1,"command":"initialize","arguments":null}', b'{"arguments":{"expression":"-1"},"command":"evaluate"}', b"[-1]", b"-1",
-    b'"threadId"', b"", b'{"threadId":-1', b"\xff\xfe",
+    b'{ "seq":7, "type":"request", "command":"pause", "arguments":{"threadId":1} }',
+    b'{"seq":1,"command":"initialize"}',
+    b'{"seq":1,"command":"initialize","arguments":null}', b'{"arguments":{"expression":"-1"},"command":"evaluate"}',
+    b"[-1]", b"-1", b'"threadId"', b"", b'{"threadId":-1', b"\xff\xfe",
     b"[" * 100000, b'{"seq":[],"command":"setBreakpoints","arguments":{"breakpoints":[]}}',
 )
 FROM_ADAPTER = (
@@ -51,7 +53,8 @@ FROM_ADAPTER = (
 
 
 class Connection:
-    """A connection to the program under test, which has been started with this adapter and these folders on its path."""
+    """A connection to the program under test, which has been started with this adapter and these folders on its
+    path."""
 
     def __init__(self, *adapter: str, path: str = "/usr/bin:/bin"):
         with socket.create_server(("127.0.0.1", 0)) as server:
@@ -120,7 +123,8 @@ def wrong_streams() -> Iterator[str]:
     """Where what is no whole frame, or a frame of an unusual form, isn't passed on as it is."""
     for text in (
         b"", b"\r\n", b"Content-Length: 5\r\n\r\nabc", b"Content-Length: x\r\n\r\n", b"Content-Length: 1\r\n",
-        b"X: y\r\nContent-Length: 2\r\nZ: 1\r\n\r\n{}" * 3, b"Content-Length: 0\r\n\r\nContent-Length: 2\r\n\r\n[]", b"\0" * 70000,
+        b"X: y\r\nContent-Length: 2\r\nZ: 1\r\n\r\n{}" * 3, b"Content-Length: 0\r\n\r\nContent-Length: 2\r\n\r\n[]",
+        b"\0" * 70000,
     ):
         copied = Connection("cat")
         copied.socket.sendall(text)
@@ -136,10 +140,13 @@ def wrong_session(program: str) -> Iterator[str]:
     session = Connection(program)
     session.send("initialize", linesStartAt1=False, columnsStartAt1=False)
     session.send("launch", program=PROGRAM)
-    session.send("setBreakpoints", source=SOURCE, breakpoints=[{"line": 1}, {"line": 9, "condition": "k == 8"}, {"line": 18}])
+    session.send("setBreakpoints", source=SOURCE,
+                 breakpoints=[{"line": 1}, {"line": 9, "condition": "k == 8"}, {"line": 18}])
     found = [session.receive() for _ in range(4)][-1]["body"]["breakpoints"]
-    wanted = [{"line": 5, "verified": True}, {"message": "badCondition", "verified": False}, {"line": 18, "verified": True}]
-    yield from different("breakpoints", [{**one, "id": at, "source": SOURCE} for at, one in enumerate(wanted, 1)], found)
+    wanted = [{"line": 5, "verified": True}, {"message": "badCondition", "verified": False},
+              {"line": 18, "verified": True}]
+    yield from different("breakpoints", [{**one, "id": at, "source": SOURCE} for at, one in enumerate(wanted, 1)],
+                         found)
     session.send("configurationDone")
     yield from different("configurationDone", True, session.receive()["success"])
     yield from different("a stop", "breakpoint", session.receive()["body"].get("reason"))
@@ -175,7 +182,8 @@ def main() -> int:
         return 4
     program = os.path.abspath(sys.argv[1])
     with tempfile.TemporaryDirectory() as folder:
-        with open(os.path.join(folder, "pl0"), "w", opener=lambda *place: os.open(*place, mode=0o755), encoding="ascii") as file:
+        with open(os.path.join(folder, "pl0"), "w", opener=lambda *place: os.open(*place, mode=0o755),
+                  encoding="ascii") as file:
             file.write(CHECKER)
         found = [*wrong_changes(), *wrong_streams(), *wrong_session(program), *wrong_port()]
         found += wrong_launch(program, f"{folder}:/usr/bin:/bin", WORDS, WORDS + "\n")

@@ -3,11 +3,11 @@
 
 usage: proxy.py [--folder FOLDER] TRANSCRIPT PROGRAM [ARGUMENT..]
 
-An editor starts this in place of the adapter PROGRAM. Bytes are passed on as they come. In TRANSCRIPT, each content is a line:
-`->` for what the editor sends, `<-` for what it is sent. A content that is sent in several lines is recorded in one, and a
-remark says so once. Other remarks begin with # as well: the end of the editor's input, signals, how the adapter ended. A signal
-that ends the editor's child is passed on; SIGKILL can't be. FOLDER, which stands for the place of the program under
-debugging, is recorded as ${folder}.
+An editor starts this in place of the adapter PROGRAM. Bytes are passed on as they come. In TRANSCRIPT, each content is
+a line: `->` for what the editor sends, `<-` for what it is sent. A content that is sent in several lines is recorded in
+one, and a remark says so once. Other remarks begin with # as well: the end of the editor's input, signals, how the
+adapter ended. A signal that ends the editor's child is passed on; SIGKILL can't be. FOLDER, which stands for the place
+of the program under debugging, is recorded as ${folder}.
 """
 from __future__ import annotations
 
@@ -67,7 +67,8 @@ class Transcript:
 
 
 def pass_on(source: int, target: int, transcript: Transcript, arrow: str) -> None:
-    """Passes on what comes, until nothing comes or nobody takes it. Each content is recorded before its last byte is passed on."""
+    """Passes on what comes, until nothing comes or nobody takes it. Each content is recorded before its last byte is
+    passed on."""
     contents = Frames(ANY_HEADER)
     while piece := os.read(source, AT_ONCE):
         contents.take(piece)
@@ -116,7 +117,8 @@ def main() -> int:
         output.start()
         status = child.wait()
         output.join()
-        transcript.remark(f"the adapter ended with {status}" if status >= 0 else f"the adapter ended by signal {-status}")
+        transcript.remark(f"the adapter ended with {status}" if status >= 0
+                          else f"the adapter ended by signal {-status}")
     return status if status >= 0 else 128 - status
 
 

@@ -3,9 +3,9 @@
 
 usage: terminal.py PICTURE COMMAND..
 
-COMMAND starts the adapter. Emacs runs in xterm on a display of its own; emacs.el brings it to the stop, and shows the program, its
-variables, what a log point has said, and the frames. PICTURE gets a PNG of that. Ends with status 1 where no stop is shown in time.
-Needs emacs with dap-mode, xterm, Xvfb and xdotool.
+COMMAND starts the adapter. Emacs runs in xterm on a display of its own; emacs.el brings it to the stop, and shows the
+program, its variables, what a log point has said, and the frames. PICTURE gets a PNG of that. Ends with status 1 where
+no stop is shown in time. Needs emacs with dap-mode, xterm, Xvfb and xdotool.
 """
 from __future__ import annotations
 
