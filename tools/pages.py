@@ -1,7 +1,7 @@
 #!/usr/bin/env python3
 """Checks what pages and sources say about themselves and each other: names, lengths of functions and of lines.
 
-usage: pages.py [--laws]
+usage: pages.py [--laws | --size]
 
 In README.md, CHANGELOG.md and docs/*.md a link has to lead to a file, and to a heading where it names one. A name in
 backquotes that ends like a source file or a script has to be that of a file of the repository, or the end of its path;
@@ -17,7 +17,9 @@ In sources no function has over 40 lines, contracts not counted, but those of LO
 definitions and proofs have at most 120 columns, but for imports, which the kit keeps on one line, and names of goals.
 
 Prints what is wrong, and ends with status 1 where anything is. With --laws it prints instead, for each law function
-that proofs answer, each of its clauses, what that says, and the lemmas by which it is answered, with their files.
+that proofs answer, each of its clauses, what that says, and the lemmas by which it is answered, with their files. With
+--size it prints the figures that README.md has in thousands, lines that aren't blank: of code with its contracts, of
+definitions and of proofs, without the crates of tests; and of code in these.
 """
 from __future__ import annotations
 
@@ -84,6 +86,9 @@ NAMED = [
     re.compile(rf"({WORDS}) in ({FILES})"),
     re.compile(rf"\| (?:[^|`]* )?({WORDS}) \| ({FILES}) \|"),
 ]
+# What a crate's size counts; and the crates of tests: these, what they stand on, stored runs, and benchmarks.
+SIZED = ("src/**/*.rt", "specs/**/*.antt", "proofs/**/*.antt")
+OF_TESTS = ("*_tests", "*_runs", "test_kit", "sample_programs", "speed")
 MODEL = TOP / "tools" / "threads" / "threads.pml"
 # What a part of the model stands for, below crates/; the size of a queue in the code; and a part of the model.
 STANDS_BESIDE = re.compile(r"@ (\S+\.rt): ([\w:]+(?:, [\w:]+)*)")
@@ -277,9 +282,27 @@ def long_contracts() -> Iterator[str]:
                 yield f"{file.relative_to(TOP)}:{number}: {len(line)} columns"
 
 
+def lines_of(crates: list[pathlib.Path], files: str) -> int:
+    """How many lines of these files of crates aren't blank."""
+    texts = (file.read_text(encoding="utf-8") for crate in crates for file in crate.glob(files))
+    return sum(bool(line.strip()) for text in texts for line in text.splitlines())
+
+
+def size() -> str:
+    """The size of the crates, as README.md has it in thousands of lines."""
+    crates = [crate for crate in (TOP / "crates").iterdir() if (crate / "src").is_dir()]
+    tests = [crate for crate in crates if any(crate.match(name) for name in OF_TESTS)]
+    others = [crate for crate in crates if crate not in tests]
+    code, definitions, proofs = (lines_of(others, files) for files in SIZED)
+    return f"code {code}, definitions {definitions}, proofs {proofs}; tests {lines_of(tests, SIZED[0])}"
+
+
 def main() -> int:
     if sys.argv[1:] == ["--laws"]:
         print("\n".join("\t".join(row) for row in answered_laws()))
+        return 0
+    if sys.argv[1:] == ["--size"]:
+        print(size())
         return 0
     files = [file for file in TOP.rglob("*") if file.is_file() and not {"out", ".git", "__pycache__"} & set(file.parts)]
     found = [one for page in pages() for one in (*wrong(page, files), *misplaced(page, files))]
