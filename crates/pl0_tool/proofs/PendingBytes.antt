@@ -117,10 +117,11 @@ holds_more before now pending left text bytes is held = record {
 }
 
 -- bytes are written after what was pending, or the output fails in them
-pub put_last : {E : Type 0} (wrote : Result (Unit {0}) E) (before now mid later : Output) (pending left text bytes : List ℕ)
+pub put_last : {E : Type 0} (wrote : Result (Unit {0}) E) (before now mid later : Output)
+    (pending left text bytes : List ℕ)
     → Holds before now pending text → WritesAll pending now mid → left ≡ []
     → MatchResult wrote (λ _. Appends mid.written later.written bytes)
-        (λ _. AppendsPart mid.written later.written bytes)
+    (λ _. AppendsPart mid.written later.written bytes)
     → MatchResult wrote (λ _. later.failures ≡ mid.failures) (λ _. mid.failures < later.failures)
     → MatchResult wrote (λ _. Holds before later left (text ++ bytes)) (λ _. FailsIn (text ++ bytes) before later)
 put_last (Ok done) before now mid later pending left text bytes held first empty wrote count =
@@ -129,7 +130,8 @@ put_last (Err failed) before now mid later pending left text bytes held first em
     holds_failed_later before now mid later pending text bytes held first (wrote, count)
 
 -- what was pending is written, or the output fails in it
-pub flushed_or_failed : {E : Type 0} (wrote : Result (Unit {0}) E) (before now later : Output) (pending left text : List ℕ)
+pub flushed_or_failed : {E : Type 0} (wrote : Result (Unit {0}) E) (before now later : Output)
+    (pending left text : List ℕ)
     → Holds before now pending text
     → MatchResult wrote (λ _. WritesAll pending now later) (λ _. FailsIn pending now later) → left ≡ []
     → MatchResult wrote (λ _. Holds before later left text) (λ _. FailsIn text before later)

@@ -5,9 +5,9 @@ use Rattle.dap_session.proofs.driving.drive_counting_from.Goals as goal
 
 pub take_all-requires : goal.take_all-requires
 take_all-requires g c =
-    let session = c.new_from-session.result in
-    subst (λ f. Represents f session [] []) (sym (first_is session c.args.first c.new_from-session.ensures))
-    c.new_from-session.ensures
+    let session = c.counting_from-session.result in
+    subst (λ f. Represents f session [] []) (sym (first_is session c.args.first c.counting_from-session.ensures))
+    c.counting_from-session.ensures
 
 pub returns-clause-driven : goal.returns-clause-driven
-returns-clause-driven g c = rw (first_is _ _ c.new_from-session.ensures) at c.take_all.ensures.driven
+returns-clause-driven g c = rw (first_is _ _ c.counting_from-session.ensures) at c.take_all.ensures.driven
