@@ -13,11 +13,11 @@ use Rattle.pl0_tool.specs.Running.{HasRun}
 use Rattle.pl0_tool.specs.Listing.{listing}
 use Rattle.std.specs.Prelude.{IsErrAnd, MatchResult}
 use Rattle.pl0_tool.specs.Commands.{IsReport, RunTells, TraceTells, ProgramTells, Tells, start_of, end_errors, end_ending}
-use Rattle.pl0_tool.specs.Commands.{IsTraceReport, ProgramWrites, StartTraces, StartWrites, WritesNumbers, WritesRun, goes_on_line}
+use Rattle.pl0_tool.specs.Commands.{IsTraceReport, ProgramWrites, StartTraces, StartWrites, WritesNumbers, WritesRun}
 use Rattle.pl0_tool.specs.Traced.{HasPart, HasTable, HasTraced}
 use Rattle.pl0_tool.specs.declared.tracing.Row.{Row}
 use Rattle.pl0_tool.specs.declared.tracing.TraceEnd.{TraceEnd}
-use Rattle.pl0_tool.specs.declared.tracing.TraceEnd.TheVariants.{GoesOn, WriteFailed}
+use Rattle.pl0_tool.specs.declared.tracing.TraceEnd.TheVariants.{GoesOn, Ended, EndedBefore, Faulted, WriteFailed}
 
 pub run_told : (end : RunEnd) (file : List ℕ) (start last : Standing) (report : Report) (before after : Output)
     → HasRun end start last before after
@@ -36,17 +36,35 @@ pub program_told : {E : Type 0} (task : Task) (file text : List ℕ) (unit : Com
 program_told task file text unit (Ok report) before after is tells = inr (unit, is, tells)
 program_told task file text unit (Err e) before after is writes = inr (unit, is, writes)
 
+-- of a table that is told a part was written
+table_part : (drawn : Bool) (m : Standing) (from count : ℕ) (before now : Output) (pending : List ℕ) (rows : List Row)
+    → HasTable drawn m from count before now pending rows → HasPart drawn m from count before now
+table_part drawn m from count before now pending rows has = record {
+  rows = rows;
+  rows_are = record { each = has.rows_are.each; most = has.rows_are.most };
+  part = (has.holds.flushed, has.holds.appended, (pending, has.holds.joined));
+}
+
+-- of a trace that ended a part of its table was written
+pub traced_part : (end : TraceEnd) (drawn : Bool) (m new : Standing) (from count : ℕ) (before now : Output)
+    (pending : List ℕ)
+    → HasTraced end drawn m from count new before now pending → HasPart drawn m from count before now
+traced_part WriteFailed drawn m new from count before now pending h = h.0
+traced_part EndedBefore drawn m new from count before now pending h =
+    table_part drawn m from count before now pending [] h.0
+traced_part GoesOn drawn m new from count before now pending h =
+    table_part drawn m from count before now pending h.0 h.1
+traced_part Ended drawn m new from count before now pending h = table_part drawn m from count before now pending h.0 h.1
+traced_part (Faulted fault) drawn m new from count before now pending h =
+    table_part drawn m from count before now pending h.0 h.1
+
 -- what a task that told of a program wrote of it
 program_writes : (task : Task) (file : List ℕ) (unit : Compiled) (report : Report) (before after : Output)
     → ProgramTells task file unit report before after
     → ProgramWrites task unit before after
 program_writes Run file unit report before after (end, last, ran, told) = inr (end, last, ran)
-program_writes (Trace from steps drawn) file unit report before after (inl told) = inr (record {
-  rows = told.rows;
-  rows_are = record { each = told.has.rows_are.each; most = told.has.rows_are.most };
-  part = (told.has.holds.flushed, told.has.holds.appended, (report.output.items, told.has.holds.joined));
-})
-program_writes (Trace from steps drawn) file unit report before after (inr failed) = inr failed.0
+program_writes (Trace from steps drawn) file unit report before after (end, last, pending, traced, told) =
+    inr (traced_part end drawn (start_of unit) last from steps before after pending traced)
 program_writes Check file unit report before after (told, same) = same
 program_writes Listing file unit report before after (told, same) = same
 
@@ -77,50 +95,16 @@ run_from file unit m (Err e) before after at writes =
 
 -- ---- a trace
 
--- of a table that is told a part was written
-table_part : (drawn : Bool) (m : Standing) (from count : ℕ) (before now : Output) (pending : List ℕ) (rows : List Row)
-    → HasTable drawn m from count before now pending rows → HasPart drawn m from count before now
-table_part drawn m from count before now pending rows has = record {
-  rows = rows;
-  rows_are = record { each = has.rows_are.each; most = has.rows_are.most };
-  part = (has.holds.flushed, has.holds.appended, (pending, has.holds.joined));
-}
-
--- of a trace that ended a part of its table was written
-pub traced_part : (end : TraceEnd) (drawn : Bool) (m new : Standing) (from count : ℕ) (before now : Output)
-    (pending : List ℕ)
-    → HasTraced end drawn m from count new before now pending → HasPart drawn m from count before now
-traced_part WriteFailed drawn m new from count before now pending h = h.0
-traced_part _ drawn m new from count before now pending h = table_part drawn m from count before now pending h.0 h.1
-
--- what is told of a trace
-pub trace_told : (end : TraceEnd) (drawn : Bool) (m new : Standing) (from count : ℕ) (before now : Output)
-    (pending : List ℕ) (report : Report)
-    → HasTraced end drawn m from count new before now pending → IsTraceReport end new pending report
-    → TraceTells drawn m from count report before now
-trace_told GoesOn drawn m new from count before now pending report h is = inl (record {
-  rows = h.0;
-  has = subst (λ p. HasTable drawn m from count before now p h.0) (sym is.0) h.1;
-  onward = λ alive. is.1 ∙ ap goes_on_line h.2;
-})
-trace_told WriteFailed drawn m new from count before now pending report h is = inr (h.0, h.1, is)
-trace_told _ drawn m new from count before now pending report h is = inl (record {
-  rows = h.0;
-  has = subst (λ p. HasTable drawn m from count before now p h.0) (sym is) h.1;
-  onward = λ alive. absurd (let dead = h.2 in omega (arith, dead, alive));
-})
-
--- the same of a machine that stands at the start of a program
-pub traced_from : {E : Type 0} (end : TraceEnd) (drawn : Bool) (unit : Compiled) (m new : Standing) (from count : ℕ)
-    (r : Result Report E) (before now : Output) (pending : List ℕ)
+-- a trace of a machine that stands at the start of a program
+pub traced_from : {E : Type 0} (end : TraceEnd) (drawn : Bool) (file : List ℕ) (unit : Compiled) (m new : Standing)
+    (from count : ℕ) (r : Result Report E) (before now : Output) (pending : List ℕ)
     → m ≡ start_of unit
-    → HasTraced end drawn m from count new before now pending → IfOk r (IsTraceReport end new pending)
-    → MatchResult r (λ report. TraceTells drawn (start_of unit) from count report before now)
+    → HasTraced end drawn m from count new before now pending → IfOk r (IsTraceReport end file new pending)
+    → MatchResult r (λ report. TraceTells drawn file (start_of unit) from count report before now)
     (λ e. StartTraces drawn unit from count before now)
-traced_from end drawn unit m new from count (Ok report) before now pending at h is =
-    subst (λ (m : Standing). TraceTells drawn m from count report before now) at
-    (trace_told end drawn m new from count before now pending report h is)
-traced_from end drawn unit m new from count (Err e) before now pending at h is =
+traced_from end drawn file unit m new from count (Ok report) before now pending at h is =
+    subst (λ (m : Standing). TraceTells drawn file m from count report before now) at (end, new, pending, h, is)
+traced_from end drawn file unit m new from count (Err e) before now pending at h is =
     inr (subst (λ (m : Standing). HasPart drawn m from count before now) at
     (traced_part end drawn m new from count before now pending h))
 
@@ -162,7 +146,7 @@ run_program task file unit (Err e) before after is writes =
 pub traced_program : {E : Type 0} (task : Task) (from steps : ℕ) (drawn : Bool) (file : List ℕ) (unit : Compiled)
     (r : Result Report E) (before after : Output)
     → task ≡ Trace from steps drawn
-    → MatchResult r (λ report. TraceTells drawn (start_of unit) from steps report before after)
+    → MatchResult r (λ report. TraceTells drawn file (start_of unit) from steps report before after)
     (λ e. StartTraces drawn unit from steps before after)
     → MatchResult r (λ report. ProgramTells task file unit report before after)
     (λ e. ProgramWrites task unit before after)

@@ -1,5 +1,6 @@
 -- What a run of a machine writes, up to a step that writes a number, faults or ends the program.
 use Rattle.pl0_tool.proofs.Common.{[], ahead, ap, append-nil, append_assoc, arith, Assign, at_next, Block, Bool, Call, cond, Configuration, depth_of, Done, Err, FailsIn, false, Fault, Frame, frames_of, HasRun, Holds, home, If, IsLast, length, lines_between, List, nat_eq, nat_lt, None, number_lines, Ok, Option, option_and_then, option_map_or, option_to_list, outcome_of, Output, program, Ran, RanOn, refl, Result, signed_decimal, Some, Standing, Statement, Stepped, Stretches, subst, suc, sym, told, told_numbers, true, truth, value, Went, While, Write, WritesAll, zero, ℕ, ℤ, ◌++◌, ◌+◌, ◌<◌, ◌∙◌, ◌∷◌, ◌≡◌, ◌≤◌}
+use Rattle.pl0_machine.specs.Machine.{configuration}
 use Rattle.pl0_meaning.specs.SharedLemmas.{written-next}
 use Rattle.pl0_meaning.specs.declared.RunFault.{RunFault}
 use Rattle.pl0_meaning.specs.declared.RunFault.TheVariants.{Depth, StepLimit}
@@ -196,6 +197,17 @@ fault_is last new fault stepped = by_outcome (outcome_of last) refl stepped
         let same : other ≡ fault = let e : Fault fault ≡ Fault other = s.0 in cc in
         ap (λ (m : Standing). outcome_of m) s.1 ∙ is ∙ ap Faults same
     by_outcome Stuck is s = absurd s
+
+-- behind the step with which it is done, the program has ended
+pub ended_behind : (last new : Standing) → Stepped (outcome_of last) last Done new
+    → (new ≡ ahead last 1) × (configuration new ≡ Some [])
+ended_behind last new stepped =
+    let is = done_is last new stepped in (
+      is.1,
+      ap (λ (m : Standing). configuration m) is.1
+          ∙ at_next (program last) last.position
+          ∙ ap led_to is.0.1,
+    )
 
 -- after a step that goes on the program runs
 pub runs_on : (last new : Standing) (number : Option ℤ) → Stepped (outcome_of last) last (Went number) new

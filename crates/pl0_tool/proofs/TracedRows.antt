@@ -1,14 +1,17 @@
 -- What a trace tells: rows that are added one by one, and positions to which a run doesn't come.
-use Rattle.pl0_tool.proofs.Common.{[], ap, arith, at_next, at_position, Block, Bool, cond, Configuration, depth_of, false, Fault, Frame, frame_of, frames_of, IsFrameRow, IsRow, IsTold, length, length_push, List, nat_eq, None, number_of, numbers_in, Option, option_map_or, outcome_of, program, RanOn, refl, same_Some, slice_get, Some, Standing, Stepped, subst, suc, sym, take, take_all, true, variables_of, Went, zero, ℕ, ℤ, ◌++◌, ◌+◌, ◌-◌, ◌<◌, ◌∙◌, ◌∷◌, ◌≡◌, ◌≤◌}
+use Rattle.pl0_tool.proofs.Common.{[], ap, arith, at_next, at_position, Block, Bool, cond, Configuration, depth_of, Done, false, Fault, Frame, frame_of, frames_of, IsFrameRow, IsRow, IsTold, length, length_push, List, nat_eq, None, number_of, numbers_in, Option, option_map_or, outcome_of, program, RanOn, refl, same_Some, slice_get, Some, Standing, Stepped, Stretches, subst, suc, sym, take, take_all, true, variables_of, Went, zero, ℕ, ℤ, ◌++◌, ◌+◌, ◌-◌, ◌<◌, ◌∙◌, ◌∷◌, ◌≡◌, ◌≤◌}
+use Rattle.pl0_meaning.specs.declared.RunFault.{RunFault}
 use Rattle.pl0_meaning.specs.declared.RunFault.TheVariants.{StepLimit}
 use Rattle.pl0_meaning.specs.Runs.{Outcome, Goes, Faults, Stuck, at, led_to, outcome, step_at, step, last_position}
 use Rattle.pl0_machine.specs.declared.outcome.StepOutcome.{StepOutcome}
 use Rattle.pl0_tool.specs.declared.tracing.FrameRow.{FrameRow}
 use Rattle.pl0_tool.specs.declared.tracing.Row.{Row}
-use Rattle.pl0_tool.proofs.RunLines.{Came, came_on, ran_on, runs_on}
+use Rattle.pl0_tool.specs.declared.tracing.TraceEnd.{TraceEnd}
+use Rattle.pl0_tool.specs.declared.tracing.TraceEnd.TheVariants.{GoesOn, Ended, EndedBefore, Faulted, WriteFailed}
+use Rattle.pl0_tool.proofs.RunLines.{Came, came_on, ended_behind, fault_is, ran_on, runs_on}
 use Rattle.pl0_tool.proofs.PendingBytes.{holds_all, holds_more}
 use Rattle.pl0_tool.specs.Table.{head, row_text, table}
-use Rattle.pl0_tool.specs.Traced.{HasPart, HasTable, PutsRow}
+use Rattle.pl0_tool.specs.Traced.{HasPart, HasTable, HasTraced, PutsRow, StopsBefore}
 use Rattle.pl0_unit.specs.declared.unit.Unit.{Unit as Compiled}
 use Rattle.std.specs.List.{concat}
 use Rattle.std.proofs.Common.{append-nil, append_assoc, map}
@@ -159,6 +162,50 @@ goes_further {number} start now new position outcome is came ran =
       came_on start now new outcome came (ran_on position now new outcome ran),
     )
 
+-- where a step faults, all stays
+same_place : (m new : Standing) (fault : RunFault) → Stepped (outcome_of m) m (Fault fault) new → new ≡ m
+same_place m new fault stepped = by_outcome (outcome_of m) stepped
+  where
+    by_outcome : (o : Outcome) → Stepped o m (Fault fault) new → new ≡ m
+    by_outcome (Goes number []) s = let other : Fault fault ≡ Done = s.0 in cc
+    by_outcome (Goes number (f ∷ below)) s = let other : Fault fault ≡ Went number = s.0 in cc
+    by_outcome (Faults other) s = s.1
+    by_outcome Stuck s = absurd s
+
+-- the machine is where it came to
+came_there : (start now last : Standing) (position : ℕ) → Came start now → Stretches 0 None now last
+    → at_position last position ≡ at_position start position
+came_there start now last position came passed =
+    ap (λ (m : Standing). at_position m position) passed.led ∙ came_same start now position came
+
+-- a run that is done before a position has ended there
+pub ends_before : (start now new : Standing) (position : ℕ) → Came start now → RanOn position 0 None now (Some Done) new
+    → StopsBefore EndedBefore start position new
+ends_before start now new position came ran =
+    let behind = ended_behind ran.0 new ran.3 in
+    let led : new.position ≡ ran.0.position + 1 = ap (λ (m : Standing). m.position) behind.0 in
+    let lt = ran.2 in (
+      behind.0
+          ∙ came_there start now ran.0 (ran.0.position + 1) came ran.1
+          ∙ ap (λ p. at_position start p) (sym led),
+      omega (arith, led, lt),
+      behind.1,
+    )
+
+-- a run that faults before a position stands there
+pub faults_before : (start now new : Standing) (position : ℕ) (fault : RunFault) → Came start now
+    → RanOn position 0 None now (Some (Fault fault)) new → StopsBefore (Faulted fault) start position new
+faults_before start now new position fault came ran =
+    let stays = same_place ran.0 new fault ran.3 in
+    let same : new.position ≡ ran.0.position = ap (λ (m : Standing). m.position) stays in
+    let lt = ran.2 in (
+      stays
+          ∙ came_there start now ran.0 ran.0.position came ran.1
+          ∙ ap (λ p. at_position start p) (sym same),
+      omega (arith, same, lt),
+      fault_is ran.0 new fault ran.3,
+    )
+
 -- where a run stops before a position, no frame is alive there
 pub never_there : (start now new : Standing) (position : ℕ) (outcome : StepOutcome) → Came start now
     → RanOn position 0 None now (Some outcome) new → IsStop outcome → depth_of (at_position start position) ≡ 0
@@ -256,8 +303,7 @@ pub told_last : (drawn : Bool) (start now new : Standing) (from n count : ℕ) (
     (pending left : List ℕ) (outcome : StepOutcome)
     → n < count → now ≡ at_position start (from + n) → Tells drawn start from n before at pending
     → PutsRow (Some outcome) drawn now new pending left at after → IsStop outcome
-    → (rows : List Row) × HasTable drawn start from count before after left rows
-    × (depth_of (at_position start (from + length rows)) ≡ 0)
+    → (rows : List Row) × HasTable drawn start from count before after left rows × (length rows ≡ n + 1)
 told_last drawn start now new from n count before at after pending left outcome lt is tells (row, here, stepped, puts)
     stop =
     let same = tells.count in
@@ -280,7 +326,7 @@ told_last drawn start now new from n count before at after pending left outcome 
             ∙ table_more start.unit drawn tells.rows row)
             (puts before (table start.unit drawn tells.rows) tells.holds);
       },
-      dead,
+      omega (arith, longer, same),
     )
 
 -- the output failed in a row
@@ -323,10 +369,9 @@ told_part drawn start from n count before now later pending lt same_output tells
 pub told_all : (drawn : Bool) (start now : Standing) (from n count : ℕ) (before at : Output) (pending : List ℕ)
     → n ≡ count → now ≡ at_position start (from + n) → Tells drawn start from n before at pending
     → (rows : List Row) × HasTable drawn start from count before at pending rows
-    × (now.position ≡ from + length rows)
+    × (now ≡ at_position start (from + length rows))
 told_all drawn start now from n count before at pending all is tells =
-    let same = tells.count in
-    let there : now.position ≡ from + n = ap (λ (m : Standing). m.position) is in (
+    let same = tells.count in (
       tells.rows,
       record {
         rows_are = record {
@@ -336,25 +381,39 @@ told_all drawn start now from n count before at pending all is tells =
         };
         holds = tells.holds;
       },
-      omega (arith, there, same),
+      is ∙ ap (λ k. at_position start (from + k)) (sym same),
     )
 
 -- no position was told, since the run is over before the first
 pub told_nowhere : (drawn : Bool) (start : Standing) (from count : ℕ) (out : Output) (pending : List ℕ)
-    → pending ≡ head drawn → depth_of (at_position start from) ≡ 0
-    → (rows : List Row) × HasTable drawn start from count out out pending rows
-    × (depth_of (at_position start (from + length rows)) ≡ 0)
+    → pending ≡ head drawn → depth_of (at_position start from) ≡ 0 → HasTable drawn start from count out out pending []
 told_nowhere drawn start from count out pending is dead =
     let same : from ≡ from + 0 = omega arith in
     let there : depth_of (at_position start (from + 0)) ≡ 0 =
-    subst (λ p. depth_of (at_position start p) ≡ 0) same dead in (
-      [],
-      record {
-        rows_are = record { each = λ i row e. cc; most = omega arith; whole = λ fewer. there };
-        holds = holds_all out pending (table start.unit drawn []) (is ∙ sym (append-nil (head drawn)));
-      },
-      there,
-    )
+    subst (λ p. depth_of (at_position start p) ≡ 0) same dead in
+    record {
+      rows_are = record { each = λ i row e. cc; most = omega arith; whole = λ fewer. there };
+      holds = holds_all out pending (table start.unit drawn []) (is ∙ sym (append-nil (head drawn)));
+    }
+
+-- nor where it stopped
+pub traced_nowhere : (end : TraceEnd) (drawn : Bool) (start new : Standing) (from count : ℕ) (out : Output)
+    (pending : List ℕ)
+    → pending ≡ head drawn
+    → StopsBefore end start from new × (depth_of (at_position start from) ≡ 0)
+    → HasTraced end drawn start from count new out out pending
+traced_nowhere EndedBefore drawn start new from count out pending is (stops, dead) =
+    (told_nowhere drawn start from count out pending is dead, stops)
+traced_nowhere (Faulted fault) drawn start new from count out pending is ((there, before, faults), dead) = (
+  [],
+  told_nowhere drawn start from count out pending is dead,
+  omega (arith, before),
+  there,
+  faults,
+)
+traced_nowhere GoesOn drawn start new from count out pending is (stops, dead) = absurd stops
+traced_nowhere Ended drawn start new from count out pending is (stops, dead) = absurd stops
+traced_nowhere WriteFailed drawn start new from count out pending is (stops, dead) = absurd stops
 
 -- ---- a trace from a position to which a machine was taken
 
@@ -392,7 +451,44 @@ table_there drawn start m from count before now pending rows is =
       holds = h.holds;
     })
 
--- no frame is alive at a position of either
-pub dead_there : (start m : Standing) (from p : ℕ) → m ≡ at_position start from → depth_of (at_position m p) ≡ 0
-    → depth_of (at_position start p) ≡ 0
-dead_there start m from p is dead = subst (λ (m : Standing). depth_of (at_position m p) ≡ 0) is dead
+-- a position of either is one of the other
+pub position_there : (start m : Standing) (from p : ℕ) → m ≡ at_position start from → at_position m p ≡ at_position start p
+position_there start m from p is = ap (λ (m : Standing). at_position m p) is
+
+-- the positions told end with the program
+pub traced_end : (drawn : Bool) (start mid now new : Standing) (from n count : ℕ) (before after : Output)
+    (left : List ℕ)
+    → mid ≡ at_position start from → now ≡ at_position mid (from + n) → Stepped (outcome_of now) now Done new
+    → (rows : List Row) × HasTable drawn mid from count before after left rows × (length rows ≡ n + 1)
+    → HasTraced Ended drawn start from count new before after left
+traced_end drawn start mid now new from n count before after left there is stepped (rows, has, size) =
+    let behind = ended_behind now new stepped in
+    let next : from + n + 1 ≡ from + length rows = omega (arith, size) in (
+      rows,
+      table_there drawn start mid from count before after left rows there has,
+      omega (arith, size),
+      behind.0
+          ∙ ap (λ (m : Standing). at_position m (m.position + 1)) is
+          ∙ ap (λ p. at_position mid p) next
+          ∙ position_there start mid from (from + length rows) there,
+      behind.1,
+    )
+
+-- the last of the positions told faults
+pub traced_fault : (drawn : Bool) (start mid now new : Standing) (fault : RunFault) (from n count : ℕ)
+    (before after : Output) (left : List ℕ)
+    → mid ≡ at_position start from → now ≡ at_position mid (from + n)
+    → Stepped (outcome_of now) now (Fault fault) new
+    → (rows : List Row) × HasTable drawn mid from count before after left rows × (length rows ≡ n + 1)
+    → HasTraced (Faulted fault) drawn start from count new before after left
+traced_fault drawn start mid now new fault from n count before after left there is stepped (rows, has, size) =
+    let stays : new ≡ at_position mid (from + n) = same_place now new fault stepped ∙ is in
+    let position : new.position ≡ from + n = ap (λ (m : Standing). m.position) stays in (
+      rows,
+      table_there drawn start mid from count before after left rows there has,
+      omega (arith, size, position),
+      stays
+          ∙ position_there start mid from (from + n) there
+          ∙ ap (λ p. at_position start p) (sym position),
+      fault_is now new fault stepped,
+    )

@@ -1,10 +1,10 @@
 -- What each command writes and tells of a text.
-use Rattle.std.specs.Prelude.{◌≡◌, ◌<◌, ◌⊎◌, ◌+◌, ◌++◌, ℕ, Bool, List, [], codes, decimal, length}
+use Rattle.std.specs.Prelude.{◌≡◌, ◌⊎◌, ◌++◌, ℕ, Bool, List, [], codes, decimal}
 use Rattle.pl0_tree.specs.declared.tree.Place.{Place}
 use Rattle.pl0_tree.specs.declared.fault.FaultKind.{FaultKind}
 use Rattle.pl0_tree.specs.Faults.{IsFirstFault}
 use Rattle.pl0_unit.specs.declared.unit.Unit.{Unit as Compiled}
-use Rattle.pl0_machine.specs.Machine.{Standing, depth_of}
+use Rattle.pl0_machine.specs.Machine.{Standing}
 use Rattle.pl0_mistakes.specs.Lines.{mistake_line}
 use Rattle.byte_streams.specs.Streams.{Output}
 use Rattle.pl0_tool.specs.declared.arguments.Task.{Task}
@@ -18,11 +18,9 @@ use Rattle.pl0_tool.specs.Loading.{IsProgramOf}
 use Rattle.pl0_tool.specs.Running.{HasRun}
 use Rattle.pl0_tool.specs.Faulting.{fault_report}
 use Rattle.pl0_tool.specs.Listing.{listing}
-use Rattle.pl0_tool.specs.Traced.{HasPart, HasTable}
-use Rattle.pl0_tool.specs.Tracing.{at_position}
-use Rattle.pl0_tool.specs.declared.tracing.Row.{Row}
+use Rattle.pl0_tool.specs.Traced.{HasPart, HasTraced}
 use Rattle.pl0_tool.specs.declared.tracing.TraceEnd.{TraceEnd}
-use Rattle.pl0_tool.specs.declared.tracing.TraceEnd.TheVariants.{GoesOn, WriteFailed as TraceUnwritten}
+use Rattle.pl0_tool.specs.declared.tracing.TraceEnd.TheVariants.{GoesOn, Ended as TraceEnded, EndedBefore, Faulted as TraceFaulted, WriteFailed as TraceUnwritten}
 
 -- a report of these bytes, and of a command that ends so
 abbrev pub IsReport : List ℕ → List ℕ → Ending → Report → Type 0
@@ -55,29 +53,23 @@ RunTells file start report before after =
 abbrev pub goes_on_line : ℕ → List ℕ
 goes_on_line position = codes "pl0: the run goes on at position " ++ (decimal position ++ codes "\n")
 
--- Positions of the run were told: the first part of their table was written, and the rest is the output. Where the run
--- goes on after them, that is told.
-pub record TableTells (drawn : Bool) (start : Standing) (from steps : ℕ) (report : Report) (before after : Output)
-    : Type 0 where
-  pub rows : List Row
-  pub has : HasTable drawn start from steps before after report.output.items rows
-  pub onward : 0 < depth_of (at_position start (from + length rows))
-      → report.errors.items ≡ goes_on_line (from + length rows)
+abbrev pub ends_line : ℕ → List ℕ
+ends_line position = codes "pl0: the run ends at position " ++ (decimal position ++ codes "\n")
 
--- the output failed in the table
-abbrev pub TableFails : Bool → Standing → ℕ → ℕ → Report → Output → Output → Type 0
-TableFails drawn start from steps report before after =
-    HasPart drawn start from steps before after × (before.failures < after.failures) × IsReport [] [] Unwritten report
+-- What is told, by how the trace ended where a machine stands: what is pending of the table, and where the run goes on,
+-- ended before the first position or faults. Where the output failed nothing is.
+abbrev pub IsTraceReport : TraceEnd → List ℕ → Standing → List ℕ → Report → Type 0
+IsTraceReport GoesOn file m pending report = IsReport pending (goes_on_line m.position) Success report
+IsTraceReport TraceEnded file m pending report = IsReport pending [] Success report
+IsTraceReport EndedBefore file m pending report = IsReport pending (ends_line m.position) Success report
+IsTraceReport (TraceFaulted fault) file m pending report = IsReport pending (fault_report file m fault) Fault report
+IsTraceReport TraceUnwritten file m pending report = IsReport [] [] Unwritten report
 
-abbrev pub TraceTells : Bool → Standing → ℕ → ℕ → Report → Output → Output → Type 0
-TraceTells drawn start from steps report before after =
-    TableTells drawn start from steps report before after ⊎ TableFails drawn start from steps report before after
-
--- a report of what is pending of the table, by how the trace ended where a machine stands
-abbrev pub IsTraceReport : TraceEnd → Standing → List ℕ → Report → Type 0
-IsTraceReport GoesOn m pending report = IsReport pending (goes_on_line m.position) Success report
-IsTraceReport TraceUnwritten m pending report = IsReport [] [] Unwritten report
-IsTraceReport end m pending report = report.output.items ≡ pending
+-- positions of the run were told: the first part of their table was written, and this is told of the rest
+abbrev pub TraceTells : Bool → List ℕ → Standing → ℕ → ℕ → Report → Output → Output → Type 0
+TraceTells drawn file start from steps report before after =
+    (end : TraceEnd) × (last : Standing) × (pending : List ℕ)
+    × HasTraced end drawn start from steps last before after pending × IsTraceReport end file last pending report
 
 -- ---- a text
 
@@ -93,7 +85,7 @@ MistakeTells file text report =
 abbrev pub ProgramTells : Task → List ℕ → Compiled → Report → Output → Output → Type 0
 ProgramTells Run file unit report before after = RunTells file (start_of unit) report before after
 ProgramTells (Trace from steps drawn) file unit report before after =
-    TraceTells drawn (start_of unit) from steps report before after
+    TraceTells drawn file (start_of unit) from steps report before after
 ProgramTells Check file unit report before after = IsReport [] [] Success report × (after ≡ before)
 ProgramTells Listing file unit report before after = IsReport (listing unit) [] Success report × (after ≡ before)
 

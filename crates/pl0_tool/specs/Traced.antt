@@ -1,11 +1,12 @@
 -- What is written of a trace: its table, row by row.
-use Rattle.std.specs.Prelude.{◌≡◌, ◌<◌, ◌+◌, ◌++◌, ℕ, Bool, List, length, Option, Some, None}
+use Rattle.std.specs.Prelude.{◌≡◌, ◌<◌, ◌≤◌, ◌+◌, ◌-◌, ◌++◌, [], ℕ, Bool, List, length, Option, Some, None}
+use Rattle.pl0_meaning.specs.Runs.{Faults}
 use Rattle.pl0_machine.specs.declared.outcome.StepOutcome.{StepOutcome}
-use Rattle.pl0_machine.specs.Machine.{Standing, depth_of, outcome_of, Stepped}
+use Rattle.pl0_machine.specs.Machine.{Standing, configuration, depth_of, outcome_of, Stepped}
 use Rattle.byte_streams.specs.Streams.{AppendsPart, FailsIn, Output}
 use Rattle.pl0_tool.specs.declared.tracing.Row.{Row}
 use Rattle.pl0_tool.specs.declared.tracing.TraceEnd.{TraceEnd}
-use Rattle.pl0_tool.specs.declared.tracing.TraceEnd.TheVariants.{GoesOn, WriteFailed}
+use Rattle.pl0_tool.specs.declared.tracing.TraceEnd.TheVariants.{GoesOn, Ended, EndedBefore, Faulted, WriteFailed}
 use Rattle.pl0_tool.specs.Pending.{Holds}
 use Rattle.pl0_tool.specs.Table.{row_text, table}
 use Rattle.pl0_tool.specs.Tracing.{AreFirstRows, AreRows, IsRow, at_position}
@@ -33,12 +34,28 @@ pub record HasPart (drawn : Bool) (m : Standing) (from count : ℕ) (before now 
   pub rows_are : AreFirstRows drawn m from count rows
   pub part : AppendsPart before.written now.written (table m.unit drawn rows)
 
--- The positions were told, and the run goes on at the next one; or it is over there; or the output failed.
+-- Where a run stands that stops before a position or, where it ends, at it: at its end, or before a step that faults.
+abbrev pub StopsBefore : TraceEnd → Standing → ℕ → Standing → Type 0
+StopsBefore EndedBefore m position new =
+    (new ≡ at_position m new.position) × (new.position ≤ position) × (configuration new ≡ Some [])
+StopsBefore (Faulted fault) m position new =
+    (new ≡ at_position m new.position) × (new.position < position) × (outcome_of new ≡ Faults fault)
+StopsBefore end m position new = ⊥
+
+-- Positions were told, by how the trace ended, and the run stands there: at the next one, where it goes on; at its end,
+-- behind the last of them or before the first; at the step of the last of them, which faults, or at one before the
+-- first. Or the output failed.
 abbrev pub HasTraced : TraceEnd → Bool → Standing → ℕ → ℕ → Standing → Output → Output → List ℕ → Type 0
 HasTraced GoesOn drawn m from count new before now pending =
-    (rows : List Row) × HasTable drawn m from count before now pending rows × (new.position ≡ from + length rows)
+    (rows : List Row) × HasTable drawn m from count before now pending rows
+    × (new ≡ at_position m (from + length rows)) × (0 < depth_of new)
+HasTraced Ended drawn m from count new before now pending =
+    (rows : List Row) × HasTable drawn m from count before now pending rows × (0 < length rows)
+    × (new ≡ at_position m (from + length rows)) × (configuration new ≡ Some [])
+HasTraced EndedBefore drawn m from count new before now pending =
+    HasTable drawn m from count before now pending [] × StopsBefore EndedBefore m from new
+HasTraced (Faulted fault) drawn m from count new before now pending =
+    (rows : List Row) × HasTable drawn m from count before now pending rows × (length rows ≡ new.position + 1 - from)
+    × (new ≡ at_position m new.position) × (outcome_of new ≡ Faults fault)
 HasTraced WriteFailed drawn m from count new before now pending =
     HasPart drawn m from count before now × (before.failures < now.failures)
-HasTraced end drawn m from count new before now pending =
-    (rows : List Row) × HasTable drawn m from count before now pending rows
-    × (depth_of (at_position m (from + length rows)) ≡ 0)

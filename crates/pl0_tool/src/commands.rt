@@ -5,7 +5,7 @@ ghost use Rattle.pl0_machine.specs.Machine.{depth_of};
 ghost use Rattle.byte_streams.specs.Streams.{output as output_at};
 ghost use Rattle.pl0_tool.specs.Commands.{Tells, ProgramTells, RunTells, TraceTells, IsReport, start_of};
 ghost use Rattle.pl0_tool.specs.Commands.{WritesNumbers, ProgramWrites, StartTraces, StartWrites, WritesRun};
-ghost use Rattle.pl0_tool.specs.Commands.{IsTraceReport, goes_on_line};
+ghost use Rattle.pl0_tool.specs.Commands.{IsTraceReport, ends_line, goes_on_line};
 ghost use Rattle.pl0_tool.specs.Listing.{listing};
 ghost use Rattle.pl0_tool.specs.declared.report.Ending.TheVariants.{Success};
 
@@ -18,7 +18,7 @@ use crate::table::head;
 use crate::text::load;
 use crate::tracing::{TraceEnd, trace};
 use byte_streams::Sink;
-use pl0_machine::{Machine, StepOutcome};
+use pl0_machine::Machine;
 use pl0_mistakes::mistake_line;
 use pl0_tree::SyntaxFault;
 use pl0_unit::Unit;
@@ -135,7 +135,7 @@ fn trace_program<O: Sink>(
     room: usize,
 ) -> Result<Report, AllocError>
     ensures { MatchResult result
-        (λ report. TraceTells drawn (start_of unit) from steps report
+        (λ report. TraceTells drawn file.now (start_of unit) from steps report
         (output_at (O.written output.old) (O.failures output.old))
         (output_at (O.written output.new) (O.failures output.new)))
         (λ _. StartTraces drawn unit from steps
@@ -155,7 +155,7 @@ fn trace_program<O: Sink>(
         &mut page,
         room,
     )?;
-    trace_report(alloc, file, &mut machine, end, page)
+    trace_report(alloc, file, &machine, end, page)
 }
 
 /// Returns a machine before the first step of a program.
@@ -200,15 +200,15 @@ fn run_whole<O: Sink>(
     }
 }
 
-/// Returns a report of what is pending of a table, and of where the run stopped.
+/// Returns a report of what is pending of a table, and of how the trace ended, where a machine stands.
 fn trace_report(
     alloc: Global,
     file: &str,
-    machine: &mut Machine,
+    machine: &Machine,
     end: TraceEnd,
     page: Vec<u8>,
 ) -> Result<Report, AllocError>
-    ensures { IfOk result (IsTraceReport end machine.old page.items) }
+    ensures { IfOk result (IsTraceReport end file.now machine.now page.items) }
 {
     match end {
         TraceEnd::GoesOn => {
@@ -216,11 +216,14 @@ fn trace_report(
             Ok(Report::new(page, line.into_bytes(), Ending::Success))
         }
         TraceEnd::Ended => Ok(Report::new(page, Vec::new(alloc), Ending::Success)),
+        TraceEnd::EndedBefore => {
+            let line = ends_line(alloc, machine.position())?;
+            Ok(Report::new(page, line.into_bytes(), Ending::Success))
+        }
         TraceEnd::Faulted(fault) => {
             let errors = fault_report(alloc, file, machine, fault)?;
             Ok(Report::new(page, errors, Ending::Fault))
         }
-        TraceEnd::Nowhere => nowhere_report(alloc, file, machine, page),
         TraceEnd::WriteFailed => {
             let nothing = Vec::new(alloc);
             Ok(Report::new(nothing, Vec::new(alloc), Ending::Unwritten))
@@ -235,22 +238,9 @@ fn goes_on_line(alloc: Global, position: u64) -> Result<String, AllocError>
     format!(in alloc; "pl0: the run goes on at position {position}\n")
 }
 
-/// Returns a report of a page, and of where a run ended or faulted before a position.
-fn nowhere_report(
-    alloc: Global,
-    file: &str,
-    machine: &mut Machine,
-    page: Vec<u8>,
-) -> Result<Report, AllocError>
-    ensures { IfOk result (λ report. report.output.items ≡ page.items) }
+/// Returns the line that says where a run ended.
+fn ends_line(alloc: Global, position: u64) -> Result<String, AllocError>
+    ensures { IfOk result (λ line. string_bytes line ≡ ends_line position) }
 {
-    if machine.depth() > 0 {
-        if let StepOutcome::Fault(fault) = machine.step() {
-            let errors = fault_report(alloc, file, machine, fault)?;
-            return Ok(Report::new(page, errors, Ending::Fault));
-        }
-    }
-    let end = machine.position();
-    let line = format!(in alloc; "pl0: the run ends at position {end}\n")?;
-    Ok(Report::new(page, line.into_bytes(), Ending::Success))
+    format!(in alloc; "pl0: the run ends at position {position}\n")
 }

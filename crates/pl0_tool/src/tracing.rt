@@ -1,9 +1,9 @@
 //! Telling a run position by position.
 
-ghost use Rattle.std.specs.Prelude.{◌≡◌, ◌<◌, ◌≤◌, ℕ, IfOk, MatchBool, MatchResult};
+ghost use Rattle.std.specs.Prelude.{◌≡◌, ◌<◌, ◌≤◌, ℕ, IfOk, MatchOption, MatchResult};
 ghost use Rattle.byte_streams.specs.Streams.{output as output_at};
 ghost use Rattle.pl0_machine.specs.Machine.{program, frame_of, depth_of, variables_of, outcome_of, Stepped};
-ghost use Rattle.pl0_tool.specs.Traced.{HasPart, HasTraced, PutsRow};
+ghost use Rattle.pl0_tool.specs.Traced.{HasPart, HasTraced, PutsRow, StopsBefore};
 ghost use Rattle.pl0_tool.specs.Tracing.{IsFrameRow, AreFrameRows, IsRow, at_position, numbers_in};
 ghost use Rattle.pl0_tool.specs.Table.{head};
 
@@ -51,10 +51,10 @@ pub enum TraceEnd {
     GoesOn,
     /// The run ended with the last position that was told.
     Ended,
-    /// The step of the last position that was told faults.
+    /// The run ended before the first position that was asked for.
+    EndedBefore,
+    /// The step of the last position that was told faults, or one before the first position that was asked for.
     Faulted(RunFault),
-    /// The run ended or faulted before the first position that was asked for.
-    Nowhere,
     /// The output failed.
     WriteFailed,
 }
@@ -89,8 +89,8 @@ pub fn trace<O: Sink>(
         (output_at (O.written output.old) (O.failures output.old))
         (output_at (O.written output.new) (O.failures output.new))) }
 {
-    if !go_to(rt, machine, from) {
-        return Ok(TraceEnd::Nowhere);
+    if let Some(end) = go_to(rt, machine, from) {
+        return Ok(end);
     }
     for index in 0..count {
         match tell_row(rt, alloc, machine, drawn, output, page, room) {
@@ -132,20 +132,21 @@ fn tell_row<O: Sink>(
     }
 }
 
-/// Takes a machine to a position, and returns `false` where the run ends or faults before it.
-fn go_to(rt: &impl Wait, machine: &mut Machine, position: u64) -> bool
+/// Takes a machine to a position, or to where its run stops before that, and returns how it stopped, if it did.
+fn go_to(rt: &impl Wait, machine: &mut Machine, position: u64) -> Option<TraceEnd>
     requires alive { 0 < depth_of machine.old }
     requires within { machine.old.position ≤ position }
-    ensures { MatchBool result
+    ensures { MatchOption result
         ((0 < depth_of machine.new) × (machine.new ≡ at_position machine.old position))
-        (depth_of (at_position machine.old position) ≡ 0) }
+        (λ end. StopsBefore end machine.old position machine.new
+        × (depth_of (at_position machine.old position) ≡ 0)) }
 {
     'numbers: for _ in rt.forever() {
         match machine.run(position, 0, None) {
-            None => return true,
+            None => return None,
             Some(StepOutcome::Went(_)) => {}
-            Some(StepOutcome::Done) => return false,
-            Some(StepOutcome::Fault(_)) => return false,
+            Some(StepOutcome::Done) => return Some(TraceEnd::EndedBefore),
+            Some(StepOutcome::Fault(fault)) => return Some(TraceEnd::Faulted(fault)),
         }
     }
     unreachable!()

@@ -1,6 +1,6 @@
-use Rattle.pl0_tool.proofs.Common.{subst, sym}
+use Rattle.pl0_tool.proofs.Common.{Done, Fault, None, RanOn, Some, subst}
 use Rattle.pl0_tool.proofs.RunLines.{came_none}
-use Rattle.pl0_tool.proofs.TracedRows.{IsStop, came_to, goes_further, never_there}
+use Rattle.pl0_tool.proofs.TracedRows.{came_to, ends_before, faults_before, goes_further, never_there}
 use Rattle.pl0_tool.proofs.tracing.go_to.Goals as goal
 
 pub numbers-init : goal.numbers-init
@@ -18,12 +18,18 @@ numbers-preserved g c =
 
 pub returns-in-Some-Done : goal.returns-in-Some-Done
 returns-in-Some-Done g c =
-    never_there c.args.machine.now c.numbers.machine c.run.new.self c.args.position c.in-Some-Done.field-0
-    c.numbers.invariant.2 c.in-Some-Done.ensures
-    (subst IsStop (sym c.in-Some-Done.field-0-is) tt)
+    let ran = subst (λ o. RanOn c.args.position 0 None c.numbers.machine (Some o) c.run.new.self) c.in-Some-Done.field-0-is
+    c.in-Some-Done.ensures in (
+      ends_before c.args.machine.now c.numbers.machine c.run.new.self c.args.position c.numbers.invariant.2 ran,
+      never_there c.args.machine.now c.numbers.machine c.run.new.self c.args.position Done c.numbers.invariant.2 ran tt,
+    )
 
 pub returns-in-Some-Fault : goal.returns-in-Some-Fault
 returns-in-Some-Fault g c =
-    never_there c.args.machine.now c.numbers.machine c.run.new.self c.args.position c.in-Some-Fault.field-0
-    c.numbers.invariant.2 c.in-Some-Fault.ensures
-    (subst IsStop (sym c.in-Some-Fault.field-0-is) tt)
+    let fault = c.in-Some-Fault.fault in
+    let ran = subst (λ o. RanOn c.args.position 0 None c.numbers.machine (Some o) c.run.new.self)
+    c.in-Some-Fault.field-0-is c.in-Some-Fault.ensures in (
+      faults_before c.args.machine.now c.numbers.machine c.run.new.self c.args.position fault c.numbers.invariant.2 ran,
+      never_there c.args.machine.now c.numbers.machine c.run.new.self c.args.position (Fault fault)
+          c.numbers.invariant.2 ran tt,
+    )

@@ -1,16 +1,17 @@
 use Rattle.pl0_tool.proofs.Common.{arith, ap, Done, Fault, length, None, output, Some, subst, Went, ◌+◌, ◌∙◌, ◌≡◌}
 use Rattle.pl0_machine.specs.declared.outcome.StepOutcome.{StepOutcome}
 use Rattle.pl0_tool.specs.Traced.{PutsRow}
-use Rattle.pl0_tool.proofs.TracedRows.{dead_there, part_there, stands, table_there, tells_none, told_all, told_failed, told_last, told_nowhere, told_on, told_part}
+use Rattle.pl0_tool.proofs.TracedRows.{part_there, position_there, stands, table_there, tells_none, told_all, told_failed, told_last, told_on, told_part, traced_end, traced_fault, traced_nowhere}
 use Rattle.pl0_tool.proofs.tracing.trace.Goals as goal
 
-pub returns-then-not-go_to : goal.returns-then-not-go_to
-returns-then-not-go_to g c =
-    told_nowhere c.args.drawn c.args.machine.now c.args.from c.args.count _ _ c.requires.head c.if-not-go_to.ensures
+pub returns-in-Some : goal.returns-in-Some
+returns-in-Some g c =
+    traced_nowhere c.in-Some.end c.args.drawn c.args.machine.now c.go_to.new.machine c.args.from c.args.count _ _
+    c.requires.head c.in-Some.ensures
 
 pub loop-index-init : goal.loop-index-init
 loop-index-init g c =
-    let there = c.if-not-go_to.ensures in (
+    let there = c.in_default.ensures in (
       there.0,
       stands c.args.machine.now c.go_to.new.machine c.args.from there.1,
       tells_none c.args.drawn c.go_to.new.machine c.args.from _ _ c.requires.head,
@@ -19,7 +20,7 @@ loop-index-init g c =
 pub returns-in-Err : goal.returns-in-Err
 returns-in-Err g c =
     let mid = c.go_to.new.machine in
-    part_there c.args.drawn c.args.machine.now mid c.args.from c.args.count _ _ c.if-not-go_to.ensures.1
+    part_there c.args.drawn c.args.machine.now mid c.args.from c.args.count _ _ c.in_default.ensures.1
     (told_part c.args.drawn mid c.args.from c.loop-index.index c.args.count _ _ _ _ c.loop-index-test.true
     c.in-Err.ensures c.loop-index.invariant.2)
 
@@ -42,7 +43,7 @@ returns-in-Ok-None g c =
     let failed = told_failed c.args.drawn mid now new c.args.from c.loop-index.index c.args.count
     before at after pending
     left c.loop-index-test.true c.loop-index.invariant.1 c.loop-index.invariant.2 puts in (
-      part_there c.args.drawn start mid c.args.from c.args.count before after c.if-not-go_to.ensures.1 failed.0,
+      part_there c.args.drawn start mid c.args.from c.args.count before after c.in_default.ensures.1 failed.0,
       failed.1,
     )
 
@@ -66,12 +67,9 @@ returns-in-Ok-Some-Done g c =
     let last = told_last c.args.drawn mid now new c.args.from c.loop-index.index c.args.count before at after
     pending left
     Done c.loop-index-test.true c.loop-index.invariant.1
-    c.loop-index.invariant.2 puts tt in (
-      last.0,
-      table_there c.args.drawn start mid c.args.from c.args.count before after left last.0
-          c.if-not-go_to.ensures.1 last.1,
-      dead_there start mid c.args.from (c.args.from + length last.0) c.if-not-go_to.ensures.1 last.2,
-    )
+    c.loop-index.invariant.2 puts tt in
+    traced_end c.args.drawn start mid now new c.args.from c.loop-index.index c.args.count before after left
+    c.in_default.ensures.1 c.loop-index.invariant.1 puts.2 last
 
 pub returns-in-Ok-Some-Fault : goal.returns-in-Ok-Some-Fault
 returns-in-Ok-Some-Fault g c =
@@ -93,12 +91,9 @@ returns-in-Ok-Some-Fault g c =
     let last = told_last c.args.drawn mid now new c.args.from c.loop-index.index c.args.count before at after
     pending left
     (Fault c.in-Ok-Some-Fault.fault) c.loop-index-test.true c.loop-index.invariant.1
-    c.loop-index.invariant.2 puts tt in (
-      last.0,
-      table_there c.args.drawn start mid c.args.from c.args.count before after left last.0
-          c.if-not-go_to.ensures.1 last.1,
-      dead_there start mid c.args.from (c.args.from + length last.0) c.if-not-go_to.ensures.1 last.2,
-    )
+    c.loop-index.invariant.2 puts tt in
+    traced_fault c.args.drawn start mid now new c.in-Ok-Some-Fault.fault c.args.from c.loop-index.index c.args.count
+    before after left c.in_default.ensures.1 c.loop-index.invariant.1 puts.2 last
 
 pub loop-index-preserved : goal.loop-index-preserved
 loop-index-preserved g c =
@@ -128,6 +123,7 @@ returns g c =
     let all = told_all c.args.drawn mid c.loop-index.machine c.args.from c.loop-index.index c.args.count _ _ _ end
     c.loop-index.invariant.1 c.loop-index.invariant.2 in (
       all.0,
-      table_there c.args.drawn start mid c.args.from c.args.count _ _ _ all.0 c.if-not-go_to.ensures.1 all.1,
-      all.2,
+      table_there c.args.drawn start mid c.args.from c.args.count _ _ _ all.0 c.in_default.ensures.1 all.1,
+      all.2 ∙ position_there start mid c.args.from (c.args.from + length all.0) c.in_default.ensures.1,
+      c.loop-index.invariant.0,
     )
