@@ -2,7 +2,7 @@
 use Rattle.std.specs.Prelude.{◌≡◌, [], ℕ}
 use Rattle.dap_wires.specs.Inbox.{client_events, client_queue, sent_reports, refused_reports, report_queue, taken_events, event_queue}
 use Rattle.dap_wires.specs.Orders.{pushed_orders, push_queue, taken_orders, pop_queue}
-use Rattle.dap_wires.specs.Outbox.{put_frames, frame_queue, unused_queue, messages_taken, writer_queue}
+use Rattle.dap_wires.specs.Outbox.{put_frames, frame_queue, messages_taken, writer_queue}
 use Rattle.adapter.specs.declared.wires.Wires.{Wires}
 
 -- Nothing went through the queues.
@@ -21,5 +21,4 @@ pub record AreJoined {R : Type 0} (w : Wires R) : Type 0 where
   pub reports : report_queue w.reports ≡ client_queue w.client
   pub events : event_queue w.events ≡ client_queue w.client
   pub messages : writer_queue w.messages ≡ frame_queue w.frames
-  pub unused : unused_queue w.frames ≡ frame_queue w.frames
   pub orders : pop_queue w.taken ≡ push_queue w.pushed

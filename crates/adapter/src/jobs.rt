@@ -8,9 +8,8 @@ ghost use Rattle.dap_session.specs.Serving.{Driven};
 ghost use Rattle.dbg_runner.specs.Runner.{Act, Idle, Ended, DoesAll};
 ghost use Rattle.dbg_runner.specs.Queues.{order_in, sent_in, passed_in};
 ghost use Rattle.dap_wires.specs.declared.writer_message.WriterMessage.{WriterMessage};
-ghost use Rattle.dap_wires.specs.Ends.{receive_log, receive_log_queue};
 ghost use Rattle.dap_wires.specs.Inbox.{client_events, client_queue, sent_reports, refused_reports, report_queue, taken_events, received, left_queue, event_queue};
-ghost use Rattle.dap_wires.specs.Outbox.{put_frames, frame_queue, unused_queue, messages_put, ended_queue, ended_unused_queue, messages_taken, messages_received, writer_queue};
+ghost use Rattle.dap_wires.specs.Outbox.{put_frames, frame_queue, messages_put, ended_queue, messages_taken, messages_received, received_queue, writer_queue};
 ghost use Rattle.dap_wires.specs.Orders.{pushed_orders, push_queue, taken_orders, pop_queue};
 ghost use Rattle.dap_wires.specs.Reading.{IsReadUntil};
 ghost use Rattle.byte_streams.specs.Streams.{supply, output as output_at};
@@ -24,7 +23,7 @@ use byte_streams::{Sink, Source, WriteFailed};
 use dap_session::{Closed, FirstSeq, Loader, Order, Orders, SessionFault, drive_counting_from};
 use dap_wires::{
     ClientSender, EndedSender, EventReceiver, FrameReceiver, FrameSender, InboxLog, OrderReceiver,
-    OrderSender, ReadEnd, ReceiveLog, ReportSender, WriterMessage, read_loop, write_loop,
+    OrderSender, OutboxLog, ReadEnd, ReportSender, read_loop, write_loop,
 };
 use dbg_runner::{Gate, Joined, work};
 use std::alloc::Global;
@@ -102,27 +101,16 @@ impl<'a, O, R: Wait + Drop> WriterTask<'a, O, R> {
 }
 
 impl<'a, O: Sink, R: Wait + Drop> Task for WriterTask<'a, O, R> {
-    type Output = (
-        &'a mut O,
-        ReceiveLog<WriterMessage>,
-        Result<(), WriteFailed>,
-    );
+    type Output = (&'a mut O, OutboxLog, Result<(), WriteFailed>);
 
     ghost can_run = { λ _. ⊤ };
 
-    ghost gives = { λ t r. (r.0.ghost_name ≡ t.output.ghost_name) × (receive_log_queue r.1 ≡ writer_queue t.outbox)
-        × ((receive_log r.1).takes ≡ true)
+    ghost gives = { λ t r. (r.0.ghost_name ≡ t.output.ghost_name) × (received_queue r.1 ≡ writer_queue t.outbox)
         × ((taken : List WriterMessage) × (messages_received r.1 ≡ messages_taken t.outbox ++ taken)
         × IsWrittenUntil r.2 taken (output_at (O.written t.output.now) (O.failures t.output.now)) (output_at
         (O.written r.0.now) (O.failures r.0.now))) };
 
-    fn run(
-        self,
-    ) -> (
-        &'a mut O,
-        ReceiveLog<WriterMessage>,
-        Result<(), WriteFailed>,
-    ) {
+    fn run(self) -> (&'a mut O, OutboxLog, Result<(), WriteFailed>) {
         let WriterTask {
             rt,
             output,
@@ -252,7 +240,7 @@ impl<'a, L: Loader, R: Wait + Drop> Task for SessionTask<'a, L, R> {
 
     ghost gives = { λ t r. (r.0.ghost_name ≡ t.loader.ghost_name)
         × (left_queue r.1.inbox ≡ event_queue t.inbox)
-        × (ended_queue r.1.outbox ≡ frame_queue t.outbox) × (ended_unused_queue r.1.outbox ≡ unused_queue t.outbox)
+        × (ended_queue r.1.outbox ≡ frame_queue t.outbox)
         × (push_queue r.1.orders ≡ push_queue t.orders)
         × SessionLeaves t.first r.2 (taken_events t.inbox) (received r.1.inbox) (L.loaded t.loader.now)
         (L.loaded r.0.now)

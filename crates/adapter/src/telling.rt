@@ -8,7 +8,7 @@ use crate::serving::{ServeFault, Served, outcome};
 use crate::tasks::Witness;
 use byte_streams::WriteFailed;
 use dap_session::{Closed, SessionFault};
-use dap_wires::{ReceiveLog, WriterMessage};
+use dap_wires::OutboxLog;
 use std::sync::Wait;
 
 /// Is told how serving ended.
@@ -74,11 +74,7 @@ impl<'a, E> ListenerWitness<'a, E> {
 }
 
 impl<'a, 'o, 'l, O, L, R: Wait + Drop, E: EndListener> Witness<
-    (
-        &'o mut O,
-        ReceiveLog<WriterMessage>,
-        Result<(), WriteFailed>,
-    ),
+    (&'o mut O, OutboxLog, Result<(), WriteFailed>),
     (&'l mut L, SessionEnds<R>, Result<Closed, SessionFault>),
 > for ListenerWitness<'a, E> {
     type Output = &'a mut E;
@@ -88,11 +84,7 @@ impl<'a, 'o, 'l, O, L, R: Wait + Drop, E: EndListener> Witness<
 
     fn see(
         self,
-        writer: &(
-            &'o mut O,
-            ReceiveLog<WriterMessage>,
-            Result<(), WriteFailed>,
-        ),
+        writer: &(&'o mut O, OutboxLog, Result<(), WriteFailed>),
         session: &(&'l mut L, SessionEnds<R>, Result<Closed, SessionFault>),
     ) -> &'a mut E {
         let ListenerWitness { listener } = self;

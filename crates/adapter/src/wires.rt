@@ -1,19 +1,17 @@
 //! The queues between the threads of `serve`: made together, and reconciled together at the end.
 
-ghost use Rattle.std.specs.Prelude.{◌≡◌, ◌≢◌, true, IfOk};
+ghost use Rattle.std.specs.Prelude.{◌≡◌, ◌≢◌, IfOk};
 ghost use Rattle.dap_session.specs.Sending.{IsPrefixOf};
-ghost use Rattle.dap_wires.specs.Ends.{receive_log, receive_log_queue};
 ghost use Rattle.dap_wires.specs.Inbox.{client_events, client_queue, sent_reports, report_queue, received, left_queue};
 ghost use Rattle.dap_wires.specs.Orders.{FourWerePushed, pushed_orders, push_queue, taken_orders, pop_queue};
-ghost use Rattle.dap_wires.specs.Outbox.{messages_put, ended_queue, ended_unused_queue, messages_received};
+ghost use Rattle.dap_wires.specs.Outbox.{messages_put, ended_queue, messages_received, received_queue};
 ghost use Rattle.dap_wires.specs.Senders.{from_client, reports_among};
 ghost use Rattle.adapter.specs.Wires.{AreUnused, AreJoined};
 
 use crate::jobs::SessionEnds;
 use dap_wires::{
-    ClientSender, EventReceiver, FrameReceiver, FrameSender, OrderReceiver, OrderSender,
-    ReceiveLog, ReportSender, WriterMessage, inbox, orders, outbox, reconcile_inbox,
-    reconcile_orders, reconcile_outbox,
+    ClientSender, EventReceiver, FrameReceiver, FrameSender, OrderReceiver, OrderSender, OutboxLog,
+    ReportSender, inbox, orders, outbox, reconcile_inbox, reconcile_orders, reconcile_outbox,
 };
 use std::alloc::{AllocError, Global};
 use std::sync::Wait;
@@ -62,14 +60,12 @@ pub fn make_wires<R: Wait + Copy + Drop>(rt: R, alloc: Global) -> Result<Wires<R
 pub fn reconcile<R: Wait + Drop>(
     client: ClientSender<R>,
     reports: ReportSender<R>,
-    written: ReceiveLog<WriterMessage>,
+    written: OutboxLog,
     taken: OrderReceiver<R>,
     ends: SessionEnds<R>,
 )
     requires inbox { (report_queue reports ≡ client_queue client) × (left_queue ends.inbox ≡ client_queue client) }
-    requires outbox { (ended_unused_queue ends.outbox ≡ ended_queue ends.outbox)
-        × (receive_log_queue written ≡ ended_queue ends.outbox) }
-    requires messages { (receive_log written).takes ≡ true }
+    requires outbox { received_queue written ≡ ended_queue ends.outbox }
     requires orders { pop_queue taken ≡ push_queue ends.orders }
     ensures client { IsPrefixOf (from_client (received ends.inbox)) (client_events client) }
     ensures reports { IsPrefixOf (reports_among (received ends.inbox)) (sent_reports reports) }

@@ -27,6 +27,10 @@ second_sender = record { first = false; second = true; takes = false }
 abbrev pub only_receiver : Rights
 only_receiver = record { first = false; second = false; takes = true }
 
+-- the rights of the receiver of a queue of one sender, where nobody else has the second sender's
+abbrev pub sole_receiver : Rights
+sole_receiver = record { first = false; second = true; takes = true }
+
 module _ {M : Type 0} where
   abbrev pub rights : EndLog M → Rights
   rights v = record { first = v.first; second = v.second; takes = v.takes }

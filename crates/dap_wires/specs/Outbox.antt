@@ -1,11 +1,11 @@
 -- Defines what went through an outbox, as plain data.
 use Rattle.std.specs.Prelude.{ℕ, List, map, [], ◌∷◌, ◌++◌}
-use Rattle.dap_wires.specs.declared.ends.ReceiveLog.{ReceiveLog}
 use Rattle.dap_wires.specs.declared.writer_message.WriterMessage.{WriterMessage}
 use Rattle.dap_wires.specs.declared.frame_ends.FrameSender.{FrameSender}
 use Rattle.dap_wires.specs.declared.frame_ends.EndedSender.{EndedSender}
 use Rattle.dap_wires.specs.declared.frame_ends.FrameReceiver.{FrameReceiver}
-use Rattle.dap_wires.specs.Ends.{QueueId, sender_log, sender_queue, receiver_log, receiver_queue, receive_log}
+use Rattle.dap_wires.specs.declared.frame_ends.OutboxLog.{OutboxLog}
+use Rattle.dap_wires.specs.Ends.{QueueId, sender_log, sender_queue, receiver_log, receiver_queue, receive_log, receive_log_queue}
 use Rattle.dap_wires.specs.WriterMessages.{frames_in, kept_in}
 use Rattle.dap_session.specs.Ports.{Written}
 
@@ -22,23 +22,17 @@ module _ {R : Type 0} where
         refused = map (λ frame. frame.items) e.refused.entries;
       }
 
-  -- which queue an end belongs to, and which the end that nobody uses
+  -- which queue an end belongs to
   abbrev pub frame_queue : FrameSender R → QueueId WriterMessage
   frame_queue e = sender_queue e.end
-
-  abbrev pub unused_queue : FrameSender R → QueueId WriterMessage
-  unused_queue e = sender_queue e.unused
 
   -- all that was put until the session ended, with `End` where that was put
   abbrev pub messages_put : EndedSender R → List WriterMessage
   messages_put e = (sender_log e.end).put_first ++ kept_in e.kept
 
-  -- which queue the ends belong to when no more is put
+  -- which queue the end belongs to when no more is put
   abbrev pub ended_queue : EndedSender R → QueueId WriterMessage
   ended_queue e = sender_queue e.end
-
-  abbrev pub ended_unused_queue : EndedSender R → QueueId WriterMessage
-  ended_unused_queue e = sender_queue e.unused
 
   -- what the writer took
   abbrev pub messages_taken : FrameReceiver R → List WriterMessage
@@ -48,6 +42,9 @@ module _ {R : Type 0} where
   abbrev pub writer_queue : FrameReceiver R → QueueId WriterMessage
   writer_queue e = receiver_queue e.end
 
--- what the writer received from an outbox that it has left
-abbrev pub messages_received : ReceiveLog WriterMessage → List WriterMessage
-messages_received r = (receive_log r).taken
+-- what the writer received from an outbox that it has left, and which queue that is
+abbrev pub messages_received : OutboxLog → List WriterMessage
+messages_received r = (receive_log r.log).taken
+
+abbrev pub received_queue : OutboxLog → QueueId WriterMessage
+received_queue r = receive_log_queue r.log

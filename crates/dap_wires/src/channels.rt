@@ -1,7 +1,7 @@
-//! A queue of two senders and one receiver.
+//! A queue of one or two senders and one receiver.
 
 ghost use Rattle.std.specs.Prelude.{◌≡◌, ◌<◌, true, IfOk, IfErr, OnOk, OnErr, IfSome, IfNone, List, ◌++◌};
-ghost use Rattle.dap_wires.specs.Delivery.{unused, first_sender, second_sender, only_receiver, put, took, May, of_first, of_second};
+ghost use Rattle.dap_wires.specs.Delivery.{unused, first_sender, second_sender, only_receiver, sole_receiver, put, took, May, of_first, of_second};
 ghost use Rattle.dap_wires.specs.Ends.{sender_log, receiver_log, receive_log, sender_queue, receiver_queue, receive_log_queue, sender_room, receiver_room};
 
 use crate::ends::{ReceiveEnd, ReceiveLog, SendEnd};
@@ -52,6 +52,35 @@ pub(crate) fn channel<M: Sent + Drop, R: Wait + Copy + Drop>(
     ))
 }
 
+/// Makes a queue of one sender, with room for `capacity` messages. Returns both of its ends. The right of the second sender
+/// stays at the receiver's, where nobody uses it.
+///
+/// # Errors
+///
+/// `AllocError`, where an allocation failed.
+pub(crate) fn channel_of_one<M: Sent + Drop, R: Wait + Copy + Drop>(
+    rt: R,
+    alloc: Global,
+    capacity: usize,
+) -> Result<(SendEnd<M, R>, ReceiveEnd<M, R>), AllocError>
+    requires { 0 < capacity }
+    ensures sender { IfOk result (λ r. sender_log r.0 ≡ unused first_sender) }
+    ensures receiver { IfOk result (λ r. receiver_log r.1 ≡ unused sole_receiver) }
+    ensures one { IfOk result (λ r. receiver_queue r.1 ≡ sender_queue r.0) }
+    ensures room { IfOk result (λ r. (sender_room r.0 ≡ capacity) × (receiver_room r.1 ≡ capacity)) }
+{
+    let (sender, receiver, mut pass) = bounded_with(alloc, capacity)?;
+    let only = sender.another::<First>(&mut pass);
+    Ok((
+        SendEnd {
+            rt,
+            sender,
+            pass: only,
+        },
+        ReceiveEnd { rt, receiver, pass },
+    ))
+}
+
 /// Brings the logs of all ends together, when all threads were joined, and proves that of each sender what was received,
 /// and then what is left inside, is what it sent.
 pub(crate) fn reconcile<M: Sent + Drop, R: Wait + Drop>(
@@ -76,6 +105,29 @@ pub(crate) fn reconcile<M: Sent + Drop, R: Wait + Drop>(
     let ReceiveLog { mut pass } = log;
     sender.absorb::<First>(&mut pass, one);
     sender.absorb::<Second>(&mut pass, two);
+    sender.learn_as::<Whole>(&mut pass);
+}
+
+/// Brings the logs of both ends of a queue of one sender together, when both threads were joined, and proves that what was
+/// received, and then what is left inside, is what was sent.
+pub(crate) fn reconcile_one<M: Sent + Drop, R: Wait + Drop>(
+    first: SendEnd<M, R>,
+    log: ReceiveLog<M>,
+)
+    requires one { receive_log_queue log ≡ sender_queue first }
+    requires first { (sender_log first).first ≡ true }
+    requires second { (receive_log log).second ≡ true }
+    requires receiver { (receive_log log).takes ≡ true }
+    ensures { (inside : List M)
+        × ((sender_log first).put_first ≡ of_first M.by_second ((receive_log log).taken ++ inside)) }
+{
+    let SendEnd {
+        sender,
+        pass: one,
+        ..
+    } = first;
+    let ReceiveLog { mut pass } = log;
+    sender.absorb::<First>(&mut pass, one);
     sender.learn_as::<Whole>(&mut pass);
 }
 

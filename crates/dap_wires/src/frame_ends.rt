@@ -2,11 +2,11 @@
 
 ghost use Rattle.std.specs.Prelude.{◌≡◌, true, false, []};
 ghost use Rattle.dap_wires.specs.declared.frames.TheConstants.{OUTBOX_CAPACITY};
-ghost use Rattle.dap_wires.specs.Ends.{sender_log, receiver_log, sender_room, receiver_room};
+ghost use Rattle.dap_wires.specs.Ends.{sender_log, receiver_log, receive_log, sender_room, receiver_room};
 ghost use Rattle.dap_wires.specs.WriterMessages.{has_end};
 
 use crate::bundle::Bundle;
-use crate::ends::{ReceiveEnd, SendEnd};
+use crate::ends::{ReceiveEnd, ReceiveLog, SendEnd};
 use crate::writer_message::WriterMessage;
 use dbg_runner::GhostList;
 use std::sync::Wait;
@@ -17,14 +17,11 @@ pub struct FrameSender<R: Wait + Drop> {
     pub(crate) end: SendEnd<WriterMessage, R>,
     // The frames that were put and aren't in the queue.
     pub(crate) kept: Option<Bundle>,
-    // The second sender's end, which nobody uses.
-    pub(crate) unused: SendEnd<WriterMessage, R>,
     // What was returned as an error.
     pub(crate) refused: GhostList<Vec<u8>>,
     // Whether a frame was refused.
     pub(crate) is_gone: bool,
     ghost puts: { (sender_log end).first ≡ true },
-    ghost unused_puts: { (sender_log unused).second ≡ true },
     ghost room: { sender_room end ≡ OUTBOX_CAPACITY },
     ghost open: { has_end (sender_log end).put_first ≡ false },
     ghost gone: { is_gone ≡ false → refused.entries ≡ [] },
@@ -36,9 +33,7 @@ pub struct EndedSender<R: Wait + Drop> {
     pub(crate) end: SendEnd<WriterMessage, R>,
     // The frames that were put and never came into the queue.
     pub(crate) kept: Option<Bundle>,
-    pub(crate) unused: SendEnd<WriterMessage, R>,
     ghost puts: { (sender_log end).first ≡ true },
-    ghost unused_puts: { (sender_log unused).second ≡ true },
 }
 
 /// The end of the writer, which takes frames.
@@ -46,5 +41,14 @@ pub struct EndedSender<R: Wait + Drop> {
 pub struct FrameReceiver<R: Wait + Drop> {
     pub(crate) end: ReceiveEnd<WriterMessage, R>,
     ghost takes: { (receiver_log end).takes ≡ true },
+    ghost joins: { (receiver_log end).second ≡ true },
     ghost room: { receiver_room end ≡ OUTBOX_CAPACITY },
+}
+
+/// The log of what a writer received from an outbox that it has left.
+#[derive(Drop)]
+pub struct OutboxLog {
+    pub(crate) log: ReceiveLog<WriterMessage>,
+    ghost takes: { (receive_log log).takes ≡ true },
+    ghost joins: { (receive_log log).second ≡ true },
 }

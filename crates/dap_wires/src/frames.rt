@@ -2,14 +2,12 @@
 
 ghost use Rattle.std.specs.Prelude.{◌≡◌, ◌≢◌, ◌⊎◌, ◌++◌, ◌∷◌, [], true, false, ℕ, None, IfOk, IfSome, IfNone, IsTrue, IsFalse};
 ghost use Rattle.dap_session.specs.Sending.{IsPrefixOf};
-ghost use Rattle.dap_wires.specs.Ends.{receive_log, receive_log_queue};
-ghost use Rattle.dap_wires.specs.Outbox.{put_frames, frame_queue, unused_queue, messages_put, ended_queue, ended_unused_queue, messages_taken, writer_queue, messages_received, with_frame};
+ghost use Rattle.dap_wires.specs.Outbox.{put_frames, frame_queue, messages_put, ended_queue, messages_taken, writer_queue, messages_received, received_queue, with_frame};
 ghost use Rattle.dap_wires.specs.WriterMessages.{frames_in, has_end, AreEnded};
 
 use crate::bundle::Bundle;
-use crate::channels::{channel, reconcile};
-use crate::ends::ReceiveLog;
-use crate::frame_ends::{EndedSender, FrameReceiver, FrameSender};
+use crate::channels::{channel_of_one, reconcile_one};
+use crate::frame_ends::{EndedSender, FrameReceiver, FrameSender, OutboxLog};
 use crate::writer_message::WriterMessage;
 use dap_session::Out;
 use dbg_runner::GhostList;
@@ -31,14 +29,13 @@ pub fn outbox<R: Wait + Copy + Drop>(
 ) -> Result<(FrameSender<R>, FrameReceiver<R>), AllocError>
     ensures frames { IfOk result (λ r. put_frames r.0 ≡ record { frames = []; refused = [] }) }
     ensures messages { IfOk result (λ r. messages_taken r.1 ≡ []) }
-    ensures one { IfOk result (λ r. (writer_queue r.1 ≡ frame_queue r.0) × (unused_queue r.0 ≡ frame_queue r.0)) }
+    ensures one { IfOk result (λ r. writer_queue r.1 ≡ frame_queue r.0) }
 {
-    let (frames, unused, messages) = channel(rt, alloc, OUTBOX_CAPACITY)?;
+    let (frames, messages) = channel_of_one(rt, alloc, OUTBOX_CAPACITY)?;
     Ok((
         FrameSender {
             end: frames,
             kept: None,
-            unused,
             refused: GhostList::new(),
             is_gone: false,
         },
@@ -46,14 +43,13 @@ pub fn outbox<R: Wait + Copy + Drop>(
     ))
 }
 
-/// Brings the logs of all ends together, when all threads were joined, and proves that the messages that the writer
+/// Brings the logs of both ends together, when both threads were joined, and proves that the messages that the writer
 /// received are a prefix of those that the session put.
-pub fn reconcile_outbox<R: Wait + Drop>(frames: EndedSender<R>, log: ReceiveLog<WriterMessage>)
-    requires one { (ended_unused_queue frames ≡ ended_queue frames) × (receive_log_queue log ≡ ended_queue frames) }
-    requires receiver { (receive_log log).takes ≡ true }
+pub fn reconcile_outbox<R: Wait + Drop>(frames: EndedSender<R>, log: OutboxLog)
+    requires { received_queue log ≡ ended_queue frames }
     ensures taken { IsPrefixOf (messages_received log) (messages_put frames) }
 {
-    reconcile(frames.end, frames.unused, log);
+    reconcile_one(frames.end, log.log);
 }
 
 impl<R: Wait + Drop> FrameSender<R> {
@@ -63,7 +59,7 @@ impl<R: Wait + Drop> FrameSender<R> {
         ensures put { (has_end (messages_put result) ≡ false) ⊎ AreEnded (messages_put result) }
         ensures refused { (put_frames self).refused ≢ [] → has_end (messages_put result) ≡ false }
         ensures frames { frames_in (messages_put result) ≡ (put_frames self).frames }
-        ensures queue { (ended_queue result ≡ frame_queue self) × (ended_unused_queue result ≡ unused_queue self) }
+        ensures queue { ended_queue result ≡ frame_queue self }
     {
         self.send_kept();
         self.end()
@@ -75,28 +71,26 @@ impl<R: Wait + Drop> FrameSender<R> {
         ensures put { (has_end (messages_put result) ≡ false) ⊎ AreEnded (messages_put result) }
         ensures refused { (put_frames self).refused ≢ [] → has_end (messages_put result) ≡ false }
         ensures frames { frames_in (messages_put result) ≡ (put_frames self).frames }
-        ensures queue { (ended_queue result ≡ frame_queue self) × (ended_unused_queue result ≡ unused_queue self) }
+        ensures queue { ended_queue result ≡ frame_queue self }
     {
         let FrameSender {
             mut end,
             kept,
-            unused,
             is_gone,
             ..
         } = self;
         if is_gone {
-            return EndedSender { end, kept, unused };
+            return EndedSender { end, kept };
         }
         let _ = end.send(WriterMessage::End);
-        EndedSender { end, kept, unused }
+        EndedSender { end, kept }
     }
 
     /// Puts the frames that are kept into the queue. Where the writer has left it, they stay, and is_gone says so.
     fn send_kept(&mut self)
         ensures seen { put_frames self.new ≡ put_frames self.old }
         ensures none { self.new.is_gone ≡ false → self.new.kept ≡ None }
-        ensures queue { (frame_queue self.new ≡ frame_queue self.old)
-            × (unused_queue self.new ≡ unused_queue self.old) }
+        ensures queue { frame_queue self.new ≡ frame_queue self.old }
     {
         let Some(bundle) = mem::replace(&mut self.kept, None) else {
             return;
@@ -115,8 +109,7 @@ impl<R: Wait + Drop> FrameSender<R> {
     fn add(&mut self, frame: &Vec<u8>) -> bool
         ensures added { IsTrue result → put_frames self.new ≡ with_frame (put_frames self.old) frame.now.items }
         ensures full { IsFalse result → put_frames self.new ≡ put_frames self.old }
-        ensures queue { (frame_queue self.new ≡ frame_queue self.old)
-            × (unused_queue self.new ≡ unused_queue self.old) }
+        ensures queue { frame_queue self.new ≡ frame_queue self.old }
     {
         match &mut self.kept {
             Some(bundle) if !self.is_gone => bundle.add(frame),
@@ -128,8 +121,7 @@ impl<R: Wait + Drop> FrameSender<R> {
     fn refuse(&mut self, frame: &Vec<u8>)
         ensures frames { (put_frames self.new).frames ≡ (put_frames self.old).frames }
         ensures refused { (put_frames self.new).refused ≡ (put_frames self.old).refused ++ frame.now.items ∷ [] }
-        ensures queue { (frame_queue self.new ≡ frame_queue self.old)
-            × (unused_queue self.new ≡ unused_queue self.old) }
+        ensures queue { frame_queue self.new ≡ frame_queue self.old }
     {
         self.is_gone = true;
         self.refused = self.refused.and(frame);
@@ -139,13 +131,13 @@ impl<R: Wait + Drop> FrameSender<R> {
 impl<R: Wait + Drop> Out for FrameSender<R> {
     ghost use Rattle.dap_wires.specs.declared.writer_message.WriterMessage.{WriterMessage};
     ghost use Rattle.dap_wires.specs.Ends.{QueueId};
-    ghost use Rattle.dap_wires.specs.Outbox.{put_frames, frame_queue, unused_queue};
+    ghost use Rattle.dap_wires.specs.Outbox.{put_frames, frame_queue};
 
     ghost seen = { put_frames };
 
-    ghost Origin = { QueueId WriterMessage × QueueId WriterMessage };
+    ghost Origin = { QueueId WriterMessage };
 
-    ghost origin = { λ e. (frame_queue e, unused_queue e) };
+    ghost origin = { frame_queue };
 
     fn put(&mut self, frame: Vec<u8>) -> Result<(), Vec<u8>> {
         if self.add(&frame) {
@@ -190,11 +182,12 @@ impl<R: Wait + Drop> FrameReceiver<R> {
     }
 
     /// Leaves the outbox: from now on a frame that is put is returned as an error.
-    pub fn leave(self) -> ReceiveLog<WriterMessage>
+    pub fn leave(self) -> OutboxLog
         ensures received { messages_received result ≡ messages_taken self }
-        ensures takes { (receive_log result).takes ≡ true }
-        ensures queue { receive_log_queue result ≡ writer_queue self }
+        ensures queue { received_queue result ≡ writer_queue self }
     {
-        self.end.leave()
+        OutboxLog {
+            log: self.end.leave(),
+        }
     }
 }

@@ -79,7 +79,7 @@ returns-in-Ok-clause-served g c =
     (subst (λ f. SessionLeaves f closed (taken_events c.tasks_over-writer.result.3.inbox) (received ends.inbox)
     (g.L.Loader.loaded c.tasks_over-writer.result.3.loader.now) (g.L.Loader.loaded c.in-Ok.loader.now)
     (ports (put_frames c.tasks_over-writer.result.3.outbox) (pushed_orders c.tasks_over-writer.result.3.orders))
-    (messages_put ends.outbox) (pushed_orders ends.orders)) given_to.first s.5) in
+    (messages_put ends.outbox) (pushed_orders ends.orders)) given_to.first s.4) in
     let lent : SessionLeaves c.args.first closed [] (received ends.inbox) (g.L.Loader.loaded c.args.loader.now)
     (g.L.Loader.loaded c.in-Ok.loader.now)
     (ports (put_frames c.tasks_over-writer.result.3.outbox) (pushed_orders c.tasks_over-writer.result.3.orders))
@@ -95,17 +95,17 @@ returns-in-Ok-clause-served g c =
     lent in
     let client : client_events c.in-Ok.client ≡ i.2.0 =
     i.2.1 ∙ ap (λ l. l ++ i.2.0) (ap client_events c.tasks_over-writer.ensures.client ∙ c.requires.unused.client) in
-    let taken : messages_received c.in-Ok.written ≡ w.3.0 =
-    w.3.1 ∙ ap (λ l. l ++ w.3.0) (ap messages_taken c.tasks_over-writer.ensures.outbox ∙ c.requires.unused.messages)
+    let taken : messages_received c.in-Ok.written ≡ w.2.0 =
+    w.2.1 ∙ ap (λ l. l ++ w.2.0) (ap messages_taken c.tasks_over-writer.ensures.outbox ∙ c.requires.unused.messages)
     in
     let read =
     subst (λ x. IsReadUntil c.in-Ok.field-0-2-2 i.2.0 (supply (g.I.Source.left x) (g.I.Source.failures x))
     (supply (g.I.Source.left c.in-Ok.input.now) (g.I.Source.failures c.in-Ok.input.now)))
     c.tasks_over-writer.ensures.input i.2.2 in
     let written =
-    subst (λ x. IsWrittenUntil c.in-Ok.wrote w.3.0 (output_at (g.O.Sink.written x) (g.O.Sink.failures x))
+    subst (λ x. IsWrittenUntil c.in-Ok.wrote w.2.0 (output_at (g.O.Sink.written x) (g.O.Sink.failures x))
     (output_at (g.O.Sink.written c.in-Ok.output.now) (g.O.Sink.failures c.in-Ok.output.now)))
-    c.tasks_over-writer.ensures.output w.3.2 in
+    c.tasks_over-writer.ensures.output w.2.2 in
     let four : (pushed_orders ends.orders).fulls ≢ 0 → FourWerePushed (pushed_orders ends.orders).orders = facts.9 in
     let passed : g.G.Gate.passed c.in-Ok.gate.now ≡ g.G.Gate.passed c.args.gate.now ++ flat_map passed_in r.3.0 =
     r.3.4 ∙ ap (λ x. g.G.Gate.passed x ++ flat_map passed_in r.3.0) c.tasks_over-writer.ensures.gate in
@@ -119,7 +119,7 @@ returns-in-Ok-clause-served g c =
     (g.O.Sink.written c.in-Ok.output.now) (g.O.Sink.failures c.in-Ok.output.now)) in
     let driven : TasksEnd c.args.first c.in-Ok.wrote closed before after =
     gathers c.args.first c.in-Ok.wrote closed before after (received ends.inbox) (messages_put ends.outbox)
-    (pushed_orders ends.orders) _ i.2.0 r.3.0 _ (taken_orders c.in-Ok.taken) w.3.0
+    (pushed_orders ends.orders) _ i.2.0 r.3.0 _ (taken_orders c.in-Ok.taken) w.2.0
     session read
     (subst (λ l. IsPrefixOf (from_client (received ends.inbox)) l) client inbox_client)
     r.3.1 r.3.2 r.3.3

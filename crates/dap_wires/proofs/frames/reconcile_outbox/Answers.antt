@@ -8,6 +8,6 @@ pub returns : goal.returns
 returns g c =
     record {
       taken = messages_begin (sender_log c.args.frames.end).put_first (kept_in c.args.frames.kept)
-          (messages_received c.args.log) c.reconcile.ensures.0
-          c.reconcile.ensures.1;
+          (messages_received c.args.log) c.reconcile_one.ensures.0
+          c.reconcile_one.ensures.1;
     }

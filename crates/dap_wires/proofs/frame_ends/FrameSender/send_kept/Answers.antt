@@ -9,7 +9,6 @@ invariant_of-self-in-Ok g c =
     let sent = c.in-Ok.ensures.sent in
     record {
       puts = ap (λ v. v.first) sent ∙ c.args.self.now.puts;
-      unused_puts = c.args.self.now.unused_puts;
       room = c.in-Ok.ensures.room ∙ c.args.self.now.room;
       «open» = ap (λ v. has_end v.put_first) sent ∙ frame_keeps_open (sender_log c.args.self.now.end).put_first
           c.in-Some.bundle c.args.self.now.«open»;

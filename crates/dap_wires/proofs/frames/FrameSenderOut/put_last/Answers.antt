@@ -24,7 +24,6 @@ invariant_of-self g c =
     old.«open» in
     record {
       puts = kept.0;
-      unused_puts = old.unused_puts;
       room = c.send.ensures.room ∙ old.room;
       «open» = kept.1;
       gone = old.gone;
