@@ -1,4 +1,5 @@
 use Rattle.std.proofs.Common.{◌∙◌}
+use Rattle.std.proofs.lemmas.Result.{err_from_is_err_and}
 use Rattle.dap_wires.specs.Outbox.{messages_taken}
 use Rattle.byte_streams.specs.Streams.{output}
 use Rattle.dap_wires.proofs.WrittenSoFar.{written_ends, written_breaks, written_goes_on}
@@ -20,7 +21,8 @@ pub returns-in_err-write_all-clause-written : goal.returns-in_err-write_all-clau
 returns-in_err-write_all-clause-written g c =
     let took = rw c.in-Some-Frames.field-0-is at c.in-Some-Frames.ensures.some in
     let part = rw c.as_slice.ensures.value at c.in_err-write_all.ensures.written in
-    written_breaks
+    let p = err_from_is_err_and c.from_residual.result c.from_residual.ensures.1 in
+    rw p.1 (written_breaks
     (messages_taken c.args.outbox.now)
     (messages_taken c.loop.outbox)
     (messages_taken c.receive.new.self)
@@ -31,7 +33,7 @@ returns-in_err-write_all-clause-written g c =
     c.loop.invariant.0
     took
     part
-    c.in_err-write_all.ensures.count
+    c.in_err-write_all.ensures.count)
 
 pub loop-preserved : goal.loop-preserved
 loop-preserved g c =

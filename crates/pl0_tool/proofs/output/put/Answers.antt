@@ -1,3 +1,4 @@
+use Rattle.std.proofs.lemmas.Result.{err_from_is_err_and}
 use Rattle.pl0_tool.proofs.Common.{Holds, output, subst, sym}
 use Rattle.pl0_tool.proofs.PendingBytes.{put_last, holds_failed}
 use Rattle.pl0_tool.proofs.output.put.Goals as goal
@@ -13,4 +14,5 @@ pub returns-in_err-flush : goal.returns-in_err-flush
 returns-in_err-flush g c before text held =
     let now = output (g.O.Sink.written c.args.output.now) (g.O.Sink.failures c.args.output.now) in
     let same = subst (λ p. Holds before now p text) (sym c.if-keep.ensures) held in
-    holds_failed before _ _ _ text c.args.bytes.now same c.in_err-flush.ensures.flushed
+    let p = err_from_is_err_and c.from_residual.result c.from_residual.ensures.1 in
+    rw p.1 (holds_failed before _ _ _ text c.args.bytes.now same c.in_err-flush.ensures.flushed)

@@ -1,3 +1,4 @@
+use Rattle.std.proofs.lemmas.Result.{err_from_is_err_and}
 use Rattle.pl0_tool.proofs.Common.{[], ap, append_assoc, FailsIn, FitsSigned, Holds, List, MatchResult, output, rules, signed_decimal, subst, to_z-of_z, w64, ℕ, ◌++◌, ◌∙◌, ◌∷◌, ◌≡◌}
 use Rattle.pl0_tool.proofs.PendingBytes.{fails_before}
 use Rattle.pl0_tool.proofs.running.put_line.Goals as goal
@@ -24,5 +25,6 @@ returns-in_err-put g c before text held =
     let fits : FitsSigned w64 c.args.number = search rules in
     let is : digits ≡ signed_decimal c.args.number =
     c.as_bytes.ensures.value ∙ c.format.ensures.text ∙ ap signed_decimal (to_z-of_z w64 c.args.number fits) in
-    subst (λ l. FailsIn l before later) (line text digits (signed_decimal c.args.number) is)
-    (fails_before before later (text ++ digits) (10 ∷ []) (c.in_err-put.ensures before text held))
+    let p = err_from_is_err_and c.from_residual.result c.from_residual.ensures.1 in
+    rw p.1 (subst (λ l. FailsIn l before later) (line text digits (signed_decimal c.args.number) is)
+    (fails_before before later (text ++ digits) (10 ∷ []) (c.in_err-put.ensures before text held)))

@@ -15,8 +15,8 @@ returns-in-Ok g c =
           c.in_ok-row.ensures.1 (c.deref-unit.ensures ∙ c.unit.ensures) c.in_ok-put_row.ensures held),
     )
 
-pub returns-in-Err : goal.returns-in-Err
-returns-in-Err g c =
+pub returns : goal.returns
+returns g c =
     let m = c.args.machine.now in
     let row = c.in_ok-row.row in (
       row,
