@@ -13,7 +13,8 @@ four_pushed pushed taken inside is four =
     ap length is in let a = length-append taken inside in omega (arith, m, e, a, four)
 
 -- and after one order more
-pub still_four : (old new : List Order) (x : Order) → new ≡ old ++ x ∷ [] → ORDERS_CAPACITY ≤ length (map plain_order old)
+pub still_four : (old new : List Order) (x : Order) → new ≡ old ++ x ∷ []
+    → ORDERS_CAPACITY ≤ length (map plain_order old)
     → ORDERS_CAPACITY ≤ length (map plain_order new)
 still_four old new x is was =
     let m = length-map old plain_order in let n = length-map new plain_order in
