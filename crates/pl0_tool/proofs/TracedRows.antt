@@ -452,7 +452,8 @@ table_there drawn start m from count before now pending rows is =
     })
 
 -- a position of either is one of the other
-pub position_there : (start m : Standing) (from p : ℕ) → m ≡ at_position start from → at_position m p ≡ at_position start p
+pub position_there : (start m : Standing) (from p : ℕ) → m ≡ at_position start from
+    → at_position m p ≡ at_position start p
 position_there start m from p is = ap (λ (m : Standing). at_position m p) is
 
 -- the positions told end with the program

@@ -9,5 +9,5 @@ returns-in_err-end g c =
 
 pub returns : goal.returns
 returns g c =
-    traced_from c.in_ok-end.end c.args.drawn c.args.file.now c.args.unit _ _ c.args.from c.args.steps c.trace_report.result _ _ _
-    c.in_ok-machine.ensures.standing c.in_ok-end.ensures c.trace_report.ensures
+    traced_from c.in_ok-end.end c.args.drawn c.args.file.now c.args.unit _ _ c.args.from c.args.steps
+    c.trace_report.result _ _ _ c.in_ok-machine.ensures.standing c.in_ok-end.ensures c.trace_report.ensures

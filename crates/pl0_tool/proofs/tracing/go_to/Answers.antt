@@ -18,8 +18,8 @@ numbers-preserved g c =
 
 pub returns-in-Some-Done : goal.returns-in-Some-Done
 returns-in-Some-Done g c =
-    let ran = subst (λ o. RanOn c.args.position 0 None c.numbers.machine (Some o) c.run.new.self) c.in-Some-Done.field-0-is
-    c.in-Some-Done.ensures in (
+    let ran = subst (λ o. RanOn c.args.position 0 None c.numbers.machine (Some o) c.run.new.self)
+    c.in-Some-Done.field-0-is c.in-Some-Done.ensures in (
       ends_before c.args.machine.now c.numbers.machine c.run.new.self c.args.position c.numbers.invariant.2 ran,
       never_there c.args.machine.now c.numbers.machine c.run.new.self c.args.position Done c.numbers.invariant.2 ran tt,
     )
