@@ -137,7 +137,7 @@ fn command_line<'a>(alloc: Global) -> Result<Command<'a>, AllocError>
         .about("List the machine's code under each line of a program")
         .arg(one_file(alloc))?;
     Command::new(alloc, "pl0")
-        .version("1.0.0")
+        .version("1.1.0")
         .about(
             "Runs, traces, checks and lists programs in PL/0, the language of Wirth's compiler book",
         )
