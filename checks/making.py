@@ -600,8 +600,9 @@ class Maker:
         if kind == "end":
             return before
         # The rest may be of a request that lets the program run.
-        rest = [Part(self.rest, self.chance.choice(["nothing", "stop"]) if self.crosses
-                     else "stop")] if self.rest else []
+        rest = []
+        if self.rest:
+            rest.append(Part(self.rest, self.chance.choice(["nothing", "stop"]) if self.crosses else "stop"))
         if kind == "fault":
             return [*before, *rest, Part(self.chance.choice(FAULTY), "nothing")]
         more = self.often(b"", [*FAULTY, frame(self.content())], 0.3)

@@ -105,8 +105,8 @@ def is_playable(text: str) -> bool:
     runs = False
     for line in (one for line in text.splitlines() for one in spelled_out(line).splitlines()):
         sign = line.partition(" ")[0]
-        if sign in UNPLAYABLE or line == "S noMemory" or "~" in line or (runs and (sign in (">", "+")
-                                                                                   or line == "end")):
+        is_sent = sign in (">", "+") or line == "end"
+        if sign in UNPLAYABLE or line == "S noMemory" or "~" in line or (runs and is_sent):
             return False
         began, is_stop = STARTS.match(line), STOPS.match(line)
         runs = bool(began) or (runs and not is_stop)

@@ -110,8 +110,8 @@ class Talk:
     def wait(self, kind: str) -> None:
         if kind == "moment":
             time.sleep(MOMENT)
-        while kind in ("stop", "answers") and (self.answered < self.asked
-                                               or (kind == "stop" and self.runs and not self.is_over)):
+        while kind in ("stop", "answers") and (
+                self.answered < self.asked or (kind == "stop" and self.runs and not self.is_over)):
             if not self.receive():
                 return
 

@@ -103,8 +103,9 @@ def above_budget(seconds: dict[str, float]) -> list[str]:
     found = [f"{name} takes over {CRATE_MINUTES} minutes" for name, spent in seconds.items()
              if spent > 60 * CRATE_MINUTES]
     whole = sum(seconds.values()) / 60
-    return found + ([f"the whole takes {whole:.0f} minutes, and may take {WHOLE_MINUTES}"] if whole > WHOLE_MINUTES
-                    else [])
+    if whole > WHOLE_MINUTES:
+        found.append(f"the whole takes {whole:.0f} minutes, and may take {WHOLE_MINUTES}")
+    return found
 
 
 def main() -> int:
