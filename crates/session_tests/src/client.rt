@@ -12,6 +12,7 @@ use test_kit::{Events, Shared, framed};
 pub struct Client<'a, R: Abort> {
     rt: &'a R,
     alloc: Global,
+    name: &'a str,
     program: &'a str,
     lines: &'a [&'a str],
     piece: usize,
@@ -27,6 +28,7 @@ impl<'a, R: Abort> Client<'a, R> {
     pub fn new(
         rt: &'a R,
         alloc: Global,
+        name: &'a str,
         program: &'a str,
         lines: &'a [&'a str],
         piece: usize,
@@ -35,6 +37,7 @@ impl<'a, R: Abort> Client<'a, R> {
         Client {
             rt,
             alloc,
+            name,
             program,
             lines,
             piece,
@@ -97,12 +100,17 @@ impl<'a, R: Abort> Client<'a, R> {
         Event::Piece(piece)
     }
 
-    /// The next report of the run that is on, which ends at this position.
-    fn next_report(&mut self, end: &str) -> Event {
+    /// The next report of the run that is on, which ends at this position, if one is given.
+    fn next_report(&mut self, end: Option<&str>) -> Event {
         let report = self.shared.runner.next_report(self.alloc);
         let report = report.expect(self.rt, "a run");
-        if let Some(end) = end.strip_prefix(' ') {
-            assert_eq!(self.rt; Ok(report.summary().end), end.parse::<u64>(), "{end}");
+        if let Some(end) = end {
+            let name = self.name;
+            assert_eq!(self.rt;
+                Ok(report.summary().end),
+                end.parse::<u64>(),
+                "{name}: S {end}"
+            );
         }
         Event::Report(report)
     }
@@ -127,7 +135,7 @@ impl<'a, R: Abort> Client<'a, R> {
             "read failed" => Event::ReadFailed,
             "no memory" => Event::NoMemory,
             other => {
-                assert_eq!(self.rt; other, "end");
+                assert_eq!(self.rt; other, "end", "{}", self.name);
                 Event::End
             }
         }
@@ -149,8 +157,11 @@ impl<R: Abort> Events for Client<'_, R> {
         if line == "S noMemory" {
             return self.report_no_memory();
         }
-        if let Some(end) = line.strip_prefix("S") {
-            return self.next_report(end);
+        if line == "S" {
+            return self.next_report(None);
+        }
+        if let Some(end) = line.strip_prefix("S ") {
+            return self.next_report(Some(end));
         }
         if let Some(text) = line.strip_prefix("F ") {
             return self.file(text);

@@ -23,7 +23,7 @@ pub fn described(rt: &impl Abort, alloc: Global, description: &str, program: &st
     let run = run.strip_prefix("run ").expect(rt, "a run");
     let run = run.parse::<u64>().expect(rt, "a number");
     let start = start.parse::<u64>().expect(rt, "a number");
-    let mode = mode_of(mode);
+    let mode = mode_of(rt, mode);
     let debuggee = debuggee_at(rt, alloc, text, lines, start);
     next_report(
         alloc,
@@ -35,7 +35,7 @@ pub fn described(rt: &impl Abort, alloc: Global, description: &str, program: &st
     .0
 }
 
-fn mode_of(name: &str) -> Mode
+fn mode_of(rt: &impl Abort, name: &str) -> Mode
     ensures { goes_back result ≡ false }
 {
     match name {
@@ -43,7 +43,8 @@ fn mode_of(name: &str) -> Mode
         "In" => Mode::In,
         "Over" => Mode::Over(1),
         "Out" => Mode::Out(1),
-        _ => Mode::Continue,
+        "Continue" => Mode::Continue,
+        other => panic!(rt; "{other} is no mode"),
     }
 }
 

@@ -17,7 +17,7 @@
 use crate::client::Client;
 use crate::expected::content;
 use crate::files::Files;
-use crate::text::expanded;
+use crate::text::{expanded, in_two};
 use crate::verbs::spelled_out;
 use dap_session::{Closed, SessionFault};
 use std::alloc::{AllocError, Global};
@@ -57,8 +57,23 @@ fn transcript_of(rt: &impl Abort, alloc: Global, session: &str) -> String {
 
 /// Whether a line of a transcript is an event.
 fn is_event(line: &str) -> bool {
+    let (kind, _) = in_two(line, " ");
     matches!(line, "end" | "read failed" | "no memory")
-        || line.starts_with(|c: char| matches!(c, '>' | '+' | 'S' | 'R' | 'F'))
+        || matches!(kind, ">" | "+" | ">>" | ">>>" | "+>" | "S" | "R" | "F")
+}
+
+/// Whether a line of a transcript says what comes of an event, or how the session ends.
+fn is_outcome(line: &str) -> bool {
+    line.starts_with(|c: char| c == '!' || c == '=' || c.is_ascii_digit())
+}
+
+/// Asserts that each line of a transcript can stand in one: the heading of a session, where it is mistyped, can't.
+fn assert_lines(rt: &impl Abort, name: &str, transcript: &str) {
+    for line in transcript.lines() {
+        if !(line.is_empty() || is_event(line) || is_outcome(line)) {
+            panic!(rt; "{name}: no line of a session: {line}");
+        }
+    }
 }
 
 /// The events of a transcript.
@@ -77,12 +92,13 @@ fn events_of<'a>(rt: &impl Abort, alloc: Global, transcript: &'a str) -> Vec<&'a
 fn run<R: Abort + Wait>(
     rt: &R,
     alloc: Global,
+    name: &str,
     program: &str,
     events: &[&str],
     piece: usize,
 ) -> (Outcome, usize) {
     let shared = Shared::new();
-    let client = Client::new(rt, alloc, program, events, piece, &shared);
+    let client = Client::new(rt, alloc, name, program, events, piece, &shared);
     let mut files = Files::new(rt, alloc, program);
     let outcome = run_session(rt, alloc, &shared, client, &mut files, Room::AMPLE);
     (outcome, shared.given.get())
@@ -156,8 +172,9 @@ pub fn assert_session<R: Abort + Wait>(rt: &R, alloc: Global, session: &str, pie
     let program = expanded(rt, alloc, program.as_str());
     let transcript = transcript_of(rt, alloc, session.as_str());
     let transcript = expanded(rt, alloc, transcript.as_str());
+    assert_lines(rt, name, transcript.as_str());
     let events = events_of(rt, alloc, transcript.as_str());
-    let (came, given) = run(rt, alloc, program.as_str(), events.as_slice(), piece);
+    let (came, given) = run(rt, alloc, name, program.as_str(), events.as_slice(), piece);
     let mut at = Compared {
         events: 0,
         messages: 0,
