@@ -486,9 +486,10 @@ fn assert_fits(rt: &impl Abort, alloc: Global, limit: &Limit, times: usize, fits
     let body = request.expect(rt, "a request").body;
     let asked = format!(in alloc; "{body:?}").expect(rt, "memory");
     let first = limit.first;
-    assert!(rt;
-        asked.starts_with("BadArguments") != fits,
-        "{times} times in {first}: {asked}"
+    assert_eq!(rt;
+        !asked.starts_with("BadArguments("),
+        fits,
+        "whether it fits {times} times in {first}: {asked}"
     );
 }
 
