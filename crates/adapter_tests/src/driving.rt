@@ -127,10 +127,8 @@ fn assert_driven<R: Abort + Wait>(rt: &R, alloc: Global, session: &Driven) {
         "{name}, by {piece}"
     );
     let came = std::str::from_utf8(run.output.as_slice());
-    assert!(rt;
-        run.output.as_slice() == answers.as_slice(),
-        "{name}, by {piece}: {came:?}"
-    );
+    let wanted = std::str::from_utf8(answers.as_slice());
+    assert_eq!(rt; came, wanted, "{name}, by {piece}");
 }
 
 /// Whole, a byte at a time, and cut within `Content-Length` and between CR and LF.

@@ -17,10 +17,8 @@ fn assert_answered(rt: &impl Abort, session: &Debugging, exchange: &Exchange, ru
     let name = session.name;
     assert_eq!(rt; run.end, Ok(session.end), "{name}");
     let came = std::str::from_utf8(run.output.as_slice());
-    assert!(rt;
-        run.output.as_slice() == exchange.answered.as_slice(),
-        "{name}: {came:?}"
-    );
+    let wanted = std::str::from_utf8(exchange.answered.as_slice());
+    assert_eq!(rt; came, wanted, "{name}");
 }
 
 /// Serves a session as its transcript says, and returns how many slices passed the gate.

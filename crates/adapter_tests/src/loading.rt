@@ -26,11 +26,12 @@ fn gives_the_first_bytes(rt: HostRuntime) {
             };
             let mut source = Input::new(&rt, bytes, streams, &progress);
             let read = read_beginning(&rt, alloc, &mut source).expect(&rt, "memory");
-            assert!(rt;
-                text.as_bytes().starts_with(read.as_slice()),
+            let other = read.iter().position(|byte| *byte != b'x');
+            assert_eq!(rt;
+                (read.len(), other),
+                (*given, None),
                 "{length} by {read_step}"
             );
-            assert_eq!(rt; read.len(), *given, "{length} by {read_step}");
         }
     }
 }
@@ -47,10 +48,9 @@ fn gives_nothing_where_a_read_fails(rt: HostRuntime) {
             ..Streams::WELL
         };
         let mut source = Input::new(&rt, b"var x; .", streams, &progress);
-        let read = read_beginning(&rt, alloc, &mut source);
-        assert!(rt;
-            matches!(read, Err(ReadFault::CannotRead)),
-            "at {read_fails_at}"
-        );
+        match read_beginning(&rt, alloc, &mut source) {
+            Err(ReadFault::CannotRead) => {}
+            other => panic!(rt; "{other:?}, and not CannotRead, at {read_fails_at}"),
+        }
     }
 }

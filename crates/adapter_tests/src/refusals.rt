@@ -45,12 +45,9 @@ fn assert_reads_fail<R: Threads + Wait + Abort + Copy + Drop + Send + Sync>(
         };
         let run = run(rt, alloc, session.program, sent, streams);
         assert_eq!(rt; run.end, end, "{name}, at {at}");
-        let expected = exchange.answered.get(..*answered);
         let came = std::str::from_utf8(run.output.as_slice());
-        assert!(rt;
-            Some(run.output.as_slice()) == expected,
-            "{name}, at {at}: {came:?}"
-        );
+        let wanted = exchange.answered.get(..*answered).expect(rt, "answers");
+        assert_eq!(rt; came, std::str::from_utf8(wanted), "{name}, at {at}");
     }
 }
 
@@ -81,12 +78,9 @@ fn assert_write_fails<R: Threads + Wait + Abort + Copy + Drop + Send + Sync>(
         let sent = exchange.sent.as_slice();
         let run = run(rt, alloc, session.program, sent, streams);
         assert_eq!(rt; run.end, Err(ServeFault::WriteFailed), "{name}, at {room}");
-        let expected = exchange.answered.get(..room);
         let came = std::str::from_utf8(run.output.as_slice());
-        assert!(rt;
-            Some(run.output.as_slice()) == expected,
-            "{name}, at {room}: {came:?}"
-        );
+        let wanted = exchange.answered.get(..room).expect(rt, "answers");
+        assert_eq!(rt; came, std::str::from_utf8(wanted), "{name}, at {room}");
     }
 }
 
@@ -133,10 +127,7 @@ fn ends_where_a_read_fails_within_a_frame(rt: HostRuntime) {
             let run = run(&rt, alloc, "", input.as_slice(), streams);
             assert_eq!(rt; run.end, Err(ServeFault::ReadFailed), "at {read_fails_at}");
             let came = std::str::from_utf8(run.output.as_slice());
-            assert!(rt;
-                run.output.as_slice() == expected,
-                "at {read_fails_at}: {came:?}"
-            );
+            assert_eq!(rt; came, std::str::from_utf8(expected), "at {read_fails_at}");
         }
     }
 }

@@ -210,6 +210,12 @@ fn ends_so_where_errors_cannot_be_written(rt: HostRuntime) {
         &mut output,
         &mut errors,
     );
-    assert_eq!(rt; reason.status(), 1);
-    assert!(rt; output.bytes.is_empty() && errors.bytes.is_empty());
+    assert_eq!(rt;
+        (
+            reason.status(),
+            output.bytes.as_slice(),
+            errors.bytes.as_slice()
+        ),
+        (1, b"".as_slice(), b"".as_slice())
+    );
 }
