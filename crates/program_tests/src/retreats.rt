@@ -52,7 +52,7 @@ fn assert_logs(rt: &impl Abort, alloc: Global, hit: &str, wanted: &[(u64, SliceO
         assert_report(rt, alloc, &report, *here);
         next = on;
     }
-    assert!(rt; next.is_none());
+    assert!(rt; next.is_none(), "it goes on after {wanted:?}");
 }
 
 #[test]

@@ -165,7 +165,7 @@ fn writes_what_the_steps_write(rt: HostRuntime) {
     let (debuggee, _) = begin(&rt, rt.alloc(), RECURSIVE, [].as_slice(), Mode::Continue);
     let stopped = run(&rt, rt.alloc(), debuggee, Mode::Continue, &mut seen);
     assert_eq!(rt; seen.numbers.as_slice(), [1i64, 2].as_slice());
-    assert!(rt; stopped.is_none());
+    assert!(rt; stopped.is_none(), "stops: {:?}", seen.ends.as_slice());
 }
 
 /// A mode, where the only slice of the run in this mode ends, and how.

@@ -41,10 +41,9 @@ fn assert_returns(rt: &impl Abort, alloc: Global, tree: &Tree) {
     for number in 0..found.len() {
         let step = found[number];
         let end = block_of_step(&tree.program, &found, &table, number).end;
-        assert!(rt;
-            step.kind != StepKind::Return || step.place == end,
-            "{number}"
-        );
+        if step.kind == StepKind::Return {
+            assert_eq!(rt; step.place, end, "step {number}");
+        }
     }
 }
 
