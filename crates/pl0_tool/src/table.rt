@@ -10,7 +10,7 @@ ghost use Rattle.pl0_tool.specs.TextLines.{text_lines};
 ghost use Rattle.pl0_tool.specs.Table.{table, head, row_text, step_text, place_text, source, ends_source, written_text, state_text, frames_line, more_before, barred, registers_line, frame_lines, frame_line, frame_text, variables_text, more_below};
 
 use crate::blocks::frame_name;
-use crate::columns::{put_left, put_right, put_spaces};
+use crate::columns::{put_left_column, put_right, put_right_column};
 use crate::drawing::{Drawing, FrameHead};
 use crate::lines::first_line;
 use crate::tracing::{FrameRow, Row};
@@ -27,6 +27,33 @@ const HEAD: &str = "position  place    source                          writes  f
 const MACHINE_HEAD: &str =
     "position  place    source                          writes       P       B       T
               cell  static link  dynamic link  return address  frame\n";
+
+/// The width of the column of a position.
+const POSITION_WIDTH: usize = 8;
+
+/// The width of the column of a place.
+const PLACE_WIDTH: usize = 7;
+
+/// The width of the column of a source.
+const SOURCE_WIDTH: usize = 30;
+
+/// The width of the column of the number that a step writes.
+const WRITTEN_WIDTH: usize = 6;
+
+/// The width of the column of a register.
+const REGISTER_WIDTH: usize = 6;
+
+/// The width of the column of the number of a frame's first cell.
+const CELL_WIDTH: usize = 18;
+
+/// The width of the column of a static link.
+const STATIC_LINK_WIDTH: usize = 11;
+
+/// The width of the column of a dynamic link.
+const DYNAMIC_LINK_WIDTH: usize = 12;
+
+/// The width of the column of a return address.
+const RETURN_ADDRESS_WIDTH: usize = 14;
 
 /// Returns the head of the table of a trace: position, place and source of the step that comes next, the number that it
 /// writes, and the frames before it, with their variables. They stand in the same line, the oldest first, or under it, the
@@ -74,8 +101,8 @@ fn put_column(
 ) -> Result<(), AllocError>
     ensures { OnOk result (page.new.items ≡ page.old.items ++ column (right width (decimal number))) }
 {
-    put_number(alloc, page, width, number)?;
-    put_spaces(page, 2)
+    let number = format!(in alloc; "{number}")?;
+    put_right_column(page, width, number.as_bytes())
 }
 
 // ---- the step
@@ -84,10 +111,9 @@ fn put_column(
 fn put_step(alloc: Global, page: &mut Vec<u8>, text: &[u8], row: &Row) -> Result<(), AllocError>
     ensures { OnOk result (page.new.items ≡ page.old.items ++ step_text text.now row.now) }
 {
-    put_column(alloc, page, 8, row.position)?;
+    put_column(alloc, page, POSITION_WIDTH, row.position)?;
     put_place(alloc, page, row.place)?;
-    put_left(page, 30, source(text, row.kind, row.place))?;
-    put_spaces(page, 2)?;
+    put_left_column(page, SOURCE_WIDTH, source(text, row.kind, row.place))?;
     put_written(alloc, page, row.outcome)
 }
 
@@ -96,8 +122,7 @@ fn put_place(alloc: Global, page: &mut Vec<u8>, place: Place) -> Result<(), Allo
     ensures { OnOk result (page.new.items ≡ page.old.items ++ column (left 7 (place_text place))) }
 {
     let place = place_text(alloc, place)?;
-    put_left(page, 7, place.as_bytes())?;
-    put_spaces(page, 2)
+    put_left_column(page, PLACE_WIDTH, place.as_bytes())
 }
 
 /// Appends the number that a step writes, if it writes one, and the space to the next column.
@@ -105,8 +130,7 @@ fn put_written(alloc: Global, page: &mut Vec<u8>, outcome: StepOutcome) -> Resul
     ensures { OnOk result (page.new.items ≡ page.old.items ++ column (right 6 (written_text outcome))) }
 {
     let written = written_text(alloc, outcome)?;
-    put_right(page, 6, written.as_bytes())?;
-    put_spaces(page, 2)
+    put_right_column(page, WRITTEN_WIDTH, written.as_bytes())
 }
 
 /// Returns a place: its line and column.
@@ -297,9 +321,9 @@ fn put_machine(
 fn put_registers(alloc: Global, page: &mut Vec<u8>, drawing: &Drawing) -> Result<(), AllocError>
     ensures { OnOk result (page.new.items ≡ page.old.items ++ registers_line drawing.now) }
 {
-    put_column(alloc, page, 6, drawing.address as u64)?;
-    put_column(alloc, page, 6, drawing.base as u64)?;
-    put_number(alloc, page, 6, drawing.top as u64)?;
+    put_column(alloc, page, REGISTER_WIDTH, drawing.address as u64)?;
+    put_column(alloc, page, REGISTER_WIDTH, drawing.base as u64)?;
+    put_number(alloc, page, REGISTER_WIDTH, drawing.top as u64)?;
     page.extend_from_slice(b"\n")?;
     Ok(())
 }
@@ -332,10 +356,15 @@ fn put_frame_line(
 ) -> Result<(), AllocError>
     ensures { OnOk result (page.new.items ≡ page.old.items ++ frame_line (program_of unit.now) frame.now head.now) }
 {
-    put_column(alloc, page, 18, head.base as u64)?;
-    put_column(alloc, page, 11, head.static_link as u64)?;
-    put_column(alloc, page, 12, head.dynamic_link as u64)?;
-    put_column(alloc, page, 14, head.return_address as u64)?;
+    put_column(alloc, page, CELL_WIDTH, head.base as u64)?;
+    put_column(alloc, page, STATIC_LINK_WIDTH, head.static_link as u64)?;
+    put_column(alloc, page, DYNAMIC_LINK_WIDTH, head.dynamic_link as u64)?;
+    put_column(
+        alloc,
+        page,
+        RETURN_ADDRESS_WIDTH,
+        head.return_address as u64,
+    )?;
     put_frame(alloc, page, unit, frame)?;
     page.extend_from_slice(b"\n")?;
     Ok(())
@@ -348,6 +377,6 @@ fn put_more(alloc: Global, page: &mut Vec<u8>, hidden: usize) -> Result<(), Allo
     if hidden == 0 {
         return Ok(());
     }
-    put_number(alloc, page, 18, hidden as u64)?;
+    put_number(alloc, page, CELL_WIDTH, hidden as u64)?;
     page.extend_from_slice(b" more\n")
 }
