@@ -4,7 +4,7 @@ ghost use Rattle.std.specs.Prelude.{IfOk, IfErr};
 ghost use Rattle.pl0_tree.specs.Faults.{IsFirstFault, FaultIs};
 ghost use Rattle.pl0_tool.specs.Loading.{IsProgramOf};
 
-use pl0_code::compile;
+use pl0_code::{CodeFault, compile};
 use pl0_syntax::parse;
 use pl0_tree::SyntaxFault;
 use pl0_unit::Unit;
@@ -22,6 +22,6 @@ pub fn load(alloc: Global, text: &[u8]) -> Result<Unit, SyntaxFault>
     let tree = parse(alloc, text)?;
     match compile(alloc, tree) {
         Ok(unit) => Ok(unit),
-        Err(_) => Err(SyntaxFault::NoMemory),
+        Err(CodeFault::NoMemory) => Err(SyntaxFault::NoMemory),
     }
 }
