@@ -51,7 +51,8 @@ where
     Ok(report)
 }
 
-/// Does a task with the text of one file, and puts what is to be told of it, or that the file can't be read, behind `report`.
+/// Does a task with the text of one file, and puts what is to be told of it, or that the file can't be read, behind
+/// `report`.
 fn add_answer<R, F, I, O>(
     rt: &R,
     task: Task,

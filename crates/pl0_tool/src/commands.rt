@@ -25,8 +25,8 @@ use pl0_unit::Unit;
 use std::alloc::{AllocError, Global};
 use std::sync::{Arc, Wait};
 
-/// Does a task with a text, and returns what is still to be told of it. A run has written its numbers then, and a trace the
-/// first rows of its table, of which up to `room` bytes at a time are kept until they are written together.
+/// Does a task with a text, and returns what is still to be told of it. A run has written its numbers then, and a trace
+/// the first rows of its table, of which up to `room` bytes at a time are kept until they are written together.
 ///
 /// # Errors
 ///

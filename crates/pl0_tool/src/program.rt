@@ -26,10 +26,10 @@ use std::sync::Wait;
 /// How many bytes of numbers or rows are written together, where the output is no terminal.
 const ROOM: usize = 65_536;
 
-/// Does what the arguments ask for, as [`execute`] does, and returns the exit code: 0 where all went well, 1 where a run
-/// faulted, 2 where a text has a mistake, 3 where a file can't be read, the output fails or memory runs out, and 4 where the
-/// arguments aren't understood. `given` is what `env::args` gave, the program's name first. An output that fails is told on
-/// `errors`, unless nobody reads it any more.
+/// Does what the arguments ask for, as [`execute`] does, and returns the exit code: 0 where all went well, 1 where a
+/// run faulted, 2 where a text has a mistake, 3 where a file can't be read, the output fails or memory runs out, and 4
+/// where the arguments aren't understood. `given` is what `env::args` gave, the program's name first. An output that
+/// fails is told on `errors`, unless nobody reads it any more.
 pub fn run<R, F, I, O, E>(
     rt: &R,
     given: io::Result<Args>,
@@ -75,8 +75,8 @@ fn close<E: Sink>(rt: &impl Wait, ending: Ending, is_unread: bool, errors: &mut 
     }
 }
 
-/// Does what the arguments ask for, as [`execute`] does. Where an error was given in their place, it says so on `errors`, and
-/// does nothing else.
+/// Does what the arguments ask for, as [`execute`] does. Where an error was given in their place, it says so on
+/// `errors`, and does nothing else.
 fn execute_given<R, F, I, O, E>(
     rt: &R,
     given: io::Result<Args>,
@@ -149,9 +149,10 @@ where
     }
 }
 
-/// Does what the arguments ask for, the program's name first, and returns how that ended. Of a run's numbers, and of the rows
-/// of a trace, at most `room` bytes are kept until they are written together; what is told besides is written at the end. A file is read as far as a
-/// program's text may reach, and one byte more; the name `-` stands for the input. Where memory runs out, that alone is told.
+/// Does what the arguments ask for, the program's name first, and returns how that ended. At most `room` bytes of a
+/// run's numbers, and of the rows of a trace, are kept until they are written together; what is told besides is written
+/// at the end. A file is read as far as a program's text may reach, and one byte more; the name `-` stands for the
+/// input. Where memory runs out, only this is told.
 pub fn execute<R, F, I, O, E>(
     rt: &R,
     arguments: &[&str],

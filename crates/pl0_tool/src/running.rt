@@ -104,8 +104,8 @@ pub fn run_slice<O: Sink>(
     unreachable!()
 }
 
-/// Writes what is pending at the end of a slice or of a run, and returns how it ended, which is `end`, or `failed` where
-/// the output fails.
+/// Writes what is pending at the end of a slice or of a run, and returns how it ended, which is `end`, or `failed`
+/// where the output fails.
 fn finish<O: Sink>(
     rt: &impl Wait,
     output: &mut O,

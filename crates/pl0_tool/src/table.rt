@@ -56,8 +56,8 @@ const DYNAMIC_LINK_WIDTH: usize = 12;
 const RETURN_ADDRESS_WIDTH: usize = 14;
 
 /// Returns the head of the table of a trace: position, place and source of the step that comes next, the number that it
-/// writes, and the frames before it, with their variables. They stand in the same line, the oldest first, or under it, the
-/// newest first, where the machine is drawn.
+/// writes, and the frames before it, with their variables. They stand in the same line, the oldest first, or under it,
+/// the newest first, where the machine is drawn.
 pub fn head(drawn: bool) -> &'static str
     ensures { result.now ≡ head drawn }
 {

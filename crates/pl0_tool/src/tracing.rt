@@ -59,10 +59,10 @@ pub enum TraceEnd {
     WriteFailed,
 }
 
-/// Tells up to `count` positions of a run, from `from` on, in order, in a table of which `page` has the head. There are fewer
-/// only where the run ends or faults. Where more than `room` bytes of the table are pending in `page` they are written. The
-/// machine goes to `from` without telling anything, and then stands at the end, at the step that faults, or behind what
-/// was told.
+/// Tells up to `count` positions of a run, from `from` on, in order, in a table of which `page` has the head. There are
+/// fewer only where the run ends or faults. Where more than `room` bytes of the table are pending in `page` they are
+/// written. The machine goes to `from` without telling anything, and then stands at the end, at the step that faults,
+/// or behind what was told.
 ///
 /// # Errors
 ///
@@ -104,8 +104,8 @@ pub fn trace<O: Sink>(
     Ok(TraceEnd::GoesOn)
 }
 
-/// Tells the position of a machine, in a row behind what is pending in `page`, and takes its step. Where more than `room`
-/// bytes are pending then, they are written. Returns what the step did, or `None` where the output failed.
+/// Tells the position of a machine, in a row behind what is pending in `page`, and takes its step. Where more than
+/// `room` bytes are pending then, they are written. Returns what the step did, or `None` where the output failed.
 fn tell_row<O: Sink>(
     rt: &impl Wait,
     alloc: Global,
