@@ -1,4 +1,5 @@
-//! Bytes in and bytes out: where they come from, where they go, how to read the first of them, and how to write all.
+//! Bytes in and bytes out: where they come from, where they go, how to read the first of them, and how to write all; and
+//! the arguments of a process, as texts.
 //!
 //! ```
 //! use byte_streams::{IoFault, Reading, Sink, Source, WriteFailed, Writing, write_all};
@@ -34,14 +35,17 @@
 //! [`Sink`] appends the bytes that it takes to those written before, and each read or write that fails is counted.
 //! [`Reading`] and [`Writing`] are a source and a sink over std's `Read` and `Write`. [`write_all`] and [`say`] write all
 //! bytes, or a prefix of them where the sink fails. [`read_beginning`] reads as much of a source as a program's text may
-//! have, and one byte more.
+//! have, and one byte more. [`collect_arguments`] returns what `env::args` gave as a list, and [`borrow_texts`] the same as
+//! borrowed texts.
 #![tactic(auto)]
 
+mod arguments;
 mod beginning;
 mod counting;
 mod streams;
 mod writing;
 
+pub use arguments::{borrow_texts, collect_arguments};
 pub use beginning::{BEGINNING_LIMIT, ReadFault, read_beginning};
 pub use streams::{IoFault, Reading, Sink, Source, Writing};
 pub use writing::{WriteFailed, say, write_all};

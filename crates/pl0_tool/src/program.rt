@@ -2,7 +2,6 @@
 
 ghost use Rattle.std.specs.Prelude.{◌≡◌, ◌≢◌, Result, IfOk, MatchBool, MatchResult, map, string_bytes};
 ghost use Rattle.std.specs.Process.{exit_status};
-ghost use Rattle.std.specs.Vec.Iter.{into_iter_items};
 ghost use Rattle.byte_streams.specs.Streams.{output as output_at, supply};
 ghost use Rattle.pl0_tool.specs.declared.report.Ending.{Ending};
 ghost use Rattle.pl0_tool.specs.Executing.{Comes, Executes, ExecutesGiven, LacksMemory, Runs, given_of, origins};
@@ -13,7 +12,9 @@ use crate::arguments::parse_arguments;
 use crate::files::Opener;
 use crate::output::WatchedOutput;
 use crate::report::{Ending, Report};
-use byte_streams::{Sink, Source, WriteFailed, Writing, say, write_all};
+use byte_streams::{
+    Sink, Source, WriteFailed, Writing, borrow_texts, collect_arguments, say, write_all,
+};
 use clap::Error;
 use clap::error::ErrorKind;
 use std::alloc::{AllocError, Global};
@@ -101,7 +102,7 @@ where
         (output_at (E.written errors.new) (E.failures errors.new)) }
 {
     match given {
-        Ok(given) => match collected(rt.alloc(), given) {
+        Ok(given) => match collect_arguments(rt.alloc(), given) {
             Ok(strings) => execute_strings(
                 rt,
                 strings.as_slice(),
@@ -143,7 +144,7 @@ where
         (output_at (E.written errors.old) (E.failures errors.old))
         (output_at (E.written errors.new) (E.failures errors.new)) }
 {
-    match texts(rt.alloc(), arguments) {
+    match borrow_texts(rt.alloc(), arguments) {
         Ok(arguments) => execute(rt, arguments.as_slice(), files, input, output, errors, room),
         Err(AllocError) => no_memory(rt, errors),
     }
@@ -257,23 +258,6 @@ where
         Ok(request) => answer(rt, &request, files, input, output, room),
         Err(error) => unasked(rt.alloc(), &error),
     }
-}
-
-/// Returns the arguments as a list.
-fn collected(alloc: Global, given: Args) -> Result<Vec<String>, AllocError>
-    ensures { IfOk result (λ arguments. arguments.items ≡ into_iter_items given) }
-{
-    given.collect(alloc)
-}
-
-/// Returns the arguments as borrowed texts.
-fn texts(alloc: Global, arguments: &[String]) -> Result<Vec<&str>, AllocError>
-    ensures { IfOk result (λ texts. map (λ text. text.now) texts.items ≡ map string_bytes arguments.now) }
-{
-    arguments
-        .iter()
-        .map(|argument| argument.as_str())
-        .collect(alloc)
 }
 
 ghost use Rattle.clap.specs.Values.{kind_of};

@@ -2,7 +2,7 @@ use Rattle.std.proofs.Common.{rules, refl}
 use Rattle.std.specs.Vec.Iter.{into_iter_items}
 use Rattle.std.proofs.lemmas.Iterator.{items_from_collect}
 use Rattle.std.proofs.lemmas.Iterator.Adapters.{YieldsList-from_vec}
-use Rattle.pl0_tool.proofs.program.collected.Goals as goal
+use Rattle.byte_streams.proofs.arguments.collect_arguments.Goals as goal
 
 pub returns : goal.returns
 returns c =

@@ -1,7 +1,7 @@
 use Rattle.std.proofs.Common.{rules, string_bytes}
 use Rattle.std.proofs.lemmas.Iterator.{YieldsList-from_slice, YieldsList-from_map_by}
 use Rattle.std.proofs.lemmas.Iterator.Consumers.{map_from_collect, YieldsList-at}
-use Rattle.pl0_tool.proofs.program.texts.Goals as goal
+use Rattle.byte_streams.proofs.arguments.borrow_texts.Goals as goal
 
 pub returns : goal.returns
 returns c =
