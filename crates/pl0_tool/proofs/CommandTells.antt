@@ -19,13 +19,25 @@ use Rattle.pl0_tool.specs.declared.tracing.Row.{Row}
 use Rattle.pl0_tool.specs.declared.tracing.TraceEnd.{TraceEnd}
 use Rattle.pl0_tool.specs.declared.tracing.TraceEnd.TheVariants.{GoesOn, Ended, EndedBefore, Faulted, WriteFailed}
 
-pub run_told : (end : RunEnd) (file : List ℕ) (start last : Standing) (report : Report) (before after : Output)
+-- a run that ended so was told
+pub run_ended : (file : List ℕ) (start last : Standing) (end this : RunEnd) (report : Report) (before after : Output)
+    → end ≡ this
     → HasRun end start last before after
-    → report.output.items ≡ []
-    → report.errors.items ≡ end_errors file last end
-    → report.ending ≡ end_ending end
+    → IsReport [] (end_errors file last this) (end_ending this) report
     → RunTells file start report before after
-run_told end file start last report before after ran output errors ending = (end, last, ran, (output, errors, ending))
+run_ended file start last end this report before after is ran told =
+    (this, last, subst (λ e. HasRun e start last before after) is ran, told)
+
+-- the same, and that it was written where memory runs out before it is told
+pub run_faulted : {E : Type 0} (file : List ℕ) (start last : Standing) (end this : RunEnd) (r : Result Report E)
+    (before after : Output)
+    → end ≡ this
+    → HasRun end start last before after
+    → IfOk r (IsReport [] (end_errors file last this) (end_ending this))
+    → MatchResult r (λ report. RunTells file start report before after) (λ e. WritesRun start before after)
+run_faulted file start last end this (Ok report) before after is ran told =
+    run_ended file start last end this report before after is ran told
+run_faulted file start last end this (Err e) before after is ran told = (end, last, ran)
 
 pub program_told : {E : Type 0} (task : Task) (file text : List ℕ) (unit : Compiled) (r : Result Report E)
     (before after : Output)

@@ -41,7 +41,7 @@ where
 {
     let task = request.task;
     let names = request.files.as_slice();
-    let mut report = nothing_told(rt.alloc());
+    let mut report = nothing_told(rt.alloc(), Ending::Success);
     for name in names {
         match add_answer(rt, task, name, files, input, output, room, &mut report) {
             Ok(()) => {}

@@ -6,6 +6,7 @@ ghost use Rattle.byte_streams.specs.Streams.{output as output_at};
 ghost use Rattle.pl0_tool.specs.Commands.{Tells, ProgramTells, RunTells, TraceTells, IsReport, start_of};
 ghost use Rattle.pl0_tool.specs.Commands.{WritesNumbers, ProgramWrites, StartTraces, StartWrites, WritesRun};
 ghost use Rattle.pl0_tool.specs.Commands.{IsTraceReport, ends_line, goes_on_line};
+ghost use Rattle.pl0_tool.specs.Faulting.{fault_report};
 ghost use Rattle.pl0_tool.specs.Listing.{listing};
 ghost use Rattle.pl0_tool.specs.declared.report.Ending.TheVariants.{Success};
 
@@ -19,6 +20,7 @@ use crate::text::load;
 use crate::tracing::{TraceEnd, trace};
 use byte_streams::Sink;
 use pl0_machine::Machine;
+use pl0_meaning::RunFault;
 use pl0_mistakes::mistake_line;
 use pl0_tree::SyntaxFault;
 use pl0_unit::Unit;
@@ -77,7 +79,7 @@ fn perform_program<O: Sink>(
         (output_at (O.written output.new) (O.failures output.new))) }
 {
     match task {
-        Task::Check => Ok(nothing_told(alloc)),
+        Task::Check => Ok(nothing_told(alloc, Ending::Success)),
         Task::List => list_program(alloc, &unit),
         Task::Run => run_program(rt, alloc, file, unit, output, room),
         Task::Trace { from, steps, drawn } => {
@@ -86,11 +88,26 @@ fn perform_program<O: Sink>(
     }
 }
 
-/// Returns a report of nothing, and of a success.
-pub(crate) fn nothing_told(alloc: Global) -> Report
-    ensures { IsReport [] [] Success result }
+/// Returns a report of nothing, and of a command that ends so.
+pub(crate) fn nothing_told(alloc: Global, ending: Ending) -> Report
+    ensures { IsReport [] [] ending result }
 {
-    Report::new(Vec::new(alloc), Vec::new(alloc), Ending::Success)
+    Report::new(Vec::new(alloc), Vec::new(alloc), ending)
+}
+
+/// Returns a report of these bytes for the output, and of a fault of the step at which a machine stands.
+fn fault_told(
+    alloc: Global,
+    file: &str,
+    machine: &Machine,
+    fault: RunFault,
+    output: Vec<u8>,
+    ending: Ending,
+) -> Result<Report, AllocError>
+    ensures { IfOk result (IsReport output.items (fault_report file.now machine.now fault) ending) }
+{
+    let errors = fault_report(alloc, file, machine, fault)?;
+    Ok(Report::new(output, errors, ending))
 }
 
 /// Lists a program.
@@ -187,15 +204,13 @@ fn run_whole<O: Sink>(
 {
     let nothing = Vec::new(alloc);
     match run_machine(rt, machine, output, &mut Vec::new(alloc), room) {
-        RunEnd::Ended => Ok(Report::new(nothing, Vec::new(alloc), Ending::Success)),
-        RunEnd::WriteFailed => Ok(Report::new(nothing, Vec::new(alloc), Ending::Unwritten)),
+        RunEnd::Ended => Ok(nothing_told(alloc, Ending::Success)),
+        RunEnd::WriteFailed => Ok(nothing_told(alloc, Ending::Unwritten)),
         RunEnd::Faulted(fault) => {
-            let errors = fault_report(alloc, file, machine, fault)?;
-            Ok(Report::new(nothing, errors, Ending::Fault))
+            fault_told(alloc, file, machine, fault, nothing, Ending::Fault)
         }
         RunEnd::FaultedUnwritten(fault) => {
-            let errors = fault_report(alloc, file, machine, fault)?;
-            Ok(Report::new(nothing, errors, Ending::Unwritten))
+            fault_told(alloc, file, machine, fault, nothing, Ending::Unwritten)
         }
     }
 }
@@ -220,14 +235,8 @@ fn trace_report(
             let line = ends_line(alloc, machine.position())?;
             Ok(Report::new(page, line.into_bytes(), Ending::Success))
         }
-        TraceEnd::Faulted(fault) => {
-            let errors = fault_report(alloc, file, machine, fault)?;
-            Ok(Report::new(page, errors, Ending::Fault))
-        }
-        TraceEnd::WriteFailed => {
-            let nothing = Vec::new(alloc);
-            Ok(Report::new(nothing, Vec::new(alloc), Ending::Unwritten))
-        }
+        TraceEnd::Faulted(fault) => fault_told(alloc, file, machine, fault, page, Ending::Fault),
+        TraceEnd::WriteFailed => Ok(nothing_told(alloc, Ending::Unwritten)),
     }
 }
 
