@@ -1,6 +1,6 @@
 //! The program from its arguments to its end.
 
-ghost use Rattle.std.specs.Prelude.{◌≡◌, [], List, Result, IfOk, map, string_bytes};
+ghost use Rattle.std.specs.Prelude.{◌≡◌, [], List, Result, map, string_bytes};
 ghost use Rattle.std.specs.Process.{exit_status};
 ghost use Rattle.std.specs.Vec.Iter.{into_iter_items};
 ghost use Rattle.dap_history.specs.Interleaving.{Load};
@@ -22,9 +22,8 @@ use crate::files::FileLoader;
 use crate::gates::OpenGate;
 use crate::reporting::{EndReporter, note_mistake, report};
 use crate::serving::{end_loan, serve_counting_from};
-use byte_streams::{Sink, Source, WriteFailed, write_all};
+use byte_streams::{Sink, Source, WriteFailed, borrow_texts, collect_arguments, write_all};
 use dap_session::{FirstSeq, Loader};
-use std::alloc::{AllocError, Global};
 use std::env::Args;
 use std::io;
 use std::process::ExitCode;
@@ -105,10 +104,10 @@ where
         (output_at (E.written errors.old) (E.failures errors.old))
         (output_at (E.written errors.new) (E.failures errors.new)) }
 {
-    let Ok(given) = collected(rt.alloc(), given) else {
+    let Ok(given) = collect_arguments(rt.alloc(), given) else {
         return end_with(rt, &[], ExitReason::NoMemory, errors);
     };
-    let Ok(arguments) = texts(rt.alloc(), given.as_slice()) else {
+    let Ok(arguments) = borrow_texts(rt.alloc(), given.as_slice()) else {
         return end_with(rt, &[], ExitReason::NoMemory, errors);
     };
     execute_on_files(rt, first, arguments.as_slice(), input, output, errors)
@@ -205,23 +204,6 @@ where
         Err(fault) => end_of_arguments(fault),
     };
     end_with(rt, arguments, reason, errors)
-}
-
-/// Returns the arguments as a list.
-fn collected(alloc: Global, given: Args) -> Result<Vec<String>, AllocError>
-    ensures { IfOk result (λ arguments. arguments.items ≡ into_iter_items given) }
-{
-    given.collect(alloc)
-}
-
-/// Returns the arguments as borrowed texts.
-fn texts(alloc: Global, arguments: &[String]) -> Result<Vec<&str>, AllocError>
-    ensures { IfOk result (λ texts. map (λ text. text.now) texts.items ≡ map string_bytes arguments.now) }
-{
-    arguments
-        .iter()
-        .map(|argument| argument.as_str())
-        .collect(alloc)
 }
 
 /// Reports the reason on `errors`, and returns it.

@@ -10,11 +10,11 @@ returns-in_default g c = (
   },
 )
 
-pub returns-in_default-texts : goal.returns-in_default-texts
-returns-in_default-texts g c = (
+pub returns-in_default-borrow_texts : goal.returns-in_default-borrow_texts
+returns-in_default-borrow_texts g c = (
   [],
   record {
-    performs = inr (inr (inr (refl, inr c.end_with-in_default-texts.ensures.reason, refl)));
-    reports = c.end_with-in_default-texts.ensures.reports;
+    performs = inr (inr (inr (refl, inr c.end_with-in_default-borrow_texts.ensures.reason, refl)));
+    reports = c.end_with-in_default-borrow_texts.ensures.reports;
   },
 )
