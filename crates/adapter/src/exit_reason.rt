@@ -1,6 +1,6 @@
-//! Why a run ends: the exit status, and the last line on standard error.
+//! Why a run ends, and the exit status.
 
-ghost use Rattle.std.specs.Prelude.{◌≡◌, Some};
+ghost use Rattle.std.specs.Prelude.{◌≡◌};
 ghost use Rattle.std.specs.IoError.{error_kind};
 ghost use Rattle.adapter.specs.ExitReasons.{reason_of_serve, reason_of_session, reason_of_framing, reason_of_check, reason_of_arguments, reason_of_reading, status_of};
 
@@ -10,11 +10,9 @@ use crate::serving::{ServeFault, Served};
 use dap_frame::FramingFault;
 use dap_session::SessionFault;
 use pl0_tree::Place;
-use std::fmt;
 use std::io::{self, ErrorKind};
 
-/// Why a run of the program ends. `Display` writes the last line on standard error, without its line feed. It writes
-/// nothing for `Success`, and nothing for `NotUnderstood`, where standard error gets the usage instead.
+/// Why a run of the program ends. [`say_reason`](crate::say_reason) writes what standard error gets.
 #[derive(Clone, Copy, Debug)]
 pub enum ExitReason {
     /// All went well.
@@ -49,30 +47,6 @@ impl ExitReason {
             ExitReason::Framing(_) => 2,
             ExitReason::Refused(_) | ExitReason::Syntax { .. } | ExitReason::NoMemory => 3,
             ExitReason::NotUnderstood => 4,
-        }
-    }
-}
-
-impl fmt::Display for ExitReason {
-    ghost use Rattle.std.specs.Prelude.{Some};
-    ghost use Rattle.adapter.specs.ExitReasons.{last_line};
-
-    ghost output = { λ reason. Some (last_line reason) };
-
-    fn fmt<W: fmt::Write>(&self, f: &mut fmt::Formatter<W>) -> fmt::Result {
-        match self {
-            ExitReason::Success | ExitReason::NotUnderstood => Ok(()),
-            ExitReason::ReadFailed => f.write_str("pl0dap: read failed"),
-            ExitReason::WriteFailed => f.write_str("pl0dap: write failed"),
-            ExitReason::Framing(number) => write!(f, "pl0dap: frame {number}"),
-            ExitReason::Refused(number) => write!(f, "pl0dap: refused {number}"),
-            ExitReason::CannotRead => f.write_str("pl0dap: cannot read"),
-            ExitReason::Syntax { number, place } => {
-                let line = place.line;
-                let column = place.column;
-                write!(f, "pl0dap: syntax {number} {line} {column}")
-            }
-            ExitReason::NoMemory => f.write_str("pl0dap: no memory"),
         }
     }
 }

@@ -32,4 +32,5 @@ pub use files::FileLoader;
 pub use laws::serving_laws;
 pub use program::{execute, run, run_process};
 pub use serving::{ServeFault, Served, serve, serve_counting_from};
+pub use reporting::say_reason;
 pub use telling::{EndListener, NoListener};

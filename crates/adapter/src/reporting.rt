@@ -56,7 +56,7 @@ impl<'a, R: Wait + Eprint + AllocGlobal, E: Sink> EndListener for EndReporter<'a
     }
 }
 
-/// Logs the reason, and writes to `errors` what is said of it there.
+/// Logs the reason, and says it as [`say_reason`] does.
 pub(crate) fn report<R: Wait + Eprint + AllocGlobal, E: Sink>(
     rt: &R,
     arguments: &[&str],
@@ -68,6 +68,34 @@ pub(crate) fn report<R: Wait + Eprint + AllocGlobal, E: Sink>(
         (output_at (E.written errors.new) (E.failures errors.new)) }
 {
     log_end(rt, reason);
+    say_reason(rt, arguments, reason, errors);
+}
+
+/// Writes the reason to the log, unless nothing failed, or standard error has it in words: the usage, or the mistake of
+/// a program text, which was noted before. On standard error it stands before the last line.
+fn log_end<R: Eprint>(rt: &R, reason: ExitReason) {
+    let is_unlogged = matches!(
+        reason,
+        ExitReason::Success | ExitReason::NotUnderstood | ExitReason::Syntax { .. }
+    );
+    if !is_unlogged {
+        let notes = Logged::new(rt, Level::Error, Console(rt));
+        error!(notes; "ended by {reason:?}");
+    }
+}
+
+/// Writes to `errors` what standard error gets for a reason to end: nothing for `Success`, the usage for
+/// `NotUnderstood`, after what wasn't understood of the arguments, and else the last line.
+pub fn say_reason<R: Wait + AllocGlobal, E: Sink>(
+    rt: &R,
+    arguments: &[&str],
+    reason: ExitReason,
+    errors: &mut E,
+)
+    ensures { Reports reason
+        (output_at (E.written errors.old) (E.failures errors.old))
+        (output_at (E.written errors.new) (E.failures errors.new)) }
+{
     match reason {
         ExitReason::Success => {}
         ExitReason::ReadFailed => say(rt, errors, &["pl0dap: read failed\n"]),
@@ -81,17 +109,8 @@ pub(crate) fn report<R: Wait + Eprint + AllocGlobal, E: Sink>(
     }
 }
 
-/// Writes the reason to the log at status 1 to 3. On standard error it stands before the last line. A mistake of a program
-/// text was noted before, in words.
-fn log_end<R: Eprint>(rt: &R, reason: ExitReason) {
-    let is_noted = matches!(reason, ExitReason::Syntax { .. });
-    if 0 < reason.status() && reason.status() < 4 && !is_noted {
-        let notes = Logged::new(rt, Level::Error, Console(rt));
-        error!(notes; "ended by {reason:?}");
-    }
-}
-
-/// Writes the mistake of a file's text to standard error, in the form that compilers have, where there is memory for it.
+/// Writes the mistake of a file's text to standard error, in the form that compilers have, where there is memory for
+/// it.
 pub(crate) fn note_mistake<R: Eprint + AllocGlobal>(
     rt: &R,
     file: &str,

@@ -1,6 +1,7 @@
 //! Judging a text: its listing byte for byte, its first fault, and each way in which there is neither.
 
 use crate::fakes::{Output, Progress, Streams};
+use crate::serving::said;
 use adapter::{check, end_of_check};
 use dap_session::Loader;
 use std::alloc::Global;
@@ -24,7 +25,7 @@ pub const LISTING: &[u8] = b"0 3 7 assign
 ";
 
 /// Asserts that judging what the loader gives writes this, and ends the program with this status and last line.
-fn assert_judged<R: Abort + Wait, L: Loader>(
+fn assert_judged<R: Abort + Wait + AllocGlobal, L: Loader>(
     rt: &R,
     alloc: Global,
     loader: &mut L,
@@ -34,15 +35,15 @@ fn assert_judged<R: Abort + Wait, L: Loader>(
     let progress = Progress::new();
     let mut output = Output::new(rt, alloc, streams, &progress);
     let reason = end_of_check(&check(rt, alloc, "p.pl0", loader, &mut output));
-    let line = format!(in alloc; "{reason}").expect(rt, "memory");
+    let said = said(rt, reason);
     let (listing, status, last_line) = expected;
     assert_eq!(rt;
         (
             std::str::from_utf8(output.bytes.as_slice()),
             reason.status(),
-            line.as_str()
+            std::str::from_utf8(said.as_slice())
         ),
-        (std::str::from_utf8(listing), status, last_line)
+        (std::str::from_utf8(listing), status, Ok(last_line))
     );
 }
 
@@ -63,7 +64,7 @@ fn prints_the_listing(rt: HostRuntime) {
 fn names_the_first_fault(rt: HostRuntime) {
     let alloc = rt.alloc();
     let file = &mut Files::everywhere(alloc, b"x := 1.");
-    let expected: (&[u8], u8, &str) = (b"", 3, "pl0dap: syntax 10 1 1");
+    let expected: (&[u8], u8, &str) = (b"", 3, "pl0dap: syntax 10 1 1\n");
     assert_judged(&rt, alloc, file, Streams::WELL, expected);
 }
 
@@ -71,7 +72,7 @@ fn names_the_first_fault(rt: HostRuntime) {
 fn says_that_a_file_cannot_be_read(rt: HostRuntime) {
     let alloc = rt.alloc();
     let none = &mut Files::none(alloc);
-    let expected: (&[u8], u8, &str) = (b"", 1, "pl0dap: cannot read");
+    let expected: (&[u8], u8, &str) = (b"", 1, "pl0dap: cannot read\n");
     assert_judged(&rt, alloc, none, Streams::WELL, expected);
 }
 
@@ -86,7 +87,7 @@ fn says_that_a_listing_was_cut(rt: HostRuntime) {
             takes_nothing: room % 2 == 1,
             ..Streams::WELL
         };
-        let expected = (&LISTING[..room], 1, "pl0dap: write failed");
+        let expected = (&LISTING[..room], 1, "pl0dap: write failed\n");
         assert_judged(&rt, alloc, file, streams, expected);
     }
 }

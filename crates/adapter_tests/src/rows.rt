@@ -151,33 +151,33 @@ pub const FAULTS: [(&str, FramingFault, &str); 7] = [
     (
         "Content-Length: 49\n\n{\"seq\":1,\"type\":\"request\",\"command\":\"initialize\"}\r\n\r\n",
         FramingFault::BadField,
-        "pl0dap: frame 2",
+        "pl0dap: frame 2\n",
     ),
-    ("A b: c\r\n", FramingFault::BadField, "pl0dap: frame 2"),
+    ("A b: c\r\n", FramingFault::BadField, "pl0dap: frame 2\n"),
     (
         "Content-Length:49\r\n",
         FramingFault::BadField,
-        "pl0dap: frame 2",
+        "pl0dap: frame 2\n",
     ),
     (
         "content-length: 49\r\n\r\n",
         FramingFault::NoLength,
-        "pl0dap: frame 3",
+        "pl0dap: frame 3\n",
     ),
     (
         "Content-Length: 49\r\nContent-Length: 49\r\n",
         FramingFault::TwoLengths,
-        "pl0dap: frame 4",
+        "pl0dap: frame 4\n",
     ),
     (
         "Content-Length: 049\r\n",
         FramingFault::BadLength,
-        "pl0dap: frame 5",
+        "pl0dap: frame 5\n",
     ),
     (
         "Content-Length: 1048577\r\n",
         FramingFault::TooLarge,
-        "pl0dap: frame 6",
+        "pl0dap: frame 6\n",
     ),
 ];
 

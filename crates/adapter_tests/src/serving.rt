@@ -4,8 +4,8 @@ use crate::fakes::{Cut, Hold, Input, Output, Progress, SliceGate, Streams};
 use crate::rows::{FAULTS, HELLO, INITIALIZE, ROWS, Row, fault_row};
 use crate::transcript::{ANSWERED, SENT, frames, input};
 use adapter::{
-    FirstSeq, NoListener, Reading, ServeFault, Served, Writing, end_of_serve, serve,
-    serve_counting_from,
+    ExitReason, FirstSeq, NoListener, Reading, ServeFault, Served, Writing, end_of_serve,
+    say_reason, serve, serve_counting_from,
 };
 use std::alloc::Global;
 use std::process::Abort;
@@ -43,6 +43,14 @@ pub fn run<R: Threads + Wait + Abort + Copy + Drop + Send + Sync>(
     }
 }
 
+/// What standard error gets where the program ends for this reason, with no arguments.
+pub fn said<R: Wait + Abort + AllocGlobal>(rt: &R, reason: ExitReason) -> Vec<u8> {
+    let progress = Progress::new();
+    let mut errors = Output::new(rt, rt.alloc(), Streams::WELL, &progress);
+    say_reason(rt, &[], reason, &mut errors);
+    errors.bytes
+}
+
 /// What a session must come to: its bytes, the program's status and its last line.
 #[derive(Clone, Copy)]
 struct Expected<'a> {
@@ -52,29 +60,32 @@ struct Expected<'a> {
 }
 
 /// Asserts that the input is answered so.
-fn assert_answered<R: Threads + Wait + Abort + Copy + Drop + Send + Sync>(
+fn assert_answered<R>(
     rt: &R,
     alloc: Global,
     name: &str,
     input: &[u8],
     streams: Streams,
     expected: Expected,
-) {
+)
+where
+    R: Threads + Wait + Abort + AllocGlobal + Copy + Drop + Send + Sync,
+{
     let run = run(rt, alloc, "", input, streams);
     let reason = end_of_serve(&run.end);
-    let line = format!(in alloc; "{reason}").expect(rt, "memory");
+    let said = said(rt, reason);
     let step = streams.read_step;
     let cut = streams.cuts.first().map(|cut| cut.at);
     assert_eq!(rt;
         (
             std::str::from_utf8(run.output.as_slice()),
             reason.status(),
-            line.as_str()
+            std::str::from_utf8(said.as_slice())
         ),
         (
             std::str::from_utf8(expected.output),
             expected.status,
-            expected.last_line
+            Ok(expected.last_line)
         ),
         "{name}, by {step}, cut at {cut:?}"
     );
@@ -90,7 +101,7 @@ fn by(step: usize) -> Streams<'static> {
 }
 
 /// Asserts that the row is served so: whole, by single bytes, and cut in two at each place.
-fn assert_served<R: Threads + Wait + Abort + Copy + Drop + Send + Sync>(
+fn assert_served<R: Threads + Wait + Abort + AllocGlobal + Copy + Drop + Send + Sync>(
     rt: &R,
     alloc: Global,
     row: &Row,
@@ -140,7 +151,7 @@ fn serves_headers_up_to_the_limit(rt: HostRuntime) {
     let answer = frames(alloc, INITIALIZE, ANSWERED).expect(&rt, "memory");
     let rows = [
         (997, answer.as_slice(), 0, ""),
-        (998, b"".as_slice(), 2, "pl0dap: frame 1"),
+        (998, b"".as_slice(), 2, "pl0dap: frame 1\n"),
     ];
     for (letters, output, status, last_line) in rows {
         let name = "a".repeat(alloc, letters).expect(&rt, "memory");
