@@ -56,13 +56,13 @@ Usage: pl0dap [--check FILE]
 For more information, try '--help'.
 ";
 
-/// Reads the arguments, the program's name first. No further argument means `Serve`, and `--check FILE` or `--check=FILE`
-/// means `Check`.
+/// Reads the arguments, the program's name first. No further argument means `Serve`, and `--check FILE` or
+/// `--check=FILE` means `Check`.
 ///
 /// # Errors
 ///
-/// `Help` where `-h` or `--help` is found and the arguments before it are understood, `NotUnderstood` for all others, and
-/// `NoMemory` where memory ran out.
+/// `Help` where `-h` or `--help` is found and the arguments before it are understood, `NotUnderstood` for all others,
+/// and `NoMemory` where memory ran out.
 pub fn parse_arguments<'a>(
     alloc: Global,
     arguments: &'a [&str],

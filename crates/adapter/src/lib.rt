@@ -1,12 +1,13 @@
 //! The adapter that the program `pl0dap` is: a debug adapter for PL/0 over an input and an output.
 //!
-//! The one contract is that of [`run_process`], which is all that a `main` calls: what the arguments ask for was done over
-//! the input, the output and the errors that were lent, the exit code says how that ended, and standard error has it as its
-//! last line. [`run`] returns the reason in place of the code, and [`execute`] does it with another loader than that of the
-//! system's files. The contract cites three others: [`parse_arguments`](arguments::parse_arguments) says what the arguments
-//! ask for; [`serve`] says that reader, runner, session and writer, each in a thread, did together what `specs/Serving`
-//! defines; and [`check`] says that the listing of a file's text was written, which `specs/Listing` defines. The hard
-//! lemmas are in `proofs/Gathered`: they put together what the ends of the queues say when all threads were joined.
+//! The one contract is that of [`run_process`], which is all that a `main` calls: what the arguments ask for was done
+//! over the input, the output and the errors that were lent, the exit code says how that ended, and standard error has
+//! it as its last line. [`run`] returns the reason in place of the code, and [`execute`] does it with another loader
+//! than that of the system's files. The contract cites three others: [`parse_arguments`](arguments::parse_arguments)
+//! says what the arguments ask for; [`serve`] says that reader, runner, session and writer, each in a thread, did
+//! together what `specs/Serving` defines; and [`check`] says that the listing of a file's text was written, which
+//! `specs/Listing` defines. The hard lemmas are in `proofs/Gathered`: they put together what the ends of the queues say
+//! when all threads were joined.
 #![tactic(auto)]
 
 pub mod arguments;
@@ -31,6 +32,6 @@ pub use exit_reason::{ExitReason, end_of_check, end_of_serve};
 pub use files::FileLoader;
 pub use laws::serving_laws;
 pub use program::{execute, run, run_process};
-pub use serving::{ServeFault, Served, serve, serve_counting_from};
 pub use reporting::say_reason;
+pub use serving::{ServeFault, Served, serve, serve_counting_from};
 pub use telling::{EndListener, NoListener};

@@ -56,9 +56,9 @@ where
     ExitCode::from(run(rt, first, given, input, output, errors).status())
 }
 
-/// Does what the arguments ask for, as [`execute`] does, with the files of the system, and returns how that ended: `launch`
-/// gets regular files alone, and `--check` also what may block, such as a named pipe. Where an error was given in place of the
-/// arguments, it says so on `errors`, and does nothing else.
+/// Does what the arguments ask for, as [`execute`] does, with the files of the system, and returns how that ended:
+/// `launch` gets regular files alone, and `--check` also what may block, such as a named pipe. Where an error was given
+/// in place of the arguments, it says so on `errors`, and does nothing else.
 pub fn run<R, I, O, E>(
     rt: &R,
     first: FirstSeq,
@@ -142,10 +142,10 @@ where
     carry_out(rt, first, arguments, asked, loader, input, output, errors)
 }
 
-/// Does what the arguments ask for, the program's name first, and returns how that ended. A client that is served may count
-/// its requests from `first`. `errors` gets nothing at status 0, the usage at status 4, and else the last line, which is
-/// written as soon as the reason is known: where a client was served, before the last read of its input returns. Where
-/// `errors` fails, nothing else changes.
+/// Does what the arguments ask for, the program's name first, and returns how that ended. A client that is served may
+/// count its requests from `first`. `errors` gets nothing at status 0, the usage at status 4, and else the last line,
+/// which is written as soon as the reason is known: where a client was served, before the last read of its input
+/// returns. Where `errors` fails, nothing else changes.
 pub fn execute<R, L, I, O, E>(
     rt: &R,
     first: FirstSeq,
