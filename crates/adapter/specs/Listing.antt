@@ -1,14 +1,11 @@
 -- Defines the text of a listing: a line for each step of a program, an empty line, and a line for each instruction.
 use Rattle.std.specs.Prelude.{ℕ, ◌+◌, List, [], ◌∷◌, ◌++◌, codes, decimal, Option, Some, None, slice_get}
-use Rattle.std.specs.Fmt.{signed_decimal}
 use Rattle.pl0_tree.specs.declared.tree.Place.{Place}
 use Rattle.pl0_tree.specs.declared.step.StepKind.{StepKind}
 use Rattle.pl0_tree.specs.declared.step.StepKind.TheVariants as kind
 use Rattle.pl0_tree.specs.Steps.{StepAt}
 use Rattle.pl0_unit.specs.declared.instruction.Instruction.{Instruction}
-use Rattle.pl0_unit.specs.declared.instruction.Instruction.TheVariants.{Literal, Operate, Load, Store, Call, Enter, Jump, JumpIfZero}
-use Rattle.pl0_unit.specs.declared.instruction.Operation.{Operation}
-use Rattle.pl0_unit.specs.declared.instruction.Operation.TheVariants as operation
+use Rattle.pl0_unit.specs.Mnemonics.{instruction_text}
 
 abbrev pub line_feed : List ℕ
 line_feed = 10 ∷ []
@@ -32,34 +29,6 @@ abbrev pub step_line : ℕ → StepKind → Place → List ℕ
 step_line n kind place =
     decimal n ++ (codes " " ++ (decimal place.line ++ (codes " "
     ++ (decimal place.column ++ (codes " " ++ (kind_name kind ++ line_feed))))))
-
--- the numbers that Wirth gave to the operations of OPR; 14 writes a number
-abbrev pub operation_number : Operation → ℕ
-operation_number operation.Return = 0
-operation_number operation.Negate = 1
-operation_number operation.Add = 2
-operation_number operation.Subtract = 3
-operation_number operation.Multiply = 4
-operation_number operation.Divide = 5
-operation_number operation.Odd = 6
-operation_number operation.Equal = 8
-operation_number operation.Unequal = 9
-operation_number operation.Less = 10
-operation_number operation.AtLeast = 11
-operation_number operation.Greater = 12
-operation_number operation.AtMost = 13
-operation_number operation.Write = 14
-
--- an instruction: its name, level and address
-abbrev pub instruction_text : Instruction → List ℕ
-instruction_text (Literal value) = codes "LIT 0 " ++ signed_decimal value
-instruction_text (Operate operation) = codes "OPR 0 " ++ decimal (operation_number operation)
-instruction_text (Load level address) = codes "LOD " ++ (decimal level ++ (codes " " ++ decimal address))
-instruction_text (Store level address) = codes "STO " ++ (decimal level ++ (codes " " ++ decimal address))
-instruction_text (Call level address) = codes "CAL " ++ (decimal level ++ (codes " " ++ decimal address))
-instruction_text (Enter cells) = codes "INT 0 " ++ decimal cells
-instruction_text (Jump address) = codes "JMP 0 " ++ decimal address
-instruction_text (JumpIfZero address) = codes "JPC 0 " ++ decimal address
 
 -- the step that an instruction begins, by what stands beside it, if anything does
 abbrev pub begun_by : Option (Option ℕ) → Option ℕ

@@ -3,9 +3,9 @@
 ghost use Rattle.std.specs.Prelude.{◌≡◌, ◌++◌, string_bytes, slice_get, IfOk, OnOk};
 ghost use Rattle.pl0_tree.specs.Plain.{plain_block};
 ghost use Rattle.pl0_tree.specs.Steps.{steps};
-ghost use Rattle.adapter.specs.Listing.{listing_text, lines_from, step_line, kind_name, instruction_line, instruction_text, operation_number, begun_by, begun_text};
+ghost use Rattle.adapter.specs.Listing.{listing_text, lines_from, step_line, kind_name, instruction_line, begun_by, begun_text};
 
-use pl0_code::{Instruction, Operation, Unit};
+use pl0_code::{Instruction, Unit};
 use pl0_tree::{Step, StepKind, StepNumber};
 use std::alloc::{AllocError, Global};
 
@@ -96,36 +96,9 @@ fn write_instruction(
     ensures { OnOk result (string_bytes text.new ≡ string_bytes text.old
         ++ instruction_line number instruction begins) }
 {
-    write!(text, "{number} ")?;
-    write_operation(text, instruction)?;
+    write!(text, "{number} {instruction}")?;
     write_begun(text, begins)?;
     text.push_str("\n")
-}
-
-/// Appends an instruction's name, level and address.
-fn write_operation(text: &mut String, instruction: Instruction) -> Result<(), AllocError>
-    ensures { OnOk result (string_bytes text.new ≡ string_bytes text.old ++ instruction_text instruction) }
-{
-    match instruction {
-        Instruction::Literal(value) => write!(text, "LIT 0 {value}"),
-        Instruction::Operate(operation) => {
-            let number = number_of_operation(operation);
-            write!(text, "OPR 0 {number}")
-        }
-        Instruction::Load { level, address } => write!(text, "LOD {level} {address}"),
-        Instruction::Store { level, address } => write!(text, "STO {level} {address}"),
-        Instruction::Call { level, address } => write!(text, "CAL {level} {address}"),
-        Instruction::Enter(cells) => write!(text, "INT 0 {cells}"),
-        Instruction::Jump(address) => write!(text, "JMP 0 {address}"),
-        Instruction::JumpIfZero(address) => write!(text, "JPC 0 {address}"),
-    }
-}
-
-/// The number of an operation in the listing.
-fn number_of_operation(operation: Operation) -> u8
-    ensures { result ≡ operation_number operation }
-{
-    operation as u8
 }
 
 /// Appends ` @n` where the instruction begins step n, and else nothing.

@@ -8,7 +8,7 @@ use Rattle.pl0_unit.specs.declared.instruction.Instruction.TheVariants.{Enter, J
 use Rattle.pl0_unit.specs.declared.unit.Unit.{Unit as Compiled}
 use Rattle.pl0_tool.specs.Columns.{right}
 use Rattle.pl0_tool.specs.TextLines.{line_feed, text_lines}
-use Rattle.pl0_tool.specs.Instructions.{instruction_text}
+use Rattle.pl0_tool.specs.Instructions.{listed_text}
 
 -- ---- an instruction
 
@@ -24,7 +24,7 @@ mark (Some step) = codes "@" ++ decimal step
 abbrev pub instruction_line : Compiled → ℕ → Instruction → List ℕ
 instruction_line unit address instruction =
     right 10 (mark (step_at unit address)) ++ (codes " " ++ (right 5 (decimal address) ++ (codes " "
-    ++ (instruction_text instruction ++ line_feed))))
+    ++ (listed_text instruction ++ line_feed))))
 
 -- ---- under which line it stands
 

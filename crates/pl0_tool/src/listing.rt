@@ -1,11 +1,11 @@
 //! The listing of a program: the code under each line of its text.
 
 ghost use Rattle.std.specs.Prelude.{◌≡◌, ◌++◌, IfOk, OnOk, string_bytes, take, drop};
-ghost use Rattle.pl0_tool.specs.Instructions.{instruction_text, operation_text};
+ghost use Rattle.pl0_tool.specs.Instructions.{listed_text, operation_name};
 ghost use Rattle.pl0_tool.specs.Listing.{listing, line_of, step_of, step_at, first_begun, enters, instruction_line, mark};
 ghost use Rattle.pl0_tool.specs.TextLines.{text_lines, with_feeds};
 
-use crate::columns::put_right;
+use crate::columns::{put_left, put_right};
 use crate::lines::first_line;
 use pl0_tree::StepNumber;
 use pl0_unit::{Instruction, Operation, Unit};
@@ -135,10 +135,10 @@ fn put_instruction(
     listed.push(b' ')?;
     let number = format!(in alloc; "{address}")?;
     put_right(listed, 5, number.as_bytes())?;
-    let text = instruction_text(alloc, instruction)?;
-    let text = text.as_str();
-    let rest = format!(in alloc; " {text}\n")?;
-    listed.extend_from_slice(rest.as_bytes())
+    listed.push(b' ')?;
+    put_text(alloc, listed, instruction)?;
+    listed.push(b'\n')?;
+    Ok(())
 }
 
 /// Returns the mark of a step that is begun, if one is.
@@ -151,43 +151,38 @@ fn mark(alloc: Global, begun: Option<StepNumber>) -> Result<String, AllocError>
     }
 }
 
-/// Returns an instruction's name, level and address.
-fn instruction_text(alloc: Global, instruction: Instruction) -> Result<String, AllocError>
-    ensures { IfOk result (λ text. string_bytes text ≡ instruction_text instruction) }
+/// Appends an instruction's name, level and address, and what its operation is called.
+fn put_text(alloc: Global, listed: &mut Vec<u8>, instruction: Instruction) -> Result<(), AllocError>
+    ensures { OnOk result (listed.new.items ≡ listed.old.items ++ listed_text instruction) }
 {
+    let text = instruction.to_string(alloc)?;
     match instruction {
-        Instruction::Literal(value) => format!(in alloc; "LIT 0 {value}"),
         Instruction::Operate(operation) => {
-            let operation = operation_text(operation);
-            format!(in alloc; "OPR 0 {operation}")
+            put_left(listed, 10, text.as_bytes())?;
+            listed.extend_from_slice(operation_name(operation).as_bytes())
         }
-        Instruction::Load { level, address } => format!(in alloc; "LOD {level} {address}"),
-        Instruction::Store { level, address } => format!(in alloc; "STO {level} {address}"),
-        Instruction::Call { level, address } => format!(in alloc; "CAL {level} {address}"),
-        Instruction::Enter(cells) => format!(in alloc; "INT 0 {cells}"),
-        Instruction::Jump(address) => format!(in alloc; "JMP 0 {address}"),
-        Instruction::JumpIfZero(address) => format!(in alloc; "JPC 0 {address}"),
+        _ => listed.extend_from_slice(text.as_bytes()),
     }
 }
 
-/// Returns an operation's number, and what it is called.
-fn operation_text(operation: Operation) -> &'static str
-    ensures { result.now ≡ operation_text operation }
+/// Returns what an operation is called.
+fn operation_name(operation: Operation) -> &'static str
+    ensures { result.now ≡ operation_name operation }
 {
     match operation {
-        Operation::Return => "0   return",
-        Operation::Negate => "1   negate",
-        Operation::Add => "2   add",
-        Operation::Subtract => "3   subtract",
-        Operation::Multiply => "4   multiply",
-        Operation::Divide => "5   divide",
-        Operation::Odd => "6   odd",
-        Operation::Equal => "8   equal",
-        Operation::Unequal => "9   not equal",
-        Operation::Less => "10  less",
-        Operation::AtLeast => "11  not less",
-        Operation::Greater => "12  greater",
-        Operation::AtMost => "13  not greater",
-        Operation::Write => "14  write",
+        Operation::Return => "return",
+        Operation::Negate => "negate",
+        Operation::Add => "add",
+        Operation::Subtract => "subtract",
+        Operation::Multiply => "multiply",
+        Operation::Divide => "divide",
+        Operation::Odd => "odd",
+        Operation::Equal => "equal",
+        Operation::Unequal => "not equal",
+        Operation::Less => "less",
+        Operation::AtLeast => "not less",
+        Operation::Greater => "greater",
+        Operation::AtMost => "not greater",
+        Operation::Write => "write",
     }
 }
