@@ -17,10 +17,10 @@ returns-in-Some-End-clause-written g c =
     c.loop.invariant.0
     took
 
-pub returns-in_err-write_all-clause-written : goal.returns-in_err-write_all-clause-written
-returns-in_err-write_all-clause-written g c =
+pub returns-in_err-write_all-in-Some-Frames-clause-written : goal.returns-in_err-write_all-in-Some-Frames-clause-written
+returns-in_err-write_all-in-Some-Frames-clause-written g c =
     let took = rw c.in-Some-Frames.field-0-is at c.in-Some-Frames.ensures.some in
-    let part = rw c.as_slice.ensures.value at c.in_err-write_all.ensures.written in
+    let part = rw c.as_slice.ensures.value at c.in_err-write_all-in-Some-Frames.ensures.written in
     let p = err_from_is_err_and c.from_residual.result c.from_residual.ensures.1 in
     rw p.1 (written_breaks
     (messages_taken c.args.outbox.now)
@@ -33,12 +33,12 @@ returns-in_err-write_all-clause-written g c =
     c.loop.invariant.0
     took
     part
-    c.in_err-write_all.ensures.count)
+    c.in_err-write_all-in-Some-Frames.ensures.count)
 
 pub loop-preserved : goal.loop-preserved
 loop-preserved g c =
     let took = rw c.in-Some-Frames.field-0-is at c.in-Some-Frames.ensures.some in
-    let wrote = rw c.as_slice.ensures.value at c.in_ok-write_all.ensures.written in (
+    let wrote = rw c.as_slice.ensures.value at c.in_ok-write_all-in-Some-Frames.ensures.written in (
       written_goes_on
           (messages_taken c.args.outbox.now)
           (messages_taken c.loop.outbox)
@@ -50,6 +50,6 @@ loop-preserved g c =
           c.loop.invariant.0
           took
           wrote
-          c.in_ok-write_all.ensures.count,
+          c.in_ok-write_all-in-Some-Frames.ensures.count,
       c.in-Some-Frames.ensures.queue ∙ c.loop.invariant.1,
     )
