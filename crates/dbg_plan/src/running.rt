@@ -10,7 +10,7 @@ ghost use Rattle.std.specs.List.{list_any};
 ghost use Rattle.dbg_plan.specs.Debugged.{IsRunning};
 ghost use Rattle.dbg_plan.specs.Counting.{holds_now, IsMetHere, MayBePlanOf};
 ghost use Rattle.dbg_plan.specs.Plans.{breakpoints_of};
-ghost use Rattle.dbg_plan.specs.Running.{has_arrival};
+ghost use Rattle.dbg_plan.specs.Running.{has_arrival, next_run};
 ghost use Rattle.dbg_plan.specs.Quiet.{Watches, WentOn, RanByMachine, considered_after};
 
 use crate::breakpoint::Breakpoint;
@@ -20,8 +20,8 @@ use pl0_machine::{Machine, Marks, StepOutcome};
 use pl0_meaning::configuration_laws;
 use std::sync::Arc;
 
-// To begin a run of the machine takes as many instructions as it saves in some six steps. So after a run of fewer steps than
-// these, to a condition that doesn't hold, a short loop is stepped through for a while.
+// To begin a run takes as many instructions as it saves in some six steps. So after a run of fewer steps than these, to a
+// condition that doesn't hold or to where something is counted or written, a short loop is stepped through for a while.
 const SHORT_RUN: u64 = 6;
 
 const SINGLE_STEPS: u64 = 32;
@@ -99,6 +99,20 @@ fn go_on(
     machine.run(limit, outer, marks)
 }
 
+/// Returns the position before which no run begins after one from `begin` to `end`: single steps follow a short one.
+#[inline(always)]
+pub fn next_run(begin: u64, end: u64) -> u64
+    requires bounded { begin ≤ last_position }
+    requires reached { end ≤ last_position }
+    ensures { result ≡ next_run begin end }
+{
+    if end < begin + SHORT_RUN {
+        end + SINGLE_STEPS
+    } else {
+        end
+    }
+}
+
 /// Returns the position before which single steps are taken, after those from `begin` to `end`. Before them it was `near`.
 #[inline(always)]
 fn next_near(near: u64, begin: u64, end: u64) -> u64
@@ -106,12 +120,9 @@ fn next_near(near: u64, begin: u64, end: u64) -> u64
     requires end { end ≤ last_position }
 {
     if begin < near {
-        near
-    } else if end < begin + SHORT_RUN {
-        end + SINGLE_STEPS
-    } else {
-        end
+        return near;
     }
+    next_run(begin, end)
 }
 
 /// Takes steps up to the position `limit`, or up to the first that isn't quiet: what that one did. A step that leaves no more
