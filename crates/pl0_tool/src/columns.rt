@@ -33,7 +33,7 @@ pub fn put_right(page: &mut Vec<u8>, width: usize, text: &[u8]) -> Result<(), Al
 }
 
 /// Appends a text at the left of a column of this width.
-fn put_left(page: &mut Vec<u8>, width: usize, text: &[u8]) -> Result<(), AllocError>
+pub fn put_left(page: &mut Vec<u8>, width: usize, text: &[u8]) -> Result<(), AllocError>
     ensures { OnOk result (page.new.items ≡ page.old.items ++ left width text.now) }
 {
     page.extend_from_slice(text)?;
