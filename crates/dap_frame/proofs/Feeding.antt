@@ -1,19 +1,12 @@
 -- What was read of a rest stays read when more of it comes.
-use Rattle.dap_frame.proofs.Common.{[], ap, append_assoc, Frames, IsFrameInFront, List, refl, subst, sym, ℕ, ◌++◌, ◌+◌, ◌∙◌, ◌∷◌, ◌≡◌}
-use Rattle.dap_frame.proofs.Frames.{same_frame, frames_join}
+use Rattle.dap_frame.proofs.Common.{[], ap, append_assoc, Frames, IsFrameInFront, List, refl, ℕ, ◌++◌, ◌∙◌, ◌∷◌}
+use Rattle.dap_frame.proofs.Frames.{frames_join}
 
 -- one frame more
 pub frames_one_more : (stream rest more content : List ℕ) (contents : List (List ℕ)) → Frames stream contents rest
     → IsFrameInFront rest content more → Frames stream (contents ++ content ∷ []) more
 frames_one_more stream rest more content contents h f =
     frames_join stream rest more contents (content ∷ []) h (more, f, refl)
-
--- the frame whose content was copied is the one that was passed
-pub frame_passed : (bytes content given other rest more : List ℕ) → IsFrameInFront bytes content rest → given ≡ content
-    → IsFrameInFront bytes other more → IsFrameInFront bytes given more
-frame_passed bytes content given other rest more f is g =
-    let same = same_frame bytes content other rest more f g in
-    subst (λ c. IsFrameInFront bytes c more) (sym same.0 ∙ sym is) g
 
 pub frame_longer : (bytes content rest piece : List ℕ) → IsFrameInFront bytes content rest
     → IsFrameInFront (bytes ++ piece) content (rest ++ piece)

@@ -2,24 +2,24 @@
 use Rattle.dap_frame.proofs.Common.{arith, cases_lt, cond_above, cond_below, inl, inr, kept_of, refl, sym, ℕ, ◌+◌, ◌-◌, ◌<◌, ◌≡◌, ◌≤◌}
 
 -- all of them, where no more are of frames already read than are of the rest
-pub kept_whole : (front len : ℕ) → front ≤ len - front → kept_of front len ≡ len
-kept_whole front len h = sym (cond_above (len - front) front (len - front) len len h refl)
+pub kept_whole : (passed len : ℕ) → passed ≤ len - passed → kept_of passed len ≡ len
+kept_whole passed len h = sym (cond_above (len - passed) passed (len - passed) len len h refl)
 
 -- those of the rest otherwise
-pub kept_rest : (front len : ℕ) → len - front < front → kept_of front len ≡ len - front
-kept_rest front len h = sym (cond_below (len - front) front (len - front) len h)
+pub kept_rest : (passed len : ℕ) → len - passed < passed → kept_of passed len ≡ len - passed
+kept_rest passed len h = sym (cond_below (len - passed) passed (len - passed) len h)
 
-pub kept_within : (front len : ℕ) → kept_of front len ≤ len
-kept_within front len = elim (cases_lt (len - front) front) [
-  | inl h ↦ let e = kept_rest front len h in omega (arith, e)
-  | inr h ↦ let e = kept_whole front len h in omega (arith, e)
+pub kept_within : (passed len : ℕ) → kept_of passed len ≤ len
+kept_within passed len = elim (cases_lt (len - passed) passed) [
+  | inl h ↦ let e = kept_rest passed len h in omega (arith, e)
+  | inr h ↦ let e = kept_whole passed len h in omega (arith, e)
 ]
 
 -- no more are kept once a frame was passed
-pub kept_passed : (front size len : ℕ) → kept_of (front + size) len ≤ kept_of front len
-kept_passed front size len = elim (cases_lt (len - front) front) [
-  | inl h ↦ let e = kept_rest front len h in
-      let f = kept_rest (front + size) len (omega (arith, h)) in omega (arith, e, f)
-  | inr h ↦ let e = kept_whole front len h in
-      let f = kept_within (front + size) len in omega (arith, e, f)
+pub kept_passed : (passed size len : ℕ) → kept_of (passed + size) len ≤ kept_of passed len
+kept_passed passed size len = elim (cases_lt (len - passed) passed) [
+  | inl h ↦ let e = kept_rest passed len h in
+      let f = kept_rest (passed + size) len (omega (arith, h)) in omega (arith, e, f)
+  | inr h ↦ let e = kept_whole passed len h in
+      let f = kept_within (passed + size) len in omega (arith, e, f)
 ]

@@ -10,7 +10,7 @@ pub mod Located
 -- `faults` of `frame_laws`.
 pub mod Faults
 -- A rest has one header part and one frame at most, and where a frame stands no fault does; for the clauses `frames`,
--- `both`, `again` and `join` of `frame_laws`, and for `content_of`.
+-- `both`, `again` and `join` of `frame_laws`, and for `front_of`.
 pub mod Frames
 -- A field's line is cut at its first colon; for `field_of`.
 pub mod Fields

@@ -1,7 +1,8 @@
 -- Defines the frames of a stream, by the base protocol of the Debug Adapter Protocol, however it was cut into pieces.
-use Rattle.std.specs.Prelude.{◌≡◌, ℕ, List, [], ◌∷◌, ◌++◌, length, codes, decimal}
+use Rattle.std.specs.Prelude.{◌≡◌, ℕ, ◌-◌, ◌≤◌, List, [], ◌∷◌, ◌++◌, length, take, drop, codes, decimal}
 use Rattle.dap_frame.specs.Header.{line_end, IsHeader, FaultAt}
 use Rattle.dap_frame.specs.declared.fault.FramingFault.{FramingFault}
+use Rattle.dap_frame.specs.declared.front.Front.{Front}
 
 -- a whole frame stands at the front: a lawful header part, and a content of the length that the header part gives
 pub record IsFrameInFront (bytes content rest : List ℕ) : Type 0 where
@@ -9,9 +10,15 @@ pub record IsFrameInFront (bytes content rest : List ℕ) : Type 0 where
   pub lawful : IsHeader header (length content)
   pub spelled : bytes ≡ header ++ (content ++ rest)
 
--- a whole frame of some content stands at the front
-abbrev pub HasFrame : List ℕ → Type 0
-HasFrame bytes = (content : List ℕ) × (rest : List ℕ) × IsFrameInFront bytes content rest
+-- the content of a frame that lies so: the bytes from `start` to `end`
+abbrev pub content_at : Front → List ℕ → List ℕ
+content_at front bytes = take (front.end - front.start) (drop front.start bytes)
+
+-- a whole frame stands at the front, and its content lies there
+pub record IsFront (front : Front) (bytes : List ℕ) : Type 0 where
+  pub in_order : front.start ≤ front.end
+  pub there : front.end ≤ length bytes
+  pub frame : IsFrameInFront bytes (content_at front bytes) (drop front.end bytes)
 
 -- the bytes are the frames of these contents, one after the other, and then the rest
 abbrev pub Frames : List ℕ → List (List ℕ) → List ℕ → Type 0

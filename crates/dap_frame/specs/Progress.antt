@@ -51,7 +51,7 @@ spare = 4096
 abbrev pub IsBounded : ℕ → ℕ → Type 0
 IsBounded kept rest = kept ≤ 2 * rest + spare
 
--- how many of `len` bytes are kept when the next piece comes: the first `front`, of frames already read, are removed
+-- how many of `len` bytes are kept when the next piece comes: the first `passed`, of frames already read, are removed
 -- where they are more than the rest
 abbrev pub kept_of : ℕ → ℕ → ℕ
-kept_of front len = if nat_lt (len - front) front then len - front else len
+kept_of passed len = if nat_lt (len - passed) passed then len - passed else len

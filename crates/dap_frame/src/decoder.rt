@@ -1,13 +1,13 @@
 //! The decoder: it takes a stream in pieces and returns the contents of the frames in it.
 
-ghost use Rattle.std.specs.Prelude.{◌≡◌, ◌≢◌, ◌+◌, ◌<◌, ◌≤◌, ◌++◌, ◌∷◌, [], ℕ, List, Option, Some, None, IfOk, IfErr, OnOk, OnErr, MatchOption, MatchBool, length, drop, vec_capacity, vec_len};
+ghost use Rattle.std.specs.Prelude.{◌≡◌, ◌≢◌, ◌+◌, ◌<◌, ◌≤◌, ◌++◌, ◌∷◌, [], ℕ, List, Option, Some, None, IfOk, IfErr, OnOk, OnErr, MatchOption, length, drop, vec_capacity, vec_len};
 ghost use Rattle.dap_frame.specs.Header.{FaultAt};
-ghost use Rattle.dap_frame.specs.Frame.{Frames, HasFrame, IsOpen, IsFrameInFront};
+ghost use Rattle.dap_frame.specs.Frame.{Frames, IsOpen, IsFrameInFront, IsFront, content_at};
 ghost use Rattle.dap_frame.specs.Progress.{spare, kept_of, IsBounded, IsRead};
 
 use crate::fault::FramingFault;
-use crate::header::{Header, content_of, read_on};
-use crate::laws::frame_laws;
+use crate::front::{Front, front_of};
+use crate::header::{Header, read_on};
 use std::alloc::Global;
 use std::marker::Model;
 
@@ -24,7 +24,7 @@ const SPARE: usize = 4096;
 pub struct Decoder {
     bytes: Vec<u8>,
     // How many of the bytes are of frames already read. The rest of the stream stands after them.
-    front: usize,
+    passed: usize,
     // How far the header part at the front of the rest was read.
     header: Header,
     // The fault that was found, which every later call returns.
@@ -39,14 +39,14 @@ impl Model for Decoder {
     ghost Value = { Stream };
 
     ghost view = { λ decoder. record {
-      rest = drop decoder.front decoder.bytes.items;
+      rest = drop decoder.passed decoder.bytes.items;
       fault = decoder.fault;
-      room = vec_capacity decoder.bytes - kept_of decoder.front (vec_len decoder.bytes);
+      room = vec_capacity decoder.bytes - kept_of decoder.passed (vec_len decoder.bytes);
     } };
 
-    ghost invariant = { λ decoder. (decoder.front ≤ length decoder.bytes.items)
-        × IsRead decoder.header (drop decoder.front decoder.bytes.items)
-        × IsBounded (length decoder.bytes.items) (length (drop decoder.front decoder.bytes.items)) };
+    ghost invariant = { λ decoder. (decoder.passed ≤ length decoder.bytes.items)
+        × IsRead decoder.header (drop decoder.passed decoder.bytes.items)
+        × IsBounded (length decoder.bytes.items) (length (drop decoder.passed decoder.bytes.items)) };
 }
 
 impl Decoder {
@@ -59,7 +59,7 @@ impl Decoder {
     {
         Decoder {
             bytes: Vec::new(alloc),
-            front: 0,
+            passed: 0,
             header: Header::START,
             fault: None,
         }
@@ -85,7 +85,7 @@ impl Decoder {
         if let Some(fault) = self.fault {
             return Err(fault);
         }
-        self.front = compact(&mut self.bytes, self.front, 0);
+        self.passed = compact(&mut self.bytes, self.passed, 0);
         self.bytes.reserve(piece.len())?;
         self.bytes.extend_from_slice(piece)?;
         Ok(())
@@ -118,22 +118,25 @@ impl Decoder {
         ensures fault { IfErr result (λ fault. self.old.fault ≡ None → fault ≢ NoMemory →
             FaultAt self.old.rest fault × (self.new ≡ record self.old { fault = Some fault })) }
     {
-        if !self.has_frame()? {
+        let Some(front) = self.front()? else {
             return Ok(None);
-        }
+        };
         let mut given = Vec::new(*self.bytes.allocator());
-        given.extend_from_slice(self.content())?;
-        self.pass();
+        given.extend_from_slice(self.content(front))?;
+        self.pass(front);
         Ok(Some(given))
     }
 
-    /// Whether a whole frame has come, whose content may then be read where it stands, and passed after that.
+    /// Returns where the next content lies, or `None` where no whole frame has come yet. It may then be read where it stands
+    /// ([`Decoder::content`]), and passed after that ([`Decoder::pass`]).
     ///
     /// # Errors
     ///
     /// The fault that stands where the next frame should. This call, every later one and `feed` return it.
-    pub fn has_frame(&mut self) -> Result<bool, FramingFault>
-        ensures found { IfOk result (λ found. MatchBool found (HasFrame self.old.rest) (IsOpen self.old.rest)) }
+    pub fn front(&mut self) -> Result<Option<Front>, FramingFault>
+        ensures found { IfOk result (λ found. MatchOption found
+            (IsOpen self.old.rest)
+            (λ front. IsFront front self.old.rest)) }
         ensures same { OnOk result (self.new ≡ self.old) }
         ensures sound { OnOk result (self.old.fault ≡ None) }
         ensures again { (fault : FramingFault) → self.old.fault ≡ Some fault →
@@ -144,75 +147,55 @@ impl Decoder {
         if let Some(fault) = self.fault {
             return Err(fault);
         }
-        match read_on(&self.bytes.as_slice()[self.front..], self.header) {
+        match read_on(&self.bytes.as_slice()[self.passed..], self.header) {
             Ok(header) => self.header = header,
             Err(fault) => {
                 self.fault = Some(fault);
                 return Err(fault);
             }
         }
-        let rest = &self.bytes.as_slice()[self.front..];
-        match content_of(rest, self.header) {
-            Some(_) => Ok(true),
-            None => Ok(false),
-        }
+        let rest = &self.bytes.as_slice()[self.passed..];
+        Ok(front_of(rest, self.header))
     }
 
     /// Returns the content of the frame at the front, where it stands.
-    pub fn content(&self) -> &[u8]
-        requires { HasFrame self.now.rest }
-        ensures { (rest : List ℕ) × IsFrameInFront self.now.rest result.now rest }
+    pub fn content(&self, front: Front) -> &[u8]
+        requires { IsFront front self.now.rest }
+        ensures { result.now ≡ content_at front self.now.rest }
     {
-        front_frame(&self.bytes.as_slice()[self.front..], self.header).0
+        let rest = &self.bytes.as_slice()[self.passed..];
+        &rest[front.start..front.end]
     }
 
     /// Passes the frame at the front. What follows it is the rest of the stream then.
-    pub fn pass(&mut self)
-        requires { HasFrame self.old.rest }
-        ensures frame { (content : List ℕ) × IsFrameInFront self.old.rest content self.new.rest }
+    pub fn pass(&mut self, front: Front)
+        requires { IsFront front self.old.rest }
+        ensures frame { IsFrameInFront self.old.rest (content_at front self.old.rest) self.new.rest }
         ensures fault { self.new.fault ≡ self.old.fault }
         ensures room { self.old.room ≤ self.new.room }
     {
-        let size = front_frame(&self.bytes.as_slice()[self.front..], self.header).1;
-        self.front = compact(&mut self.bytes, self.front + size, SPARE);
+        self.passed = compact(&mut self.bytes, self.passed + front.end, SPARE);
         self.header = Header::START;
     }
 }
 
-/// Returns the content of the frame at the front, and how many bytes the frame takes.
-fn front_frame(rest: &[u8], header: Header) -> (&[u8], usize)
-    requires read { IsRead header rest.now }
-    requires frame { HasFrame rest.now }
-    ensures within { result.1 ≤ length rest.now }
-    ensures frame { IsFrameInFront rest.now result.0.now (drop result.1 rest.now) }
-{
-    frame_laws();
-    let Ok(header) = read_on(rest, header) else {
-        unreachable!()
-    };
-    match content_of(rest, header) {
-        Some(frame) => frame,
-        None => unreachable!(),
-    }
-}
-
-/// Removes the first `front` bytes if they are more than `extra` and the rest together, so that fewer bytes are moved than
+/// Removes the first `passed` bytes if they are more than `extra` and the rest together, so that fewer bytes are moved than
 /// are removed. Returns where the rest begins then.
-fn compact(bytes: &mut Vec<u8>, front: usize, extra: usize) -> usize
-    requires there { front ≤ length bytes.old.items }
+fn compact(bytes: &mut Vec<u8>, passed: usize, extra: usize) -> usize
+    requires there { passed ≤ length bytes.old.items }
     requires small { extra ≤ spare }
     ensures there { result ≤ length bytes.new.items }
-    ensures rest { drop result bytes.new.items ≡ drop front bytes.old.items }
+    ensures rest { drop result bytes.new.items ≡ drop passed bytes.old.items }
     ensures bounded { IsBounded (length bytes.new.items) (length (drop result bytes.new.items)) }
     ensures capacity { vec_capacity bytes.new ≡ vec_capacity bytes.old }
-    ensures kept { kept_of result (vec_len bytes.new) ≡ kept_of front (vec_len bytes.old) }
+    ensures kept { kept_of result (vec_len bytes.new) ≡ kept_of passed (vec_len bytes.old) }
     ensures removed { extra ≡ 0 → kept_of result (vec_len bytes.new) ≡ vec_len bytes.new }
 {
-    let left = bytes.len() - front;
-    if front <= left || front - left <= extra {
-        return front;
+    let left = bytes.len() - passed;
+    if passed <= left || passed - left <= extra {
+        return passed;
     }
-    bytes.copy_within(front.., 0);
+    bytes.copy_within(passed.., 0);
     bytes.truncate(left);
     0
 }

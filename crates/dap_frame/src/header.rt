@@ -1,8 +1,7 @@
 //! The header part of a frame: how far it was read, and reading on.
 
-ghost use Rattle.std.specs.Prelude.{◌≡◌, ◌≢◌, ◌+◌, ◌<◌, ◌≤◌, [], ◌∷◌, ◌++◌, List, length, drop, IfSome, IfNone, IfOk, IfErr};
+ghost use Rattle.std.specs.Prelude.{◌≡◌, ◌≢◌, ◌+◌, ◌<◌, ◌≤◌, [], ◌∷◌, ◌++◌, List, length, IfSome, IfNone, IfOk, IfErr};
 ghost use Rattle.dap_frame.specs.Header.{Field, IsField, LineFault, FaultAt, field_text};
-ghost use Rattle.dap_frame.specs.Frame.{IsOpen, IsFrameInFront};
 ghost use Rattle.dap_frame.specs.Progress.{EndsAt, HasNoEnd, IsScanned, IsRead, IsReadOut, Names};
 
 use crate::fault::FramingFault;
@@ -53,25 +52,6 @@ pub fn read_on(rest: &[u8], header: Header) -> Result<Header, FramingFault>
     match header {
         Header::Open(scan) => scan_lines(rest, scan),
         Header::Whole { .. } => Ok(header),
-    }
-}
-
-/// Returns the content of the frame at the front, and how many bytes the frame takes; `None` where it isn't complete.
-pub fn content_of(rest: &[u8], header: Header) -> Option<(&[u8], usize)>
-    requires { IsReadOut header rest.now }
-    ensures found { IfSome result (λ frame. (frame.1 ≤ length rest.now)
-        × IsFrameInFront rest.now frame.0.now (drop frame.1 rest.now)) }
-    ensures none { IfNone result (IsOpen rest.now) }
-{
-    match header {
-        Header::Open(_) => None,
-        Header::Whole { size, content_len } => {
-            let end = size + content_len;
-            if rest.len() < end {
-                return None;
-            }
-            Some((&rest[size..end], end))
-        }
     }
 }
 

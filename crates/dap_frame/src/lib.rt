@@ -26,10 +26,12 @@ mod decoder;
 mod encoding;
 mod fault;
 mod field;
+mod front;
 mod header;
 mod laws;
 
 pub use decoder::Decoder;
 pub use encoding::encode;
 pub use fault::FramingFault;
+pub use front::Front;
 pub use laws::frame_laws;

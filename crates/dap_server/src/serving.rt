@@ -20,7 +20,7 @@ use crate::reading::{command_of, is_request, seq_of};
 use crate::reply::Event;
 use crate::responder::Responder;
 use byte_streams::{Sink, Source, WriteFailed, write_all};
-use dap_frame::{Decoder, frame_laws};
+use dap_frame::Decoder;
 use serde_json::Value;
 use std::alloc::{AllocError, Global};
 use std::sync::Wait;
@@ -143,15 +143,14 @@ fn answer_all<R: Responder, O: Sink>(
         responder.new (O.written output.old) (O.written output.new)) }
     ensures failed { IfErr result (λ fault. HasFailed fault (O.failures output.old) (O.failures output.new)) }
 {
-    frame_laws();
     for _ in rt.forever() {
-        match decoder.has_frame() {
-            Ok(true) => {}
-            Ok(false) => return Ok(Client::Stays),
+        let front = match decoder.front() {
+            Ok(Some(front)) => front,
+            Ok(None) => return Ok(Client::Stays),
             Err(fault) => return Err(ServeFault::Framing(fault)),
-        }
-        let outcome = answer(rt, alloc, decoder.content(), responder, next, output);
-        decoder.pass();
+        };
+        let outcome = answer(rt, alloc, decoder.content(front), responder, next, output);
+        decoder.pass(front);
         let client = match outcome {
             Ok(client) => client,
             Err(fault) => return Err(fault),

@@ -2,7 +2,7 @@
 
 use super::Session;
 use crate::ports::{Orders, Out};
-use dap_frame::frame_laws;
+use dap_frame::Front;
 use dap_history::{SessionFault, reading_laws};
 use dap_msg::{Request, message_laws, read_counting_from};
 use dap_phase::Phase;
@@ -10,7 +10,7 @@ use dap_replies::phase_laws;
 
 impl Session {
     ghost use Rattle.std.specs.Prelude.{◌≡◌, ◌<◌, length, Option, None, OnOk, IfOk, IfErr, IfSome, is_some};
-    ghost use Rattle.dap_frame.specs.Frame.{HasFrame};
+    ghost use Rattle.dap_frame.specs.Frame.{IsFront};
     ghost use Rattle.dap_msg.specs.Laws.{IsWithin};
     ghost use Rattle.dap_history.specs.declared.fault.SessionFault.TheVariants.{NoMemory};
     ghost use Rattle.dap_history.specs.History.{History};
@@ -70,20 +70,20 @@ impl Session {
     {
         reading_laws();
         while self.ending.is_none() && !self.waits() {
-            match self.decoder.has_frame() {
-                Ok(true) => {}
-                Ok(false) => return Ok(()),
+            let front = match self.decoder.front() {
+                Ok(Some(front)) => front,
+                Ok(None) => return Ok(()),
                 Err(fault) => return Err(SessionFault::Frame(fault)),
-            }
-            let request = self.read_front()?;
+            };
+            let request = self.read_front(front)?;
             self.take_content(request, out, orders)?;
         }
         Ok(())
     }
 
     /// Reads the content in front where it stands, and passes it. It is `None` where it is no request.
-    fn read_front(&mut self) -> Result<Option<Request>, SessionFault>
-        requires { HasFrame self.old.stream.rest }
+    fn read_front(&mut self, front: Front) -> Result<Option<Request>, SessionFault>
+        requires { IsFront front self.old.stream.rest }
         ensures ok { IfOk result (λ request.
             IsInFront self.old.stream.first self.old.stream.rest request self.new.stream.rest) }
         ensures fits { IfOk result (λ request. IfSome request (λ r. IsWithin r.body)) }
@@ -91,10 +91,9 @@ impl Session {
         ensures shorter { length self.new.stream.rest < length self.old.stream.rest }
         ensures rest { self.new ≡ record self.old { stream = record self.old.stream { rest = self.new.stream.rest } } }
     {
-        frame_laws();
         message_laws();
-        let read = read_counting_from(self.alloc, self.first, self.decoder.content());
-        self.decoder.pass();
+        let read = read_counting_from(self.alloc, self.first, self.decoder.content(front));
+        self.decoder.pass(front);
         let Ok(request) = read else {
             return Err(SessionFault::NoMemory);
         };

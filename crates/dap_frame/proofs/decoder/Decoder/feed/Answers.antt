@@ -7,13 +7,13 @@ pub returns-clause-stream : goal.returns-clause-stream
 returns-clause-stream c = λ stream contents before.
     let kept = c.compact-self-inside.ensures in
     let piece = c.args.piece.now in
-    let front = c.compact-self-inside.result in
+    let passed = c.compact-self-inside.result in
     let bytes = c.compact-self-inside.new.bytes.items in
     let taken : c.extend_from_slice.new.self.items ≡ bytes ++ piece =
     c.in_ok-extend_from_slice.ensures.items ∙ ap (λ b. b ++ piece) c.reserve.ensures.items in
-    let rest : c.args.self.now.rest ++ piece ≡ drop front c.extend_from_slice.new.self.items =
+    let rest : c.args.self.now.rest ++ piece ≡ drop passed c.extend_from_slice.new.self.items =
     ap (λ r. r ++ piece) (sym (ap (λ s. s.rest) c.self.view_is) ∙ sym kept.rest)
-    ∙ sym (drop-append-le front bytes piece kept.there) ∙ ap (drop front) (sym taken) in
+    ∙ sym (drop-append-le passed bytes piece kept.there) ∙ ap (drop passed) (sym taken) in
     subst (Frames (stream ++ piece) contents) rest (frames_longer stream c.args.self.now.rest piece contents before)
 
 pub returns-clause-room : goal.returns-clause-room

@@ -7,5 +7,5 @@ returns-clause-room c =
     let before = ap (λ s. s.room) c.self.view_is in
     let capacity = c.compact-self-inside.ensures.capacity in
     let kept = c.compact-self-inside.ensures.kept in
-    let less = kept_passed c.self.inside.front c.front_frame-size.result.1 (vec_len c.self.inside.bytes) in
+    let less = kept_passed c.self.inside.passed c.args.front.end (vec_len c.self.inside.bytes) in
     omega (arith, before, capacity, kept, less)

@@ -5,8 +5,5 @@ use Rattle.dap_session.proofs.session.Session.read_front.Goals as goal
 
 pub returns-clause-ok : goal.returns-clause-ok
 returns-clause-ok c =
-    let read = c.content.ensures in
-    let passed = c.pass.ensures.frame in
     subst (λ s. IsInFront s.stream.first s.stream.rest c.in-Ok.request c.pass.new.self.rest) c.self.view_is
-    (front_read c.frame_laws.ensures.frames _ _ c.content.result.now passed.0 read.0 _ c.in-Ok.request read.1 passed.1
-    c.in-Ok.ensures.ok)
+    (front_read _ _ c.content.result.now _ _ c.in-Ok.request c.content.ensures c.pass.ensures.frame c.in-Ok.ensures.ok)
