@@ -22,5 +22,3 @@ pub mod Running
 -- What private contracts cite.
 -- What the session's thread leaves when it ends.
 pub mod Jobs
--- What is known of the queues before anything went through them.
-pub mod Wires

@@ -18,12 +18,11 @@ ghost use Rattle.adapter.specs.Jobs.{SessionLeaves};
 
 use crate::gates::{Gated, OpenGate};
 use crate::tasks::{LastTask, Task};
-use crate::wires::Wires;
 use byte_streams::{Sink, Source, WriteFailed};
 use dap_session::{Closed, FirstSeq, Loader, Order, Orders, SessionFault, drive_counting_from};
 use dap_wires::{
-    ClientSender, EndedSender, EventReceiver, FrameReceiver, FrameSender, InboxLog, OrderReceiver,
-    OrderSender, OutboxLog, ReadEnd, ReportSender, read_loop, write_loop,
+    ClientSender, EventReceiver, FrameReceiver, FrameSender, OrderReceiver, OrderSender, OutboxLog,
+    ReadEnd, ReportSender, SessionEnds, Wires, read_loop, write_loop,
 };
 use dbg_runner::{Gate, Joined, work};
 use std::alloc::Global;
@@ -223,14 +222,6 @@ impl<'a, L, R: Wait + Drop> SessionTask<'a, L, R> {
             orders,
         }
     }
-}
-
-/// The ends of a session that is over.
-#[derive(Drop)]
-pub struct SessionEnds<R: Wait + Drop> {
-    pub inbox: InboxLog,
-    pub outbox: EndedSender<R>,
-    pub orders: OrderSender<R>,
 }
 
 impl<'a, L: Loader, R: Wait + Drop> Task for SessionTask<'a, L, R> {

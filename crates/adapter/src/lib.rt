@@ -23,7 +23,6 @@ mod reporting;
 mod serving;
 mod tasks;
 mod telling;
-mod wires;
 
 pub use byte_streams::{IoFault, ReadFault, Reading, Sink, Source, Writing, read_beginning};
 pub use checking::{CheckFault, check};

@@ -3,14 +3,14 @@
 
 ghost use Rattle.std.specs.Prelude.{◌≡◌};
 ghost use Rattle.adapter.specs.Serving.{streams, world, outcome_of, IsServed};
-ghost use Rattle.adapter.specs.Wires.{AreUnused, AreJoined};
+ghost use Rattle.dap_wires.specs.Wires.{AreUnused, AreJoined};
 
 use crate::jobs::tasks_over;
 use crate::tasks::run_beside;
 use crate::telling::{EndListener, ListenerWitness, NoListener, tell};
-use crate::wires::{Wires, make_wires, reconcile};
 use byte_streams::{Sink, Source, WriteFailed};
 use dap_session::{Closed, FirstSeq, Loader, SessionFault};
+use dap_wires::{Wires, reconcile};
 use dbg_runner::Gate;
 use std::alloc::{AllocError, Global};
 use std::sync::Wait;
@@ -114,7 +114,7 @@ where
         (streams (I.left input.new) (I.failures input.new) (O.written output.new) (O.failures output.new))) }
     ensures told { E.tells listener.old listener.new result }
 {
-    match make_wires(*rt, alloc) {
+    match Wires::new(*rt, alloc) {
         Ok(wires) => serve_over(
             rt, alloc, first, wires, input, output, loader, gate, listener,
         ),
@@ -153,15 +153,9 @@ where
     let (writer, runner, reader, session) = tasks_over(
         *rt, alloc, first, wires, input, output, loader, gate,
     );
+    let witness = ListenerWitness::new(listener);
     // The reader is started last, since nothing can wake it from a read.
-    let done = run_beside(
-        rt,
-        writer,
-        runner,
-        reader,
-        session,
-        ListenerWitness::new(listener),
-    );
+    let done = run_beside(rt, writer, runner, reader, session, witness);
     match done {
         Ok(
             (

@@ -3,12 +3,11 @@
 ghost use Rattle.std.specs.Prelude.{◌≡◌};
 ghost use Rattle.adapter.specs.Serving.{outcome_of};
 
-use crate::jobs::SessionEnds;
 use crate::serving::{ServeFault, Served, outcome};
 use crate::tasks::Witness;
 use byte_streams::WriteFailed;
 use dap_session::{Closed, SessionFault};
-use dap_wires::OutboxLog;
+use dap_wires::{OutboxLog, SessionEnds};
 use std::sync::Wait;
 
 /// Is told how serving ended.

@@ -21,3 +21,5 @@ pub mod Orders
 pub mod Reading
 -- What a writer has taken and written when it ends.
 pub mod Writing
+-- What is known of all queues before anything went through them.
+pub mod Wires

@@ -1,5 +1,5 @@
 -- Defines what is known of all queues between the threads before anything went through them.
-use Rattle.std.specs.Prelude.{◌≡◌, [], ℕ}
+use Rattle.std.specs.Prelude.{◌≡◌, []}
 use Rattle.dap_wires.specs.Inbox.{client_events, client_queue, sent_reports, refused_reports, report_queue, taken_events, event_queue}
 use Rattle.dap_wires.specs.Orders.{pushed_orders, push_queue, taken_orders, pop_queue}
 use Rattle.dap_wires.specs.Outbox.{put_frames, frame_queue, messages_taken, writer_queue}

@@ -3,13 +3,14 @@
 //!
 //! The one contract is the rule of the queues (`specs/Delivery`): what was taken and then what is inside is, of each
 //! sender, what it put, in its order, each once. [`inbox`], [`outbox`] and [`orders`] make a queue each, whose ends
-//! implement the ports of [`dap_session`] and [`dbg_runner`]. [`reconcile_inbox`], [`reconcile_outbox`] and
-//! [`reconcile_orders`] bring the logs of all ends together when all threads were joined, and prove that what was received
-//! is a prefix of what was sent. Quiet reports, for which a client gets no message, cross an inbox several at once, and the
-//! session receives them one by one. At most 512 numbers and logs are on their way, unless one report has more: so a client
-//! gets at most these, and those of one more slice, between the answer to a pause and the stop. [`read_loop`] and
-//! [`write_loop`] stand between a queue and a source or a sink of [`byte_streams`]: the one sends what it read, and the
-//! other writes what it took. Each queue and each loop can be used without the others.
+//! implement the ports of [`dap_session`] and [`dbg_runner`]; [`Wires`] has all of them. [`reconcile_inbox`],
+//! [`reconcile_outbox`] and [`reconcile_orders`], and [`reconcile`] for all three, bring the logs of all ends together
+//! when all threads were joined, and prove that what was received is a prefix of what was sent. Quiet reports, for which
+//! a client gets no message, cross an inbox several at once, and the session receives them one by one. At most 512
+//! numbers and logs are on their way, unless one report has more: so a client gets at most these, and those of one more
+//! slice, between the answer to a pause and the stop. [`read_loop`] and [`write_loop`] stand between a queue and a source
+//! or a sink of [`byte_streams`]: the one sends what it read, and the other writes what it took. Each queue and each loop
+//! can be used without the others.
 #![tactic(auto)]
 
 mod arrival;
@@ -28,6 +29,7 @@ mod reading;
 mod rule;
 mod transfer;
 mod window;
+mod wires;
 mod writer_message;
 mod writing;
 
@@ -41,5 +43,6 @@ pub use frames::{outbox, reconcile_outbox};
 pub use order_ends::{OrderReceiver, OrderSender};
 pub use order_queue::{orders, reconcile_orders};
 pub use reading::{ReadEnd, read_loop};
+pub use wires::{SessionEnds, Wires, reconcile};
 pub use writer_message::WriterMessage;
 pub use writing::write_loop;
