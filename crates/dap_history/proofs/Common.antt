@@ -5,7 +5,7 @@ pub use Rattle.dap_history.specs.Breakpoints.{AreAskedAs, IsAskedAs, IsResolved,
 pub use Rattle.dap_history.specs.Considered.{all_runs, before_start, end_in, run_end, run_texts, starts_by}
 pub use Rattle.dap_history.specs.Emission.{Answers, Causes, HasEffect, IsAfter, RepliesIn}
 pub use Rattle.dap_history.specs.Events.{AreLawful, File, Incoming, IsHistoryOf, IsInFront, IsTaking, LeadsByEvent, LeadsByEvents, LeadsByFile, LeadsByPiece, LeadsByReport, Loads, MayTake, NoMemory, Piece, ReadFailed, Report, Rest, Takes, closed, faulty, one_more, only_bytes, open_ended, waits}
-pub use Rattle.dap_history.specs.Frames.{Counting, at_most, frame_by_id, frame_name, scopes_from, shown_column, shown_frame, shown_frames, shown_line}
+pub use Rattle.dap_history.specs.Frames.{Counting, at_most, frame_by_id, scopes_from, shown_column, shown_frame, shown_frames, shown_line}
 pub use Rattle.dap_history.specs.GoingBack.{back_by, back_in, back_of, held_by}
 pub use Rattle.dap_history.specs.History.{Accepted, Content, Effect, Fault, History, InputEnd, Item, Launched, Loaded, MemoryFailure, ReadFailure, Step, messages, messages_of, orders_of, with_answer}
 pub use Rattle.dap_history.specs.Initialized.{less_by}
@@ -70,6 +70,7 @@ pub use Rattle.pl0_meaning.specs.Runs.{at, frame_limit, written}
 pub use Rattle.pl0_meaning.specs.Values.{Configuration, Frame, next_step, value}
 pub use Rattle.pl0_meaning.specs.declared.RunFault.{RunFault}
 pub use Rattle.pl0_syntax.specs.Laws.{AtMostOne}
+pub use Rattle.pl0_tree.specs.Blocks.{frame_name}
 pub use Rattle.pl0_tree.specs.Faults.{IsTreeOf}
 pub use Rattle.pl0_tree.specs.Scope.{Path}
 pub use Rattle.pl0_tree.specs.Steps.{StepAt, steps}

@@ -1,5 +1,5 @@
 -- What several lemma files import, from the libraries and from the definitions.
-pub use Rattle.dap_history.specs.Frames.{Counting, frame_by_id, frame_name, scopes_from}
+pub use Rattle.dap_history.specs.Frames.{Counting, frame_by_id, scopes_from}
 pub use Rattle.dap_history.specs.Inspection.{Subject}
 pub use Rattle.dap_inspection.specs.Alive.{IsAlive}
 pub use Rattle.dap_inspection.specs.Showing.{IsShownAs}
@@ -10,6 +10,7 @@ pub use Rattle.pl0_machine.specs.declared.outcome.FrameView.{FrameView}
 pub use Rattle.pl0_meaning.specs.Frames.{AreLinked}
 pub use Rattle.pl0_meaning.specs.Linking.{frame_at-below, frame_at-top, frame_within}
 pub use Rattle.pl0_meaning.specs.Values.{Configuration, Frame, frame_at}
+pub use Rattle.pl0_tree.specs.Blocks.{frame_name}
 pub use Rattle.pl0_tree.specs.Scope.{Path}
 pub use Rattle.pl0_tree.specs.Steps.{StepAt, blocks, steps}
 pub use Rattle.pl0_tree.specs.Tree.{Block}

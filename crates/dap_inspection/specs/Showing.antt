@@ -4,9 +4,10 @@ use Rattle.dap_msg.specs.declared.outgoing.StackFrame.{StackFrame}
 use Rattle.dap_msg.specs.declared.outgoing.Scope.{Scope}
 use Rattle.dap_msg.specs.declared.requests.initialize.InitializeArguments.{InitializeArguments}
 use Rattle.pl0_tree.specs.Tree.{Block}
+use Rattle.pl0_tree.specs.Blocks.{frame_name}
 use Rattle.pl0_meaning.specs.Values.{Frame}
 use Rattle.dap_history.specs.Breakpoints.{offset}
-use Rattle.dap_history.specs.Frames.{Counting, shown_frame, frame_name}
+use Rattle.dap_history.specs.Frames.{Counting, shown_frame}
 
 -- how a client with these settings counts
 abbrev pub counting_of : InitializeArguments → Counting

@@ -2,12 +2,11 @@
 
 ghost use Rattle.std.specs.Prelude.{◌≡◌, IfOk, IsSome, Some, slice_get};
 ghost use Rattle.pl0_tree.specs.Scope.{Path};
+ghost use Rattle.pl0_tree.specs.Blocks.{frame_name};
 ghost use Rattle.pl0_tree.specs.Steps.{blocks};
 ghost use Rattle.pl0_machine.specs.Machine.{program_of};
-ghost use Rattle.dap_history.specs.Frames.{frame_name};
 
 use dap_msg::Text;
-use pl0_syntax::block_name;
 use pl0_unit::Unit;
 use std::alloc::{AllocError, Global};
 
@@ -21,8 +20,6 @@ pub(crate) fn frame_name(alloc: Global, unit: &Unit, block: u32) -> Result<Text,
     ensures { IfOk result (λ name. (q : Path) → slice_get (blocks (program_of unit.now)) block ≡ Some q →
         name ≡ frame_name (program_of unit.now) q) }
 {
-    match block_name(&unit.tree.program, &unit.nestings, block) {
-        Some(name) => Text::copied(alloc, name.text.as_str()),
-        None => Text::copied(alloc, "main"),
-    }
+    let name = pl0_syntax::frame_name(&unit.tree.program, &unit.nestings, block);
+    Text::copied(alloc, name)
 }

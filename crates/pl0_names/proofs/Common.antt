@@ -30,5 +30,5 @@ pub use Rattle.std.proofs.lemmas.List.{drop_all, drop_more, get_or_append_left, 
 pub use Rattle.std.proofs.lemmas.Option.{none-some, same_Some, slice_get-get_or, slice_get-map, slice_get_read, slice_get_within, some_pair_parts}
 pub use Rattle.std.proofs.lemmas.Slice.Eq.{bytes_eq-Decides}
 pub use Rattle.std.specs.Option.{option_map_or, option_or}
-pub use Rattle.std.specs.Prelude.{Box, find, IfErr, is_some, IsOk, IsSome, MatchOption, nat_eq, nat_lt, None, OnErr, OnOk, Option, option_and_then, option_map, position, slice_get, Some, string_bytes, Vec, ◌&&◌}
+pub use Rattle.std.specs.Prelude.{Box, find, IfErr, is_some, IsOk, IsSome, nat_eq, nat_lt, None, OnErr, OnOk, Option, option_and_then, option_map, position, slice_get, Some, string_bytes, Vec, ◌&&◌}
 pub use Rattle.std.specs.Str.{bytes_eq}

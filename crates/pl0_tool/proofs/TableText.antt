@@ -12,10 +12,10 @@ use Rattle.pl0_tree.specs.PlainParts.{plain_block_parts}
 use Rattle.pl0_tree.specs.declared.tree.Name.{Name as DeclaredName}
 use Rattle.pl0_tree.specs.declared.tree.Block.{Block as DeclaredBlock, out-Block}
 use Rattle.pl0_tree.specs.Scope.{Path, block_at}
+use Rattle.pl0_tree.specs.Blocks.{frame_name}
 use Rattle.pl0_tree.specs.Steps.{blocks}
 use Rattle.pl0_unit.specs.declared.unit.Unit.{Unit as Compiled}
 use Rattle.pl0_machine.specs.Machine.{program_of}
-use Rattle.pl0_tool.specs.Faulting.{frame_name}
 use Rattle.pl0_tool.specs.Table.{barred, frame_text, frame_line, frame_lines, variables_text}
 use Rattle.pl0_tool.specs.declared.drawing.FrameHead.{FrameHead}
 use Rattle.pl0_tool.specs.declared.tracing.FrameRow.{FrameRow}

@@ -3,17 +3,12 @@ use Rattle.std.specs.Prelude.{ℕ, zero, suc, ◌-◌, min, List, [], ◌++◌, 
 use Rattle.std.specs.Option.{option_map_or}
 use Rattle.pl0_tree.specs.Tree.{Block}
 use Rattle.pl0_tree.specs.declared.tree.Place.{Place}
-use Rattle.pl0_tree.specs.Scope.{Path}
-use Rattle.pl0_tree.specs.Blocks.{name_of_block}
+use Rattle.pl0_tree.specs.Blocks.{frame_name}
 use Rattle.pl0_meaning.specs.declared.RunFault.{RunFault}
 use Rattle.pl0_meaning.specs.Values.{Frame, next_step}
 use Rattle.pl0_machine.specs.Machine.{Standing, program, frame_of, depth_of}
 use Rattle.pl0_mistakes.specs.Lines.{fault_line}
 use Rattle.pl0_tool.specs.Tracing.{step_before}
-
--- the name of a block's frames
-abbrev pub frame_name : Block → Path → List ℕ
-frame_name main q = option_map_or (λ name. name.word) (name_of_block main q) (codes "main")
 
 -- the line of a fault at the step that comes next
 abbrev pub first_line : List ℕ → Standing → RunFault → List ℕ

@@ -9,6 +9,7 @@ use Rattle.pl0_tree.specs.declared.tree.Place.{Place}
 use Rattle.pl0_tree.specs.declared.step.StepKind.{StepKind}
 use Rattle.pl0_tree.specs.declared.step.StepKind.TheVariants.{Return}
 use Rattle.pl0_tree.specs.Scope.{block_at}
+use Rattle.pl0_tree.specs.Blocks.{frame_name}
 use Rattle.pl0_tree.specs.Steps.{blocks}
 use Rattle.pl0_unit.specs.declared.unit.Unit.{Unit as Compiled}
 use Rattle.pl0_machine.specs.Machine.{program_of}
@@ -16,7 +17,6 @@ use Rattle.pl0_machine.specs.declared.outcome.StepOutcome.{StepOutcome}
 use Rattle.pl0_machine.specs.declared.outcome.StepOutcome.TheVariants.{Went}
 use Rattle.pl0_tool.specs.Columns.{column, left, right}
 use Rattle.pl0_tool.specs.TextLines.{line_feed, text_lines}
-use Rattle.pl0_tool.specs.Faulting.{frame_name}
 use Rattle.pl0_tool.specs.declared.drawing.FrameHead.{FrameHead}
 use Rattle.pl0_tool.specs.declared.drawing.Drawing.{Drawing}
 use Rattle.pl0_tool.specs.declared.tracing.FrameRow.{FrameRow}

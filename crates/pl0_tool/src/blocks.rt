@@ -2,11 +2,10 @@
 
 ghost use Rattle.std.specs.Prelude.{◌≡◌, ◌<◌, length, slice_get, Some};
 ghost use Rattle.pl0_tree.specs.Scope.{Path};
+ghost use Rattle.pl0_tree.specs.Blocks.{frame_name};
 ghost use Rattle.pl0_tree.specs.Steps.{blocks};
 ghost use Rattle.pl0_machine.specs.Machine.{program_of};
-ghost use Rattle.pl0_tool.specs.Faulting.{frame_name};
 
-use pl0_syntax::block_name;
 use pl0_unit::Unit;
 
 /// Returns the name of the frames of the block with this number: the procedure's, or `main` for the main block's.
@@ -15,8 +14,5 @@ pub fn frame_name(unit: &Unit, number: u32) -> &str
     ensures { (q : Path) → slice_get (blocks (program_of unit.now)) number ≡ Some q
         → result.now ≡ frame_name (program_of unit.now) q }
 {
-    match block_name(&unit.tree.program, &unit.nestings, number) {
-        Some(name) => name.text.as_str(),
-        None => "main",
-    }
+    pl0_syntax::frame_name(&unit.tree.program, &unit.nestings, number)
 }

@@ -3,7 +3,7 @@
 use crate::machines::{machine_of, number, step_of};
 use pl0_machine::{Machine, StepOutcome};
 use pl0_parser::tokenize;
-use pl0_syntax::{Place, Step, SyntaxFault, Tree, block_name, blocks, parse, steps};
+use pl0_syntax::{Place, Step, SyntaxFault, Tree, blocks, frame_name, parse, steps};
 use pl0_tree::Token;
 use pl0_unit::Instruction;
 use sample_programs::compiled;
@@ -75,10 +75,7 @@ pub fn write_fault(rt: &impl Abort, out: &mut String, fault: Option<SyntaxFault>
 fn write_step(rt: &impl Abort, alloc: Global, out: &mut String, tree: &Tree, step: Step) {
     let table = blocks(alloc, tree).expect(rt, "memory");
     assert!(rt; (step.block as usize) < table.len());
-    let block = match block_name(&tree.program, &table, step.block) {
-        Some(name) => name.text.as_str(),
-        None => "main",
-    };
+    let block = frame_name(&tree.program, &table, step.block);
     let kind = step.kind;
     let Place { line, column } = step.place;
     write!(out, "{block} {kind:?} {line}:{column}, ").expect(rt, "memory");
