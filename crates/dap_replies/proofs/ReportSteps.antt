@@ -13,7 +13,6 @@ use Rattle.dap_msg.specs.declared.outgoing.StopReason.TheVariants as stop
 use Rattle.dbg_plan.specs.Breakpoints.{Breakpoint}
 use Rattle.dbg_plan.specs.Debugged.{Debugged}
 use Rattle.dbg_plan.specs.Trail.{Trail}
-use Rattle.dbg_runner.specs.declared.outcome.SliceOutcome.TheVariants as slice
 use Rattle.dbg_plan.specs.declared.mode.Mode.{Mode}
 use Rattle.dbg_runner.specs.Plain.{Heading, PlainReport, Go, goes_back, back_if}
 use Rattle.dbg_runner.specs.Reported.{Reported, text_of, plain_report, heading, counts_from, stopped, trail_in}

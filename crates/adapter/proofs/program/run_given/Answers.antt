@@ -1,4 +1,4 @@
-use Rattle.std.proofs.Common.{[], refl, inl, inr, rules}
+use Rattle.std.proofs.Common.{[], refl, inr}
 use Rattle.adapter.proofs.program.run_given.Goals as goal
 
 pub returns-in_default : goal.returns-in_default
