@@ -310,6 +310,8 @@ def main() -> int:
     files = [file for file in TOP.rglob("*") if file.is_file() and not {"out", ".git", "__pycache__"} & set(file.parts)]
     found = [one for page in pages() for one in (*wrong(page, files), *misplaced(page, files))]
     found += [*wrong_laws(), *long_logic(), *long_functions(), *long_contracts(), *wrong_versions(), *wrong_model()]
+    for (file, name), why in LONG_FUNCTIONS.items():
+        print(f"{file}: {name} is longer than 40 lines: {why}")
     print("\n".join(found) or f"{len(pages())} pages: all files, headings and functions that they name are there; "
           f"no line is too long, and no function but {len(LONG_FUNCTIONS)} with a reason")
     return 1 if found else 0
