@@ -1,9 +1,8 @@
 -- Defines what a full queue of orders tells of the whole run.
 use Rattle.std.specs.Prelude.{◌≤◌, List, length}
 use Rattle.dbg_runner.specs.Plain.{PlainOrder}
-use Rattle.dap_wires.specs.declared.order_queue.TheConstants.{ORDERS_CAPACITY}
 
 -- At least four orders were pushed, as many as the queue has room for. A Quit that was pushed after the queue was full
 -- counts too, and some of them may have been taken meanwhile.
 abbrev pub FourWerePushed : List PlainOrder → Type 0
-FourWerePushed pushed = ORDERS_CAPACITY ≤ length pushed
+FourWerePushed pushed = 4 ≤ length pushed

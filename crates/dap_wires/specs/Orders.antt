@@ -6,7 +6,6 @@ use Rattle.dbg_runner.specs.declared.order.Order.{Order}
 use Rattle.dbg_runner.specs.Orders.{plain_order}
 use Rattle.dbg_runner.specs.Plain.{PlainOrder}
 use Rattle.dap_session.specs.Ports.{PushedOrders}
-use Rattle.dap_wires.specs.declared.order_queue.TheConstants.{ORDERS_CAPACITY}
 use Rattle.dap_wires.specs.declared.order_ends.OrderSender.{OrderSender}
 use Rattle.dap_wires.specs.declared.order_ends.OrderReceiver.{OrderReceiver}
 pub use Rattle.dap_wires.specs.Full.{FourWerePushed}
@@ -17,12 +16,12 @@ module _ {R : Type 0} where
   pushed_orders e =
       record { orders = map plain_order (view e.pass).put_first; fulls = length e.fulls.entries; refusals = 0 }
 
-  -- as many orders that were pushed were inside together as the queue has room for
+  -- four orders that were pushed, as many as the queue has room for, were inside together
   pub record WasFull (e : OrderSender R) : Type 0 where
     pub taken : List Order
     pub inside : List Order
     pub pushed_are : (view e.pass).put_first ≡ taken ++ inside
-    pub full : length inside ≡ ORDERS_CAPACITY
+    pub full : length inside ≡ 4
 
   -- the orders that the runner took
   abbrev pub taken_orders : OrderReceiver R → List PlainOrder
