@@ -3,11 +3,11 @@
 
 usage: gate_watch.py [COMMAND..]
 
-Runs `rt ci --anew`, or COMMAND, and looks once a second at the processes below it. At its end it prints a row for each
-crate, the processor seconds of the prover and the compilers that worked for it, the dearest first, then the sum, the
-wall time, and the most memory that all had together. What a process takes after the last look at it is missed. The
-status is that of the command, or 1 where that is 0 and the budget isn't kept: what is above it stands on standard
-error.
+Runs `rt ci` with nothing kept, or COMMAND, and looks once a second at the processes below it. At its end it prints a
+row for each crate, the processor seconds of the prover and the compilers that worked for it, the dearest first, then
+the sum, the wall time, and the most memory that all had together. What a process takes after the last look at it is
+missed. The status is that of the command, or 1 where that is 0 and the budget isn't kept: what is above it stands on
+standard error.
 """
 from __future__ import annotations
 
@@ -98,6 +98,12 @@ def watch(command: list[str]) -> Watched:
     return Watched(run.returncode, sums, memory)
 
 
+def gate_anew() -> list[str]:
+    """The merge gate from nothing: where the kit keeps what was proved, it is told not to use that."""
+    said = subprocess.run(["rt", "help"], capture_output=True, text=True, errors="replace")
+    return ["rt", "ci", *(["--anew"] if "--anew" in said.stdout + said.stderr else [])]
+
+
 def above_budget(seconds: dict[str, float]) -> list[str]:
     """What takes more than it may."""
     found = [f"{name} takes over {CRATE_MINUTES} minutes" for name, spent in seconds.items()
@@ -110,7 +116,7 @@ def above_budget(seconds: dict[str, float]) -> list[str]:
 
 def main() -> int:
     begin = time.monotonic()
-    watched = watch(sys.argv[1:] or ["rt", "ci", "--anew"])
+    watched = watch(sys.argv[1:] or gate_anew())
     print("| Crate | Processor seconds |\n|---|---|")
     for name, spent in sorted(watched.seconds.items(), key=lambda row: -row[1]):
         print(f"| `{name}` | {spent:,.0f} |")
