@@ -4,12 +4,13 @@
 usage: release.py [CHECK]
 
 Each check is a target of the Makefile. They are run one after the other, the short ones first, and all of them also
-where one fails; the soak, which takes an hour, is run beside those that stand before it. It says which commit, which
-kit and which computer, and refuses a tree that differs from its commit; the transcripts and pictures that `make
-editors` writes and the record of `make plants` aren't looked at. With CHECK it goes on from that check, and keeps what
-was found of those before it, which must be of the same commit and kit. A check that the Makefile doesn't have counts as
-not run. What each one printed is in out/release/. The status is 0 where every check passed, 1 where one failed, and 2
-where none did, but one was not run or not whole.
+where one fails. The soak, which takes an hour, is run beside those that stand before it. Where there are four cores,
+the merge gate has two of them from the beginning on, in a clone, and what stands before it the others; the benchmarks
+come last, alone. It says which commit, which kit and which computer, and refuses a tree that differs from its commit;
+the transcripts and pictures that `make editors` writes and the record of `make plants` aren't looked at. With CHECK it
+goes on from that check, and keeps what was found of those before it, which must be of the same commit and kit. A check
+that the Makefile doesn't have counts as not run. What each one printed is in out/release/. The status is 0 where every
+check passed, 1 where one failed, and 2 where none did, but one was not run or not whole.
 """
 from __future__ import annotations
 
@@ -18,6 +19,7 @@ import os
 import pathlib
 import platform
 import re
+import shutil
 import subprocess
 import sys
 import time
@@ -30,19 +32,22 @@ LOGS, STATE, PAGE = OUT / "release", OUT / "release.json", OUT / "release.md"
 # What `make editors` and `make plants` write.
 WRITTEN = ("docs/editors/", "docs/pictures/", "tools/plants.txt")
 PASSED, FAILED, PARTLY, MISSING = "passed", "FAILED", "not whole", "not run"
+CORES = sorted(os.sched_getaffinity(0))
+# How many cores the merge gate has, where as many are left.
+GATE_CORES = 2
 # The checks that are running, so that they can be ended.
 RUNNING: set[subprocess.Popen] = set()
 
 
 class Check(NamedTuple):
-    """A target, its variables, what it is, and whether it is one to go on with another day, and one to run beside
-    others."""
+    """A target, its variables, what it is, whether it is one to go on with another day, and with which check it begins
+    where it is run beside others."""
 
     name: str
     what: str
     variables: tuple[str, ...] = ()
     is_long: bool = False
-    is_beside: bool = False
+    beside: str = ""
     # Statuses of its last command that mean that something it needs is missing.
     partly: tuple[int, ...] = ()
 
@@ -61,11 +66,12 @@ CHECKS = [
     Check("beside", "random sessions beside the session over memory"),
     Check("sessions", "2,000 random sessions beside a plain model", ("SESSIONS=2000",), is_long=True),
     Check("refusals", "each allocation, thread, read and write refused or hindered, all programs", is_long=True),
-    Check("soak", "sessions that leave nothing over, for an hour", ("SOAK=3600",), is_long=True, is_beside=True),
-    Check("bench", "times and instructions", is_long=True),
+    Check("soak", "sessions that leave nothing over, for an hour", ("SOAK=3600",), is_long=True, beside="pages"),
     Check("plants", "planted bugs, whole", is_long=True),
-    Check("gate-times", "the merge gate from nothing, within its budget", is_long=True),
+    Check("gate-times", "the merge gate from nothing, within its budget", is_long=True, beside="test"),
+    Check("bench", "times and instructions", is_long=True),
 ]
+NAMES = [check.name for check in CHECKS]
 
 
 def output(*command: str) -> str:
@@ -89,7 +95,7 @@ def computer() -> str:
     memory = os.sysconf("SC_PAGE_SIZE") * os.sysconf("SC_PHYS_PAGES") / 2**30
     model = models[0] if models else platform.processor() or platform.machine()
     system = f"{platform.system()} {platform.release()}, Python {platform.python_version()}"
-    return f"{os.cpu_count()} of {model}, {memory:.0f} GiB, {system}"
+    return f"{len(CORES)} of {model}, {memory:.0f} GiB, {system}"
 
 
 def identity() -> dict[str, str]:
@@ -110,6 +116,28 @@ def last_line(text: str, commands: set[str]) -> str:
     return next((line for line in reversed(lines) if line), "")
 
 
+def is_shared() -> bool:
+    """Whether the merge gate has cores of its own."""
+    return len(CORES) >= 2 * GATE_CORES
+
+
+def cores_of(check: Check) -> list[int]:
+    """The cores on which a check is run."""
+    if not is_shared() or check.name == "bench":
+        return CORES
+    return CORES[:GATE_CORES] if check.name == "gate-times" else CORES[GATE_CORES:]
+
+
+def folder_of(check: Check) -> pathlib.Path:
+    """Where a check is run: the gate, which sets aside what was built, in a clone."""
+    if check.name != "gate-times":
+        return TOP
+    clone = OUT / "gate"
+    shutil.rmtree(clone, ignore_errors=True)
+    subprocess.run(["git", "clone", "--quiet", TOP, clone], check=True)
+    return clone
+
+
 def run(check: Check) -> dict[str, object]:
     """Runs a check, and returns how it went. What it prints goes to its log."""
     if not has_target(check.name):
@@ -117,9 +145,11 @@ def run(check: Check) -> dict[str, object]:
     LOGS.mkdir(parents=True, exist_ok=True)
     command = ["make", "--no-print-directory", check.name, *check.variables]
     commands = set(output(*command, "--dry-run").splitlines())
-    log, begin = LOGS / f"{check.name}.log", time.monotonic()
+    log, folder, begin = LOGS / f"{check.name}.log", folder_of(check), time.monotonic()
+    # A process has the cores of the thread that begins it.
+    os.sched_setaffinity(0, cores_of(check))
     with open(log, "w", encoding="utf-8") as file:
-        with subprocess.Popen(command, cwd=TOP, stdin=subprocess.DEVNULL, stdout=file,
+        with subprocess.Popen(command, cwd=folder, stdin=subprocess.DEVNULL, stdout=file,
                               stderr=subprocess.STDOUT) as child:
             RUNNING.add(child)
             status = child.wait()
@@ -149,7 +179,7 @@ def page(who: dict[str, str], results: dict[str, dict]) -> str:
 
 def kept(who: dict[str, str], first: str) -> dict[str, dict]:
     """What was found of the checks before the first one, by an earlier run of the same commit and kit."""
-    before = [check.name for check in CHECKS][:[check.name for check in CHECKS].index(first)]
+    before = NAMES[:NAMES.index(first)]
     state = json.loads(STATE.read_text(encoding="utf-8")) if STATE.exists() else {"who": {}, "results": {}}
     if any(state["who"].get(name) != who[name] for name in ("commit", "kit")):
         sys.exit(f"there is no earlier run of this commit and kit to go on with from {first}")
@@ -159,21 +189,22 @@ def kept(who: dict[str, str], first: str) -> dict[str, dict]:
     return {name: state["results"][name] for name in before}
 
 
-def begun_beside(pool: ThreadPoolExecutor, checks: list[Check]) -> dict[str, Future]:
-    """Begins the checks that are run beside others."""
-    return {check.name: pool.submit(run, check) for check in checks if check.is_beside}
+def begins_beside(check: Check, at: Check) -> bool:
+    """Whether a check that is run beside others begins at another one, at the latest."""
+    is_asked = check.beside and (check.name != "gate-times" or is_shared())
+    return bool(is_asked) and NAMES.index(check.beside) <= NAMES.index(at.name)
 
 
 def run_all(checks: list[Check], who: dict[str, str], results: dict[str, dict]) -> None:
-    """Runs the checks, those beside others once the programs are built, and keeps what is found of each in its turn."""
+    """Runs the checks, some beside others, and keeps what is found of each in its turn."""
     with ThreadPoolExecutor() as pool:
         beside: dict[str, Future] = {}
         for check in checks:
-            if check.name not in ("test", "build") and not beside:
-                beside = begun_beside(pool, checks)
+            begun = [one for one in checks if begins_beside(one, check) and one.name not in {*beside, *results}]
+            beside.update((one.name, pool.submit(run, one)) for one in begun)
             long = f" (long: `make release FROM={check.name}` goes on here)" if check.is_long else ""
             print(f"{check.name}: {check.what}{long}", flush=True)
-            results[check.name] = beside[check.name].result() if check.is_beside else run(check)
+            results[check.name] = beside[check.name].result() if check.name in beside else run(check)
             STATE.write_text(json.dumps({"who": who, "results": results}, indent=1), encoding="utf-8")
             PAGE.write_text(page(who, results), encoding="utf-8")
             if identity()["commit"] != who["commit"] or changed():
@@ -183,9 +214,8 @@ def run_all(checks: list[Check], who: dict[str, str], results: dict[str, dict]) 
 
 
 def main() -> int:
-    names = [check.name for check in CHECKS]
-    if len(sys.argv) > 2 or any(name not in names for name in sys.argv[1:]):
-        sys.exit(f"{__doc__}\nChecks: {', '.join(names)}")
+    if len(sys.argv) > 2 or any(name not in NAMES for name in sys.argv[1:]):
+        sys.exit(f"{__doc__}\nChecks: {', '.join(NAMES)}")
     if files := changed():
         sys.exit(f"the tree differs from its commit: {', '.join(files[:5])}{' ..' if files[5:] else ''}")
     who = identity()
@@ -194,7 +224,7 @@ def main() -> int:
                 "load": f"{os.getloadavg()[0]:.2f}"})
     OUT.mkdir(exist_ok=True)
     print("\n".join(f"{name}: {what}" for name, what in who.items()), flush=True)
-    run_all(CHECKS[names.index(sys.argv[1]) if sys.argv[1:] else 0:], who, results)
+    run_all(CHECKS[NAMES.index(sys.argv[1]) if sys.argv[1:] else 0:], who, results)
     print("\n".join(["", *(line(name, found) for name, found in results.items())]))
     found = {one["result"] for one in results.values()}
     return 1 if FAILED in found else 2 if found & {PARTLY, MISSING} else 0
