@@ -14,7 +14,7 @@ use Rattle.pl0_tree.specs.Reading.{token_at, name_at, IsAdding, plus, minus, gre
 use Rattle.pl0_meaning.specs.Values.{Configuration, next_step}
 use Rattle.pl0_meaning.specs.Runs.{at, written}
 
-abbrev line_and_column : Option StepAt → ℕ × ℕ
+abbrev pub line_and_column : Option StepAt → ℕ × ℕ
 line_and_column None = (0, 0)
 line_and_column (Some s) = (s.place.line, s.place.column)
 
@@ -41,23 +41,23 @@ row main None = []
 row main (Some []) = []
 row main (Some (f ∷ below)) = (suc (length below), line_and_column (next_step main f)) ∷ []
 
-abbrev table : Block → ℕ → ℕ → List (ℕ × (ℕ × ℕ))
+abbrev pub table : Block → ℕ → ℕ → List (ℕ × (ℕ × ℕ))
 table main n zero = []
 table main n (suc count) = row main (at main n) ++ table main (n + 1) count
 
 -- the frames' links, the newest frame's first
-abbrev links : Option Configuration → List ℕ
+abbrev pub links : Option Configuration → List ℕ
 links None = []
 links (Some c) = map (λ f. f.link) c
 
-abbrev numbers : Option Configuration → List (List ℤ)
+abbrev pub numbers : Option Configuration → List (List ℤ)
 numbers None = []
 numbers (Some c) = map (λ f. f.numbers) c
 
-abbrev place : ℕ → ℕ → Place
+abbrev pub place : ℕ → ℕ → Place
 place l c = record { line = l; column = c }
 
-abbrev called : List ℕ → ℕ → ℕ → Name
+abbrev pub called : List ℕ → ℕ → ℕ → Name
 called word l c = record { word = word; place = place l c }
 
 abbrev k : ℕ → ℕ → Name
@@ -90,16 +90,16 @@ main = ABlock [] (n 1 5 ∷ []) (AProcedure (p 2 11) outer NoMore)
     (Then (Assign (n 13 7) (Number (pos 2))) (Then (Call (place 13 15) (p 13 20)) Empty)) (place 13 25)
 
 -- a name or a number by itself is an expression
-a_name : {n : ℕ} {word : List ℕ} {p : Place} {rest : List Token} →
+pub a_name : {n : ℕ} {word : List ℕ} {p : Place} {rest : List Token} →
     ReadsExpression n (token_at (Named word) p ∷ rest) (Variable (name_at word p)) rest
 a_name = unsigned (factors name no_factor) no_term
 
-a_number : {n : ℕ} {v : ℤ} {p : Place} {rest : List Token} →
+pub a_number : {n : ℕ} {v : ℤ} {p : Place} {rest : List Token} →
     ReadsExpression n (token_at (Numeral v) p ∷ rest) (Number v) rest
 a_number = unsigned (factors number no_factor) no_term
 
 -- a name, a sign and a term
-two_terms : {n : ℕ} {word : List ℕ} {p q : Place} {m : Mark} {o : Operator} {s rest : List Token}
+pub two_terms : {n : ℕ} {word : List ℕ} {p q : Place} {m : Mark} {o : Operator} {s rest : List Token}
     {right : Expression} → IsAdding m o → ReadsTerm n s right rest →
     ReadsExpression n (token_at (Named word) p ∷ token_at (Marked m) q ∷ s)
     (Binary o (Variable (name_at word p)) right) rest
