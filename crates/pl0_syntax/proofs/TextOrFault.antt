@@ -1,13 +1,13 @@
--- No text is without both a program and a first fault.
-use Rattle.pl0_syntax.proofs.Common.{arith, Block, declarations, get_or, Home, inl, inr, IsBefore, IsFirstOf, IsLawful, IsNameFault, IsTokenFault, IsText, length, limit, List, Option, order, Path, Place, ReadsProgram, refl, Some, suc, tokens_of, Use, zero, ℕ, ◌<◌, ◌∙◌, ◌≡◌, ◌≤◌, ◌⊎◌, Allows, TooManyNames, Twice, Unknown, TooEarly, WrongKind}
+-- No text is without both a program and a first fault, nor is an editor's.
+use Rattle.pl0_syntax.proofs.Common.{AreLawfulOutside, arith, Block, condition_uses, declarations, expression_uses, IsConditionNameFault, IsExpressionNameFault, IsFirstIn, IsNameFaultOutside, IsReadAs, Reading, ReadsConditionText, ReadsExpressionText, get_or, Home, inl, inr, IsBefore, IsFirstOf, IsLawful, IsNameFault, IsTokenFault, IsText, length, limit, List, Option, order, Path, Place, ReadsProgram, refl, Some, suc, tokens_of, Use, zero, ℕ, ◌<◌, ◌∙◌, ◌≡◌, ◌≤◌, ◌⊎◌, Allows, TooManyNames, Twice, Unknown, TooEarly, WrongKind}
 use Rattle.std.specs.Prelude.{None, slice_get}
 use Rattle.std.proofs.lemmas.Option.{slice_get_cases}
 use Rattle.std.proofs.lemmas.Bool.{cases_order, cases_lt}
 use Rattle.pl0_tree.specs.declared.fault.FaultKind.{FaultKind}
-use Rattle.pl0_tree.specs.Scope.{block_at, body_uses, home, declaration_limit, Declaration, IsLawfulUse, Meaning, AConstant, AVariable, AProcedure, UseKind, IsRead, IsAssigned, IsCalled}
+use Rattle.pl0_tree.specs.Scope.{block_at, body_uses, home, declaration_limit, Declaration, IsLawfulUse, IsLawfulOutside, Meaning, AConstant, AVariable, AProcedure, UseKind, IsRead, IsAssigned, IsCalled}
 use Rattle.pl0_tree.specs.Faults.{too_long, in_tokens, in_names}
 use Rattle.pl0_parser.specs.Laws.{IsReadOrFaulty}
-use Rattle.pl0_syntax.specs.Laws.{TextsHaveOne}
+use Rattle.pl0_syntax.specs.Laws.{NotNeither, TextsHaveOne, ConditionsHaveOne, ExpressionsHaveOne}
 
 -- ---- where there are faults of names, one is the first
 
@@ -148,22 +148,56 @@ module _ (main : Block) (none : (k : FaultKind) (p : Place) → ¬ IsNameFault m
     uses = λ q b i u at is. use_lawful q b i u at is (home main q u.name.word) refl;
   }
 
--- ---- the law
+-- ---- an editor's text without a fault of names is lawful
+
+module _ (main : Block) (q : Path) (uses : List Use)
+    (none : (k : FaultKind) (p : Place) → ¬ IsNameFaultOutside main q uses k p) where
+  outside_use_lawful : (i : ℕ) (u : Use) → slice_get uses i ≡ Some u → (o : Option Home)
+      → home main q u.name.word ≡ o → IsLawfulOutside main q u
+  outside_use_lawful i u is None found =
+      absurd (none Unknown u.name.place (IsNameFaultOutside.unknown i u is found))
+  outside_use_lawful i u is (Some h) found = record {
+    at = h;
+    found = found;
+    allowed = holds (allows_or_not h.declaration.meaning u.use_kind)
+        (λ wrong. none WrongKind u.name.place (IsNameFaultOutside.wrong_kind i u h is found wrong));
+  }
+
+  outside_lawful : AreLawfulOutside main q uses
+  outside_lawful i u is = outside_use_lawful i u is (home main q u.name.word) refl
+
+-- ---- the laws
+
+module _ {T : Type 0} (Reads : Reading T) (IsWrong : T → FaultKind → Place → Type 0) (IsRight : T → Type 0)
+    (right : (t : T) → ((k : FaultKind) (p : Place) → ¬ IsWrong t k p) → IsRight t)
+    (read_or_faulty : IsReadOrFaulty Reads) where
+  has_one : (text : List ℕ) → NotNeither (IsFirstIn Reads IsWrong text) (IsReadAs Reads IsRight text)
+  has_one text (no_tree, no_fault_of) = by_length (cases_lt limit (length text))
+    where
+      by_tokens : length text ≤ limit → ((tree : T) × Reads 64 (tokens_of text) tree)
+          ⊎ ((kind : FaultKind) × (place : Place) × IsTokenFault (IsText Reads) (tokens_of text) kind place) → ⊥
+      by_tokens short (inr fault) = no_fault_of fault.0 fault.1 (in_tokens short fault.2)
+      by_tokens short (inl (tree, reads)) =
+          no_tree tree (record {
+            short = short;
+            reads = reads;
+            lawful = right tree (no_fault (IsWrong tree) (λ k p first. no_fault_of k p
+                (in_names short reads first)));
+          })
+
+      by_length : (limit < length text) ⊎ (length text ≤ limit) → ⊥
+      by_length (inl long) = no_fault_of _ _ (too_long long)
+      by_length (inr short) = by_tokens short (read_or_faulty text)
 
 pub texts_have_one : IsReadOrFaulty ReadsProgram → TextsHaveOne
-texts_have_one read_or_faulty text (no_tree, no_fault_of) = by_length (cases_lt limit (length text))
-  where
-    by_tokens : length text ≤ limit → ((main : Block) × ReadsProgram 64 (tokens_of text) main)
-        ⊎ ((kind : FaultKind) × (place : Place) × IsTokenFault (IsText ReadsProgram) (tokens_of text) kind place) → ⊥
-    by_tokens short (inr fault) = no_fault_of fault.0 fault.1 (in_tokens short fault.2)
-    by_tokens short (inl (main, reads)) =
-        no_tree main (record {
-          short = short;
-          reads = reads;
-          lawful = lawful main (no_fault (IsNameFault main) (λ k p first. no_fault_of k p
-              (in_names short reads first)));
-        })
+texts_have_one = has_one ReadsProgram IsNameFault IsLawful lawful
 
-    by_length : (limit < length text) ⊎ (length text ≤ limit) → ⊥
-    by_length (inl long) = no_fault_of _ _ (too_long long)
-    by_length (inr short) = by_tokens short (read_or_faulty text)
+pub conditions_have_one : IsReadOrFaulty ReadsConditionText → ConditionsHaveOne
+conditions_have_one read_or_faulty main q =
+    has_one ReadsConditionText (IsConditionNameFault main q) (λ c. AreLawfulOutside main q (condition_uses c))
+    (λ c. outside_lawful main q (condition_uses c)) read_or_faulty
+
+pub expressions_have_one : IsReadOrFaulty ReadsExpressionText → ExpressionsHaveOne
+expressions_have_one read_or_faulty main q =
+    has_one ReadsExpressionText (IsExpressionNameFault main q) (λ e. AreLawfulOutside main q (expression_uses e))
+    (λ e. outside_lawful main q (expression_uses e)) read_or_faulty
