@@ -80,7 +80,7 @@ const MISTAKES: [(&str, &str); 18] = [
 ];
 
 /// What is said beside a token that can't stand where it does, and where nothing is.
-const HINTS: [(&str, &str); 65] = [
+const HINTS: [(&str, &str); 69] = [
     (
         "begin ! (1) x := 2 end.",
         "a.pl0:1:13: error: `x` can't stand here; perhaps a `;` is missing before it\n",
@@ -226,7 +226,23 @@ const HINTS: [(&str, &str); 65] = [
         "! (* one *) 1.",
         "a.pl0:1:4: error: `*` can't stand here; PL/0 has no comments\n",
     ),
-    ("! 1; // one", "a.pl0:1:4: error: `;` can't stand here\n"),
+    (
+        "! 1; // one",
+        "a.pl0:1:4: error: `;` can't stand here; several statements stand between `begin` and `end`\n",
+    ),
+    (
+        "procedure p; ! 1; ! 2; ! 3.",
+        "a.pl0:1:22: error: `;` can't stand here; several statements stand between `begin` and `end`\n",
+    ),
+    (
+        "! 1;\n",
+        "a.pl0:1:4: error: `;` can't stand here; a `.` ends the program\n",
+    ),
+    ("! (1; 2).", "a.pl0:1:5: error: `;` can't stand here\n"),
+    (
+        "if not 1 = 1 then.",
+        "a.pl0:1:8: error: `1` can't stand here; PL/0 has no keyword `not`\n",
+    ),
     (
         "begin ! 1; // one",
         "a.pl0:1:12: error: `/` can't stand here; PL/0 has no comments\n",

@@ -109,9 +109,14 @@ has_parameters s =
 abbrev pub has_fraction : Scene → Bool
 has_fraction s = bytes_eq s.found (codes ".") && (is_number s.before && is_number s.next)
 
--- a semicolon after the program's last `end`
+-- a semicolon after the program's statement: after its last `end`, or where the text ends with it
 abbrev pub is_final : Scene → Bool
-is_final s = bytes_eq s.found (codes ";") && bytes_eq s.before (codes "end")
+is_final s =
+    bytes_eq s.found (codes ";") && (bytes_eq s.before (codes "end") || (length s.next == 0 && ends_statement s))
+
+-- a semicolon after a statement that isn't between `begin` and `end`
+abbrev pub lacks_begin : Scene → Bool
+lacks_begin s = bytes_eq s.found (codes ";") && ends_statement s
 
 -- a period where a statement may end, and a `begin` has no `end`
 abbrev pub lacks_end : Scene → Bool
@@ -137,10 +142,10 @@ lacks_semicolon s = begins_part s && ends_part s
 abbrev pub lacks_call : Scene → Bool
 lacks_call s = is_target s && one_of s.found (codes ";" ∷ codes "end" ∷ codes "." ∷ [])
 
--- a word that other languages have in this place
+-- a word that other languages have in this place; `not` is read as a name there, and what comes after it is refused
 abbrev pub is_foreign : List ℕ → Bool
 is_foreign token =
-    one_of token (codes "and" ∷ codes "or" ∷ codes "not" ∷ codes "mod" ∷ codes "else" ∷ codes "until" ∷ [])
+    one_of token (codes "and" ∷ codes "or" ∷ codes "mod" ∷ codes "else" ∷ codes "until" ∷ [])
 
 -- a statement by which other languages write, or read
 abbrev pub is_writing : Scene → Bool
@@ -168,23 +173,25 @@ is_compared s = is_comparison s.found && one_of s.opener (codes ":=" ∷ codes "
 abbrev pub other_hint : Scene → List ℕ
 other_hint s =
     if is_foreign s.found then codes "; PL/0 has no keyword " ++ quoted s.found []
+    else (if bytes_eq s.before (codes "not") then codes "; PL/0 has no keyword " ++ quoted s.before []
     else (if is_writing s then codes "; `!` writes a number"
     else (if is_reading s then codes "; a program reads no input"
     else (if bytes_eq s.found (codes "const") then codes "; constants are declared first in a block"
     else (if is_signed s then codes "; a constant is a number without a sign"
     else (if is_inner_sign s then codes "; a sign stands only where an expression begins"
     else (if is_compared s then codes "; only `if` and `while` compare"
-    else []))))))
+    else [])))))))
 
 -- the third part: what is missing, and what a `.` and a `;` mean
 abbrev pub missing_hint : Scene → List ℕ
 missing_hint s =
     if has_fraction s then codes "; all numbers are whole"
     else (if is_final s then codes "; a `.` ends the program"
+    else (if lacks_begin s then codes "; several statements stand between `begin` and `end`"
     else (if lacks_end s then codes "; perhaps an `end` is missing before it"
     else (if lacks_semicolon s then codes "; perhaps a `;` is missing before it"
     else (if lacks_call s then codes "; perhaps `call` is missing before " ++ quoted s.before []
-    else other_hint s))))
+    else other_hint s)))))
 
 -- the second part: a keyword in another case, before the place or there
 abbrev pub meant : List ℕ → List ℕ

@@ -2,7 +2,7 @@
 
 ghost use Rattle.std.specs.Prelude.{◌≡◌, ◌++◌, OnOk};
 ghost use Rattle.pl0_mistakes.specs.Scenes.{plain};
-ghost use Rattle.pl0_mistakes.specs.Hints.{is_number, is_name, keyword_meant, meant, is_comparison, opens_statement, is_target, may_end, ends_statement, in_condition, begins_statement, at_opening, is_comment, is_unequal, is_doubled, is_confused, has_value, has_becomes, is_enclosed, has_parameters, has_fraction, is_final, lacks_end, ends_part, begins_part, lacks_semicolon, lacks_call, is_foreign, is_writing, is_reading, is_sign, is_signed, is_inner_sign, is_compared, other_hint, missing_hint, case_hint, hint};
+ghost use Rattle.pl0_mistakes.specs.Hints.{is_number, is_name, keyword_meant, meant, is_comparison, opens_statement, is_target, may_end, ends_statement, in_condition, begins_statement, at_opening, is_comment, is_unequal, is_doubled, is_confused, has_value, has_becomes, is_enclosed, has_parameters, has_fraction, is_final, lacks_begin, lacks_end, ends_part, begins_part, lacks_semicolon, lacks_call, is_foreign, is_writing, is_reading, is_sign, is_signed, is_inner_sign, is_compared, other_hint, missing_hint, case_hint, hint};
 
 use crate::cases::keyword_meant;
 use crate::scene::{Scene, is, is_keyword};
@@ -72,6 +72,8 @@ fn write_missing_hint(line: &mut Vec<u8>, scene: Scene<'_>) -> Result<(), AllocE
         write(line, "; all numbers are whole")
     } else if is_final(scene) {
         write(line, "; a `.` ends the program")
+    } else if lacks_begin(scene) {
+        write(line, "; several statements stand between `begin` and `end`")
     } else if lacks_end(scene) {
         write(line, "; perhaps an `end` is missing before it")
     } else if lacks_semicolon(scene) {
@@ -94,6 +96,8 @@ fn write_other_hint(line: &mut Vec<u8>, scene: Scene<'_>) -> Result<(), AllocErr
 {
     if is_foreign(scene.found) {
         write_around(line, "; PL/0 has no keyword ", scene.found, "")
+    } else if is(scene.before, "not") {
+        write_around(line, "; PL/0 has no keyword ", scene.before, "")
     } else if is_writing(scene) {
         write(line, "; `!` writes a number")
     } else if is_reading(scene) {
@@ -117,7 +121,6 @@ fn is_foreign(token: &[u8]) -> bool
 {
     is(token, "and")
         || is(token, "or")
-        || is(token, "not")
         || is(token, "mod")
         || is(token, "else")
         || is(token, "until")
@@ -251,11 +254,19 @@ fn has_fraction(scene: Scene<'_>) -> bool
     is(scene.found, ".") && is_number(scene.before) && is_number(scene.next)
 }
 
-/// Whether there is a semicolon after the program's last `end`.
+/// Whether there is a semicolon after the program's statement: after its last `end`, or where the text ends with it.
 fn is_final(scene: Scene<'_>) -> bool
     ensures { result ≡ is_final (plain scene.entry) }
 {
-    is(scene.found, ";") && is(scene.before, "end")
+    is(scene.found, ";")
+        && (is(scene.before, "end") || scene.next.is_empty() && ends_statement(scene))
+}
+
+/// Whether there is a semicolon after a statement that isn't between `begin` and `end`.
+fn lacks_begin(scene: Scene<'_>) -> bool
+    ensures { result ≡ lacks_begin (plain scene.entry) }
+{
+    is(scene.found, ";") && ends_statement(scene)
 }
 
 /// Whether there is a period where a statement may end, and a `begin` has no `end`.
