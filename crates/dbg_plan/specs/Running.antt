@@ -1,5 +1,5 @@
 -- Many steps at once: quiet ones, and perhaps one more.
-use Rattle.std.specs.Prelude.{◌≡◌, ℕ, ◌+◌, ◌<◌, ◌≤◌, nat_lt, if◌then◌else◌, ◌++◌, ℤ, Bool, false, List, [], Option, Some, None}
+use Rattle.std.specs.Prelude.{◌≡◌, ℕ, ◌+◌, ◌<◌, ◌≤◌, ◌++◌, ℤ, Bool, false, List, [], Option, Some, None}
 use Rattle.std.specs.List.{list_any}
 use Rattle.pl0_meaning.specs.Runs.{written_by}
 use Rattle.pl0_machine.specs.Machine.{Standing, program, configuration, outcome_of, depth_of}
@@ -36,10 +36,6 @@ pub record RanQuietly (limit outer : ℕ) (breakpoints : List Breakpoint) (old :
     pub running : outer < depth_of (ahead old steps)
     pub within : old.position + steps ≤ limit
     pub ends : Ends steps
-
--- the position before which no run begins after one from `begin` to `end`: single steps follow a short one
-abbrev pub next_run : ℕ → ℕ → ℕ
-next_run begin end = if nat_lt end (begin + 6) then end + 32 else end
 
 -- ---- of a debuggee
 

@@ -1,6 +1,6 @@
 //! Steps that write nothing and lead to no arrival at a breakpoint.
 
-ghost use Rattle.std.specs.Prelude.{◌≡◌, ◌<◌, ◌≤◌, All, Decides, IsTrue, false, Some, None, option_map};
+ghost use Rattle.std.specs.Prelude.{◌≡◌, ◌+◌, ◌<◌, ◌≤◌, All, Decides, false, Some, None, option_map};
 ghost use Rattle.std.specs.Arc.{arc_value};
 ghost use Rattle.pl0_machine.specs.declared.outcome.StepOutcome.TheVariants.{Went};
 ghost use Rattle.pl0_meaning.specs.Runs.{last_position};
@@ -10,7 +10,7 @@ ghost use Rattle.std.specs.List.{list_any};
 ghost use Rattle.dbg_plan.specs.Debugged.{IsRunning};
 ghost use Rattle.dbg_plan.specs.Counting.{holds_now, IsMetHere, MayBePlanOf};
 ghost use Rattle.dbg_plan.specs.Plans.{breakpoints_of};
-ghost use Rattle.dbg_plan.specs.Running.{has_arrival, next_run};
+ghost use Rattle.dbg_plan.specs.Running.{has_arrival};
 ghost use Rattle.dbg_plan.specs.Quiet.{Watches, WentOn, RanByMachine, considered_after};
 
 use crate::breakpoint::Breakpoint;
@@ -99,12 +99,14 @@ fn go_on(
     machine.run(limit, outer, marks)
 }
 
-/// Returns the position before which no run begins after one from `begin` to `end`: single steps follow a short one.
+/// Returns the position before which no run begins after one from `begin` to `end`: 32 single steps follow a run of fewer
+/// than 6 steps, and none a longer one.
 #[inline(always)]
 pub fn next_run(begin: u64, end: u64) -> u64
     requires bounded { begin ≤ last_position }
     requires reached { end ≤ last_position }
-    ensures { result ≡ next_run begin end }
+    ensures short { end < begin + 6 → result ≡ end + 32 }
+    ensures long { begin + 6 ≤ end → result ≡ end }
 {
     if end < begin + SHORT_RUN {
         end + SINGLE_STEPS
