@@ -1,5 +1,5 @@
 -- What some texts of an editor read as.
-use Rattle.std.specs.Prelude.{◌≡◌, ◌≢◌, ◌<◌, ℕ, ℤ, zero, suc, ◌++◌, drop, false, nat_eq, List, [], ◌∷◌, slice_get, Some, None, pos, refl, codes, decimal}
+use Rattle.std.specs.Prelude.{◌≡◌, ◌≢◌, ◌<◌, ℕ, ℤ, zero, suc, ◌++◌, drop, length, false, nat_eq, List, [], ◌∷◌, slice_get, Some, None, pos, refl, codes, decimal}
 use Rattle.std.proofs.Common.{arith, ap, subst, sym, get_or, ◌∙◌}
 use Rattle.std.proofs.lemmas.Bool.{eq-eqb, true≢false}
 use Rattle.std.specs.Fmt.{digits}
@@ -18,15 +18,23 @@ use Rattle.pl0_tree.specs.Unique.{condition_text_once}
 use Rattle.pl0_syntax.specs.Laws.{FaultExcludesExpressions}
 use Rattle.dbg_plan.specs.declared.breakpoint.Rule.{Rule}
 use Rattle.dbg_plan.specs.declared.breakpoint.Rule.TheVariants.{From, Every}
-use Rattle.dbg_plan.specs.Messages.{Part, Text, Value, ReadsParts, Lacks, braced}
+use Rattle.dbg_plan.specs.Messages.{Part, Text, Value, expressions, ReadsParts, Lacks, braced}
 use Rattle.dbg_plan.specs.WorkedText.{called, nested, place}
 use Rattle.dbg_plan.specs.Resolutions.{ReadsRule}
-use Rattle.dbg_plan.specs.WorkedReadings.{RulesRead, OthersAreNoRules, ConditionsRead, NamesAreOfTheBlock, MessagesRead, BracesClose, BracesAreNotDoubled}
-use Rattle.dbg_plan.proofs.MessageParts.{continues}
+use Rattle.dbg_plan.specs.WorkedReadings.{RulesRead, OthersAreNoRules, ConditionsRead, NamesAreOfTheBlock, MessagesRead, BracesClose, BracesAreNotDoubled, repeated, values, MessagesAreShort}
+use Rattle.dbg_plan.proofs.MessageParts.{continues, alone}
 
 pub rules_read : RulesRead
 unfolding digits
-rules_read = ((refl, omega arith, omega arith), (refl, omega arith, omega arith), refl)
+rules_read = (
+  (refl, omega arith, omega arith),
+  (refl, omega arith, omega arith),
+  refl,
+  (refl, omega arith, omega arith),
+  (refl, omega arith, omega arith),
+  (refl, omega arith, omega arith),
+  (refl, omega arith, omega arith),
+)
 
 -- ---- texts that are no rule
 
@@ -185,3 +193,32 @@ braces_are_not_doubled excludes m (given, same, is) =
     (All-from_recursion (λ b. b ≢ 123) [] tt)
     (All-from_recursion (λ b. b ≢ 125) (codes "{k") (differ _ _ refl, (differ _ _ refl, tt))) is.reads in
     excludes nested (0 ∷ []) (codes "{k") BadCharacter (place 1 1) c.value opened_is_faulty c.reads
+
+-- ---- eight expressions
+
+lacks_all : (byte : ℕ) → Lacks byte []
+lacks_all byte = All-from_recursion (λ b. b ≢ byte) [] tt
+
+k_unclosed : Lacks 125 (codes "k")
+k_unclosed = All-from_recursion (λ b. b ≢ 125) (codes "k") (differ _ _ refl, tt)
+
+values_read : (n : ℕ) → ReadsParts (IsExpressionOf nested (0 ∷ [])) (repeated n) (values n)
+values_read zero = (refl, lacks_all 123)
+values_read (suc n) = (codes "k", repeated n, refl, lacks_all 123, k_unclosed, just_k, values_read n)
+
+-- it reads as nothing with another number of expressions
+as_many : (Is : List ℕ → Expression → Type 0) (n : ℕ) (parts : List Part) → ReadsParts Is (repeated n) parts
+    → length (expressions parts) ≡ n
+as_many Is zero parts reads = ap (λ ps. length (expressions ps)) (alone Is [] parts (lacks_all 123) reads)
+as_many Is (suc n) parts reads =
+    let c = continues Is (repeated (suc n)) [] (codes "k") (repeated n) parts refl (lacks_all 123) k_unclosed reads in
+    ap (λ ps. length (expressions ps)) c.is ∙ ap suc (as_many Is n c.more c.rest)
+
+pub messages_are_short : MessagesAreShort
+messages_are_short = (
+  (not_empty, refl, record { few = omega arith; reads = values_read 8 }),
+  λ m (given, same, is).
+      let many = as_many (IsExpressionOf nested (0 ∷ [])) 9 m.parts is.reads in
+      let few = is.few in
+      absurd (omega (arith, many, few)),
+)

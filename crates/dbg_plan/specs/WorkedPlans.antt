@@ -1,6 +1,7 @@
 -- States worked examples of breakpoints: where some of them stop the two programs of `WorkedText`, and what they log.
 -- Each was computed from the definitions.
-use Rattle.std.specs.Prelude.{◌≡◌, ℕ, Bool, true, false, List, [], ◌∷◌, ◌++◌, Option, Some, None, pos, map, codes, Result, Ok, Err, ℤ}
+use Rattle.std.specs.Prelude.{◌≡◌, ℕ, ◌+◌, ◌*◌, Bool, true, false, List, [], ◌∷◌, ◌++◌, Option, Some, None, pos, map, codes, Result, Ok, Err, ℤ}
+use Rattle.std.specs.List.{range_with_len}
 use Rattle.pl0_tree.specs.declared.tree.Operator.TheVariants.{Add, Subtract, Divide}
 use Rattle.pl0_tree.specs.declared.tree.Relation.TheVariants.{Equal}
 use Rattle.pl0_tree.specs.Tree.{Variable, Number, Binary, Odd, Compare, Condition, Expression, Block}
@@ -17,6 +18,7 @@ use Rattle.dbg_plan.specs.Due.{stops, depth_at, due}
 use Rattle.dbg_plan.specs.Logs.{Log, logs, said}
 use Rattle.dbg_plan.specs.Resolutions.{step_from}
 use Rattle.dbg_plan.specs.Retreat.{Stop, goal_of}
+use Rattle.dbg_plan.specs.Trail.{Trail, new_trail, kept_at, floor_of}
 use Rattle.dbg_plan.specs.WorkedText.{called, nested, loop}
 
 -- ---- breakpoints
@@ -36,6 +38,11 @@ abbrev faulty : Option TextCondition
 faulty =
     condition (Compare Equal (Binary Divide (Number (pos 1)) (Binary Subtract (name (codes "x")) (Number (pos 2))))
     (Number (pos 1)))
+
+-- 9223372036854775806 + x = 0: it faults from where x is 2
+abbrev overflowing : Option TextCondition
+overflowing =
+    condition (Compare Equal (Binary Add (Number (pos 9223372036854775806)) (name (codes "x"))) (Number (pos 0)))
 
 -- the name's value is this
 abbrev equals : List ℕ → ℕ → Option TextCondition
@@ -71,9 +78,9 @@ stops_at main t positions b = map (λ m. stops main t m b) positions
 abbrev pub ConditionsStop : Type 0
 ConditionsStop =
     map (stops_at loop 0 (1 ∷ 3 ∷ 5 ∷ 7 ∷ 9 ∷ 11 ∷ []))
-    (at_step 1 None None ∷ at_step 1 odd None ∷ at_step 1 faulty None ∷ [])
+    (at_step 1 None None ∷ at_step 1 odd None ∷ at_step 1 faulty None ∷ at_step 1 overflowing None ∷ [])
     ≡ (true ∷ true ∷ true ∷ true ∷ true ∷ true ∷ []) ∷ (false ∷ true ∷ false ∷ true ∷ false ∷ true ∷ [])
-    ∷ (false ∷ false ∷ true ∷ true ∷ false ∷ false ∷ []) ∷ []
+    ∷ (false ∷ false ∷ true ∷ true ∷ false ∷ false ∷ []) ∷ (false ∷ false ∷ true ∷ true ∷ true ∷ true ∷ []) ∷ []
 
 -- Nor does it stop before another step, or after the end.
 abbrev pub OthersDont : Type 0
@@ -212,3 +219,30 @@ RetreatsLead =
     ∷ (logging (at_step 1 None None) says_x, Reverse, 8) ∷ (at_step 1 None None, Continue, 8) ∷ [])
     ≡ to 7 reason.Step ∷ to 7 reason.Breakpoint ∷ to 5 reason.Breakpoint ∷ to 0 reason.Entry ∷ to 7 reason.Breakpoint
     ∷ to 0 reason.Entry ∷ None ∷ []
+
+-- ---- checkpoints
+
+-- the trail after these positions, one after the other
+abbrev after : Trail → List ℕ → Trail
+after trail [] = trail
+after trail (n ∷ ns) = after (kept_at trail n) ns
+
+-- so many positions, one every 4096
+abbrev multiples : ℕ → List ℕ
+multiples count = map (λ k. 4096 * (k + 1)) (range_with_len 0 count)
+
+-- A checkpoint is kept where the last one, or the beginning, is 4096 positions back. Where 64 are kept, every second is
+-- given up, and the next ones are to be twice as far apart.
+abbrev pub TrailsKeep : Type 0
+TrailsKeep =
+    ((after new_trail (4095 ∷ 4096 ∷ 8191 ∷ 8300 ∷ 12395 ∷ 12396 ∷ [])).kept ≡ 4096 ∷ 8300 ∷ 12396 ∷ [])
+    × (after new_trail (multiples 64) ≡ record { kept = multiples 64; spacing = 4096 })
+    × (after new_trail (multiples 65)
+    ≡ record { kept = map (λ k. 4096 * (2 * k + 1)) (range_with_len 0 33); spacing = 8192 })
+    × ((after new_trail (multiples 66)).kept ≡ (after new_trail (multiples 65)).kept)
+
+-- Gone back to is the last one at or before a position, or the beginning.
+abbrev pub FloorsAre : Type 0
+FloorsAre =
+    map (floor_of (4096 ∷ 8300 ∷ 12396 ∷ [])) (0 ∷ 4095 ∷ 4096 ∷ 12395 ∷ 12396 ∷ 20000 ∷ [])
+    ≡ 0 ∷ 0 ∷ 4096 ∷ 8300 ∷ 12396 ∷ 12396 ∷ []

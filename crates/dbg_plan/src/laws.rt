@@ -1,9 +1,9 @@
 //! The laws of logs, and worked examples.
 
 ghost use Rattle.dbg_plan.specs.Logs.{EachIsReplaced, LogsAreSaid, ValuesAreArithmetic};
-ghost use Rattle.dbg_plan.specs.WorkedReadings.{RulesRead, OthersAreNoRules, ConditionsRead, NamesAreOfTheBlock, MessagesRead, BracesClose, BracesAreNotDoubled};
+ghost use Rattle.dbg_plan.specs.WorkedReadings.{RulesRead, OthersAreNoRules, ConditionsRead, NamesAreOfTheBlock, MessagesRead, BracesClose, BracesAreNotDoubled, MessagesAreShort};
 ghost use Rattle.dbg_plan.specs.WorkedRuns.{VariablesBeginAtZero, FramesAreNumbered, NextStepsStand, NamesAreFound, QuotientsAre, OperationsAre, ConditionsAre, RunsEnd};
-ghost use Rattle.dbg_plan.specs.WorkedPlans.{ConditionsStop, OthersDont, ConditionsReadTheNewest, RulesCount, ConditionsCount, CountsBegin, MessagesDontStop, ModesStop, DepthsAre, LogsAre, TextsAre, LogsCount, LogsReadTheNewest, LinesHaveSteps, RetreatsLead};
+ghost use Rattle.dbg_plan.specs.WorkedPlans.{ConditionsStop, OthersDont, ConditionsReadTheNewest, RulesCount, ConditionsCount, CountsBegin, MessagesDontStop, ModesStop, DepthsAre, LogsAre, TextsAre, LogsCount, LogsReadTheNewest, LinesHaveSteps, RetreatsLead, TrailsKeep, FloorsAre};
 
 use pl0_syntax::editor_laws;
 
@@ -17,8 +17,8 @@ pub fn log_laws()
 {}
 
 /// What breakpoints do in the runs of two texts, computed from the definitions: where they stop the program, how their
-/// arrivals count, what they log, to which step a line belongs, and where going back leads. A wrong definition of one of
-/// these words doesn't meet them. It does nothing: its contract is the examples.
+/// arrivals count, what they log, to which step a line belongs, where going back leads, and which checkpoints are kept. A
+/// wrong definition of one of these words doesn't meet them. It does nothing: its contract is the examples.
 pub fn worked_plans()
     ensures conditions { ConditionsStop }
     ensures others { OthersDont }
@@ -35,6 +35,8 @@ pub fn worked_plans()
     ensures log_newest { LogsReadTheNewest }
     ensures lines { LinesHaveSteps }
     ensures back { RetreatsLead }
+    ensures checkpoints { TrailsKeep }
+    ensures floors { FloorsAre }
 {}
 
 /// What the runs of these two texts are: frames and their variables, next steps, what names mean there, arithmetic, and
@@ -60,6 +62,7 @@ pub fn worked_readings()
     ensures messages { MessagesRead }
     ensures braces { BracesClose }
     ensures doubled { BracesAreNotDoubled }
+    ensures short { MessagesAreShort }
 {
     editor_laws();
 }

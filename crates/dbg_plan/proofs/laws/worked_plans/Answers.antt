@@ -49,3 +49,9 @@ returns-clause-lines c = refl
 
 pub returns-clause-back : goal.returns-clause-back
 returns-clause-back c = refl
+
+pub returns-clause-checkpoints : goal.returns-clause-checkpoints
+returns-clause-checkpoints c = (refl, refl, refl, refl)
+
+pub returns-clause-floors : goal.returns-clause-floors
+returns-clause-floors c = refl

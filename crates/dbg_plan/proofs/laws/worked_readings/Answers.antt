@@ -1,4 +1,4 @@
-use Rattle.dbg_plan.proofs.WorkedReadings.{rules_read, others_are_no_rules, conditions_read, names_are_of_the_block, messages_read, braces_close, braces_are_not_doubled}
+use Rattle.dbg_plan.proofs.WorkedReadings.{rules_read, others_are_no_rules, conditions_read, names_are_of_the_block, messages_read, braces_close, braces_are_not_doubled, messages_are_short}
 use Rattle.dbg_plan.proofs.laws.worked_readings.Goals as goal
 
 pub returns-clause-rules : goal.returns-clause-rules
@@ -21,3 +21,6 @@ returns-clause-braces c = braces_close
 
 pub returns-clause-doubled : goal.returns-clause-doubled
 returns-clause-doubled c = braces_are_not_doubled c.editor_laws.ensures.expression
+
+pub returns-clause-short : goal.returns-clause-short
+returns-clause-short c = messages_are_short
