@@ -30,9 +30,10 @@ pub mod SameTexts
 pub mod HitNumbers
 -- A list of breakpoints in the order of their steps is cut into a part for each step; for `starts_of` and others.
 pub mod Parts
--- A table of the comparisons that stand alone at their steps is made step by step; for `comparisons_of`.
+-- A table of the comparisons that stand alone at their steps is one of other breakpoints that are the same there, and is
+-- read by a step; for `Plan::new`, `Plan::marks` and `run_quietly`.
 pub mod OnlyOnes
--- Lines that are answered one after another give the whole resolution; for `resolve_line` and `resolve`.
+-- Lines that are answered one after another give the whole resolution; for `resolve_at`, `resolve_line` and `resolve`.
 pub mod Lines
 -- A mark is set exactly at the addresses where steps with breakpoints begin; for the functions of `counting`,
 -- `debuggee`, `plan` and others.

@@ -1,4 +1,4 @@
--- A table of the comparisons that stand alone at their steps, made step by step.
+-- A table of the comparisons that stand alone at their steps: of other breakpoints, and read by a step.
 use Rattle.std.proofs.Common.{◌≡◌, ℕ, zero, suc, List, [], ◌∷◌, slice_get, slice_index_or, Option, Some, None, ap, subst}
 use Rattle.dbg_plan.specs.declared.breakpoint.Breakpoint.{Breakpoint}
 use Rattle.pl0_machine.specs.declared.mark.Comparison.{Comparison}

@@ -1,6 +1,6 @@
 //! How a run goes on, and why it stops.
 
-ghost use Rattle.std.specs.Prelude.{IfSome};
+ghost use Rattle.std.specs.Prelude.{ℕ, ◌<◌, IfSome, IfNone};
 ghost use Rattle.dbg_plan.specs.Running.{IsUndueAbove};
 
 /// What makes a position due besides breakpoints. The number of `Over` and `Out` is how many frames were alive at the stop
@@ -24,16 +24,18 @@ pub enum Mode {
 }
 
 impl Mode {
-    /// Returns a number of frames such that the mode alone makes no position due where more are alive. `None` for a mode that
-    /// has none, or goes back.
+    /// Returns the least number of frames such that the mode alone makes no position due where more are alive; `None` if there
+    /// is no such number.
     pub fn outer(self) -> Option<usize>
-        ensures { IfSome result (λ outer. IsUndueAbove self outer) }
+        ensures undue { IfSome result (IsUndueAbove self) }
+        ensures least { IfSome result (λ outer. (fewer : ℕ) → fewer < outer → ¬ IsUndueAbove self fewer) }
+        ensures none { IfNone result ((outer : ℕ) → ¬ IsUndueAbove self outer) }
     {
         match self {
-            Mode::Continue => Some(0),
+            Mode::Continue | Mode::StepBack | Mode::Reverse => Some(0),
             Mode::Over(most) => Some(most),
             Mode::Out(fewer) => Some(fewer.saturating_sub(1)),
-            _ => None,
+            Mode::Entry | Mode::In => None,
         }
     }
 }
