@@ -2,7 +2,7 @@
 
 ghost use Rattle.std.specs.Prelude.{◌≡◌, ◌+◌, ◌<◌, ◌≤◌, ◌++◌, ◌&&◌, ℕ, [], is_none, length, All, option_map, if◌then◌else◌, Some};
 ghost use Rattle.std.specs.Arc.{arc_value};
-ghost use Rattle.pl0_machine.specs.Machine.{program, frames, top_of, IsNext};
+ghost use Rattle.pl0_machine.specs.Machine.{program};
 ghost use Rattle.dbg_plan.specs.Plans.{breakpoint_limit, listed_of};
 ghost use Rattle.dbg_plan.specs.declared.mode.Reason.TheVariants as reason;
 ghost use Rattle.dbg_plan.specs.Due.{reason_of, depth_at};

@@ -7,7 +7,6 @@ ghost use Rattle.pl0_meaning.specs.Arithmetic.{IsArithmetic};
 ghost use Rattle.pl0_machine.specs.Machine.{program, frames, depth_of};
 ghost use Rattle.dbg_plan.specs.Debugged.{IsRunning};
 ghost use Rattle.dbg_plan.specs.Values.{answered};
-ghost use Rattle.dbg_plan.specs.Comparisons.{expression_of, condition_of};
 ghost use Rattle.dbg_plan.specs.Reads.{number_up, bound_value, bound_truth, CanRead, CanTest};
 ghost use Rattle.dbg_plan.specs.Counting.{holds_now, IsMetHere};
 

@@ -2,7 +2,6 @@
 
 ghost use Rattle.std.specs.Prelude.{◌≡◌, ◌*◌, ◌<◌, ◌≤◌, ◌^◌, length, nat_le, option_map, reverse, vec_len, vec_capacity};
 ghost use Rattle.std.specs.List.{find};
-ghost use Rattle.pl0_machine.specs.Machine.{Standing};
 ghost use Rattle.dbg_plan.specs.Trail.{trail_limit, at_odd_places, with_room, AreAbove};
 ghost use Rattle.pl0_unit.specs.declared.unit.Unit.{Unit as Compiled};
 ghost use Rattle.dbg_plan.specs.Kept.{positions, trail_at, AreOf};

@@ -1,9 +1,8 @@
 //! Takes the steps that a run which goes back runs again.
 
-ghost use Rattle.std.specs.Prelude.{◌≡◌, ◌+◌, ◌-◌, ◌<◌, ◌≤◌, [], is_some, min};
+ghost use Rattle.std.specs.Prelude.{◌≡◌, ◌+◌, ◌-◌, ◌<◌, ◌≤◌, is_some, min};
 ghost use Rattle.dbg_plan.specs.Debugged.{debugged_program, IsConsidered, due_now};
 ghost use Rattle.dbg_plan.specs.declared.mode.Mode.TheVariants.{Continue};
-ghost use Rattle.dbg_plan.specs.Trail.{floor_of};
 ghost use Rattle.dbg_runner.specs.Lawful.{RunsAt};
 ghost use Rattle.dbg_runner.specs.Rooms.{IsRoomOf};
 ghost use Rattle.dbg_runner.specs.Hops.{Hopped, last_due_up_to, standing, gone_back};

@@ -3,7 +3,7 @@
 ghost use Rattle.std.specs.Prelude.{◌≡◌, ◌≤◌, true, Some};
 ghost use Rattle.pl0_meaning.specs.Runs.{last_position};
 ghost use Rattle.dbg_plan.specs.Debugged.{debugged_program, IsConsidered};
-ghost use Rattle.dbg_plan.specs.Retreat.{Stop, stop_at, goal_of};
+ghost use Rattle.dbg_plan.specs.Retreat.{stop_at, goal_of};
 ghost use Rattle.dbg_runner.specs.declared.retreat.Way.TheVariants as way;
 ghost use Rattle.dbg_runner.specs.Plain.{goes_back};
 ghost use Rattle.dbg_runner.specs.Lawful.{RunsAt};
@@ -66,8 +66,8 @@ impl Model for Retreat {
 impl Retreat {
     ghost use Rattle.std.specs.Prelude.{◌≡◌, ◌*◌, ◌≤◌, true, Some, IfSome};
     ghost use Rattle.pl0_meaning.specs.Runs.{last_position};
-    ghost use Rattle.dbg_plan.specs.Debugged.{Debugged, IsConsidered};
-    ghost use Rattle.dbg_plan.specs.Retreat.{Stop, goal_of};
+    ghost use Rattle.dbg_plan.specs.Debugged.{IsConsidered};
+    ghost use Rattle.dbg_plan.specs.Retreat.{goal_of};
     ghost use Rattle.pl0_machine.specs.Machine.{program_of as program_in};
     ghost use Rattle.dbg_runner.specs.declared.outcome.SliceOutcome.TheVariants as out;
     ghost use Rattle.dbg_runner.specs.Plain.{goes_back};
