@@ -231,8 +231,8 @@ after trail (n ∷ ns) = after (kept_at trail n) ns
 abbrev multiples : ℕ → List ℕ
 multiples count = map (λ k. 4096 * (k + 1)) (range_with_len 0 count)
 
--- A checkpoint is kept where the last one, or the beginning, is 4096 positions back. Where 64 are kept, every second is
--- given up, and the next ones are to be twice as far apart.
+-- A checkpoint is kept where the last one, or the beginning, is at least 4096 positions back. Before a 65th every second
+-- one is given up, and the next ones are to be twice as far apart.
 abbrev pub TrailsKeep : Type 0
 TrailsKeep =
     ((after new_trail (4095 ∷ 4096 ∷ 8191 ∷ 8300 ∷ 12395 ∷ 12396 ∷ [])).kept ≡ 4096 ∷ 8300 ∷ 12396 ∷ [])
@@ -241,7 +241,7 @@ TrailsKeep =
     ≡ record { kept = map (λ k. 4096 * (2 * k + 1)) (range_with_len 0 33); spacing = 8192 })
     × ((after new_trail (multiples 66)).kept ≡ (after new_trail (multiples 65)).kept)
 
--- Gone back to is the last one at or before a position, or the beginning.
+-- A run goes back to the last one at or before a position, or else to the beginning.
 abbrev pub FloorsAre : Type 0
 FloorsAre =
     map (floor_of (4096 ∷ 8300 ∷ 12396 ∷ [])) (0 ∷ 4095 ∷ 4096 ∷ 12395 ∷ 12396 ∷ 20000 ∷ [])

@@ -45,8 +45,8 @@ impl Mode {
 pub enum Reason {
     /// A breakpoint stops the program there.
     Breakpoint,
-    /// The mode is `Entry`, or a run that goes back came to position 0.
+    /// The mode is `Entry`; or it is `Reverse`, and the run came to position 0 without a breakpoint that is due.
     Entry,
-    /// The mode is that of a step.
+    /// The mode is that of a step, forward or back.
     Step,
 }

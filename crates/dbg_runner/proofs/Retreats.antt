@@ -1,5 +1,5 @@
 -- The reports of a run that goes back.
-use Rattle.dbg_runner.proofs.Common.{[], ap, arith, Box, Carries, counts_from, Debugged, Global, goal_of, goes_back, GoesBackBy, has_come, has_no_memory, is_spent, IsAt, IsKept, IsOn, IsReportWith, IsRetreat, IsRoomFor, length, None, Option, plain_report, debugged_program, Reason, refl, Reported, Retreating, retreating_of, Returns, Room, Searches, slice_limit, SliceOutcome, Some, stopped, subst, summary_back, sym, Went, written, ℕ, ◌*◌, ◌+◌, ◌∙◌, ◌≡◌, ◌≤◌, back_if, direction}
+use Rattle.dbg_runner.proofs.Common.{[], ap, arith, Box, Carries, counts_from, Debugged, Global, goal_of, GoesBackBy, has_come, has_no_memory, is_spent, IsAt, IsKept, IsOn, IsReportWith, IsRetreat, IsRoomFor, length, None, Option, plain_report, debugged_program, Reason, refl, Reported, Retreating, retreating_of, Returns, Room, Searches, slice_limit, SliceOutcome, Some, stopped, subst, summary_back, sym, Went, written, ℕ, ◌*◌, ◌+◌, ◌∙◌, ◌≡◌, ◌≤◌, back_if, direction}
 use Rattle.dbg_plan.specs.declared.debuggee.Debuggee.{Debuggee}
 use Rattle.dbg_runner.specs.declared.outcome.SliceOutcome.TheVariants as out
 use Rattle.dbg_runner.specs.declared.report.Summary.{Summary}
