@@ -2,6 +2,8 @@
 mod Adding
 -- A content is one request, or none; for `request_laws`.
 mod Once
+-- A content is the request that its value's members ask; for `request_laws`.
+mod Asked
 -- The conversation goes on by one content more, or breaks off at it; for the functions of `serving`.
 mod Conversing
 -- Items are taken one after another, and what a source gives is read; for `serve_inbox`, `serve` and `Inbox`.
