@@ -1,5 +1,5 @@
--- Each stop of a run is as the command asks by which the program goes.
-use Rattle.dap_history.proofs.Common.{Accepted, Body, Causes, Command, Content, Effect, Err, Grants, Heading, History, IsRetreatsStop, IsRightStop, IsRunsStop, IsSome, IsStopOf, Item, Launched, Loaded, Mode, None, NoneDueBefore, Ok, Option, Reason, Refusal, Request, RetreatKind, SliceOutcome, Some, Step, Stop, StopReason, ThreadArguments, WrittenJoins, [], ap, depth_at, due_in_run, go, goal_of, goes_back, held_mode, if◌then◌else◌, is_some, last_due, last_run, last_such, launched, mode_asked, mode_by, name_of, or_else, reason_of, refl, reversed, run_in, situation, stepped_back, stop_at, subst, sym, told_reason, ℕ, ◌++◌, ◌+◌, ◌<◌, ◌∙◌, ◌∷◌, ◌≡◌}
+-- Each stop of a run is as the command asks by which the program goes, and none is passed.
+use Rattle.dap_history.proofs.Common.{Accepted, Body, Causes, Command, Content, Effect, Err, Grants, Heading, History, IsRetreatsStop, IsRightStop, IsRunsStop, IsSome, IsStopOf, Item, Launched, Loaded, Mode, None, NoneDueBefore, NoneDueUpTo, Ok, Option, Reason, Refusal, Request, RetreatKind, SliceOutcome, Some, Step, Stop, StopReason, ThreadArguments, WrittenJoins, [], ap, depth_at, due_in_run, go, goal_of, goes_back, held_mode, if◌then◌else◌, is_some, last_due, last_run, last_such, launched, mode_asked, mode_by, name_of, option_map_or, or_else, reason_of, refl, reversed, run_in, situation, stepped_back, stop_at, subst, sym, told_reason, ℕ, ◌++◌, ◌+◌, ◌<◌, ◌∙◌, ◌∷◌, ◌≡◌, ◌≤◌}
 use Rattle.std.proofs.Common.{Bool, true, false, ◌&&◌, Result}
 use Rattle.std.specs.Prelude.{option_map, nat_le, nat_lt}
 use Rattle.dap_msg.specs.declared.command.Command.TheVariants as command
@@ -13,7 +13,7 @@ use Rattle.dbg_plan.specs.declared.mode.Reason.TheVariants as reason
 use Rattle.dbg_runner.specs.declared.outcome.SliceOutcome.TheVariants as slice
 use Rattle.dap_history.specs.Readings.{position}
 use Rattle.pl0_meaning.specs.Laws.{RunsHaveNoGaps, NothingFollowsTheEnd}
-use Rattle.dap_history.specs.Moves.{IsAlive, is_request_item, sets_going, GoesBy, is_done, is_met, reason_at, NowhereBefore, StopsForward, NoneMet, StopsBack, StopsAsAsked, EachStopIsAsAsked}
+use Rattle.dap_history.specs.Moves.{IsAlive, is_request_item, sets_going, GoesBy, is_done, is_met, reason_at, NowhereBefore, StopsForward, NoneMet, StopsBack, StopsAsAsked, EachStopIsAsAsked, NoStopIsPassed}
 use Rattle.dap_history.proofs.Readings.{launched-snoc, last_run-snoc, position-snoc}
 use Rattle.dap_history.proofs.Texts.{OneProgram}
 use Rattle.dap_history.proofs.Along.{IsTaken, IsKept, IsLawfulEvent, lawful_events, along}
@@ -21,7 +21,7 @@ use Rattle.dap_history.proofs.Each.{WasTaken, EachTaken, each_kept, each_first}
 use Rattle.dap_history.proofs.Early.{IsEarly}
 use Rattle.dap_history.proofs.Silent.{all_silent}
 use Rattle.dap_history.proofs.Outputs.{report_launches}
-use Rattle.dap_history.proofs.Passing.{Ran, loaded_orders}
+use Rattle.dap_history.proofs.Passing.{Ran, IsRunning, loaded_orders}
 use Rattle.dap_history.proofs.Stopping.{ran_more, ran_first, each_stop_right}
 use Rattle.dap_history.proofs.Asked.{item_mode}
 use Rattle.dap_history.proofs.Alive.{stop_alive}
@@ -189,6 +189,15 @@ done_reason false = None
 abbrev pub GoesForward : Command → Type 0
 GoesForward (command.Retreat kind a) = ⊥
 GoesForward _ = Unit {0}
+
+-- a command by which a run goes forward
+pub forward_by : (asked : Command) (d : ℕ) (run : Heading) → mode_by d asked ≡ Some run.mode
+    → goes_back run.mode ≡ false → GoesForward asked
+forward_by (command.Retreat retreat.StepBack a) d run mode_is on =
+    let e = ap (λ o. option_map_or goes_back o false) mode_is ∙ on in absurd cc
+forward_by (command.Retreat retreat.ReverseContinue a) d run mode_is on =
+    let e = ap (λ o. option_map_or goes_back o false) mode_is ∙ on in absurd cc
+forward_by _ d run mode_is on = tt
 
 mode_done : (asked : Command) (m : Mode) (d n : ℕ) → GoesForward asked → mode_by d asked ≡ Some m
     → (reason_of m n ≡ done_reason (is_done asked d n)) × (goes_back m ≡ false)
@@ -360,3 +369,34 @@ stops_as_asked one joins no_gaps ends last events past rest lawful history befor
         (stop_alive one joins no_gaps ends before stops_at.step.item stops_at.step was.taken was.causes was.held.0
         right.0 right.1 run run_is s
         (stopped_last before stops_at.step s stops_at.front stops_at.back was.causes stops_at.events_are))
+
+pub none_passed : OneProgram → WrittenJoins → NoStopIsPassed
+none_passed one joins events past rest lawful history running run run_is forward = (
+  there.0,
+  by.asked,
+  by.from,
+  there.1,
+  by.goes,
+  ran.0,
+  λ k above up_to.
+      nowhere there.0 run by.asked by.from
+      (forward_by by.asked (depth_at there.0.program by.from) run by.mode_is forward) by.mode_is k
+      (ran.1 k above up_to),
+)
+  where
+    was : Kept one joins past
+    was = along IsLawfulEvent (Kept one joins) (kept_kept one joins) (kept_first one joins) events past rest
+        (lawful_events events lawful) history
+
+    launched_then : (o : Option Launched) → launched past ≡ o → (l : Launched) × (launched past ≡ Some l)
+    launched_then (Some l) is = (l, is)
+    launched_then None is = let e = sym (was.0.so_far.progress None is).1 ∙ run_is in absurd cc
+
+    there : (l : Launched) × (launched past ≡ Some l)
+    there = launched_then (launched past) refl
+
+    by : WentBy past there.0 run
+    by = was.1 there.0 run there.1 run_is
+
+    ran : (run.start ≤ position past) × NoneDueUpTo there.0 run (position past)
+    ran = was.0.running (subst IsRunning (sym running) tt) there.0 there.1 run run_is

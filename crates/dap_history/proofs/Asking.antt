@@ -1,9 +1,15 @@
--- The loader is asked only for the path of a launch that waits.
-use Rattle.dap_history.proofs.Common.{File, FirstSeq, Incoming, Piece, ReadFailed, NoMemory, Report, [], ap, inl, inr, subst, sym, ◌++◌, ◌∙◌, ◌∷◌, ◌≡◌}
+-- The loader is asked for the path of each launch that waits, and for no other, and the events are what inbox and loader
+-- returned.
+use Rattle.dap_history.proofs.Common.{File, FirstSeq, History, Incoming, IsHistoryOf, IsTaking, Launch, Piece, ReadFailed, NoMemory, None, Report, Rest, Some, [], ap, append-nil, inl, inr, subst, sym, ℕ, ◌++◌, ◌∙◌, ◌∷◌, ◌≡◌, ◌⊎◌}
 use Rattle.std.proofs.Common.{List}
+use Rattle.std.specs.Prelude.{map}
 use Rattle.std.proofs.lemmas.List.{append_assoc}
 use Rattle.dap_history.specs.Events.{End}
-use Rattle.dap_history.specs.Interleaving.{Load, IsLoad, Interleaves, IsAsked, EachLoadIsOfALaunch}
+use Rattle.dap_history.specs.Interleaving.{Load, AwaitsNone, IsLoad, Interleaves, IsAsked, EachLoadIsOfALaunch, IsAnswerFor, EachLaunchIsLoaded, AreMerged, EventsAreReturned}
+use Rattle.dap_history.specs.Laws.{HistoryIsOne}
+use Rattle.dap_history.proofs.Once.{none_within}
+
+-- ---- each load is of a launch
 
 asked_now : (first : FirstSeq) (before : List Incoming) (e : Incoming) (after : List Incoming) (load : Load)
     → IsLoad first before e load → IsAsked first (before ++ e ∷ after) load
@@ -15,6 +21,7 @@ asked_now first before (File file) after load (answer_is, awaits) = record {
   rest = awaits.rest;
   first_is = awaits.first_is;
   history = awaits.history;
+  goes_on = awaits.taking;
   launch = awaits.launch;
   waits = awaits.waits;
   path_is = awaits.path_is;
@@ -25,15 +32,11 @@ asked_now first before ReadFailed after load is = absurd is
 asked_now first before NoMemory after load is = absurd is
 asked_now first before (Report r) after load is = absurd is
 
-none_there : (front : List Load) (load : Load) (back : List Load) → ¬ ([] ≡ front ++ load ∷ back)
-none_there [] load back is = absurd cc
-none_there (l ∷ front) load back is = absurd cc
-
 asked_along : (first : FirstSeq) (so_far events given : List Incoming) (loads : List Load)
     → Interleaves first so_far events given loads → (front : List Load) (load : Load) (back : List Load)
     → loads ≡ front ++ load ∷ back → IsAsked first (so_far ++ events) load
 asked_along first so_far [] given loads is front load back loads_are =
-    absurd (none_there front load back (sym is.1 ∙ loads_are))
+    absurd (none_within front back load (sym is.1 ∙ loads_are))
 asked_along first so_far (e ∷ events) given loads (inl (l, more, are, loaded, later)) [] load back loads_are =
     let same : l ≡ load = cc in
     asked_now first so_far e events load (subst (IsLoad first so_far e) same loaded)
@@ -48,3 +51,123 @@ asked_along first so_far (e ∷ events) given loads (inr (more, given_is, none, 
 pub each_asked : EachLoadIsOfALaunch
 each_asked first events given loads is front load back loads_are =
     asked_along first [] events given loads is front load back loads_are
+
+-- ---- each launch is loaded
+
+-- where a launch waits, the next event is not the inbox's
+not_awaited : HistoryIsOne → (first : FirstSeq) (before : List Incoming) → AwaitsNone first before → (past : History)
+    (rest : Rest) → rest.first ≡ first → IsHistoryOf before past rest → IsTaking past → (launch : Launch)
+    → ¬ (rest.launch ≡ Some launch)
+not_awaited one first before none past rest first_is history taking launch waits = by_none none.waits
+  where
+    same : (past ≡ none.past) × (rest ≡ none.rest)
+    same = one before past none.past rest none.rest history none.history (first_is ∙ sym none.first_is)
+
+    by_none : ¬ ((¬ IsTaking none.past) ⊎ (none.rest.launch ≡ None))
+    by_none (inl not) = not (subst IsTaking same.0 taking)
+    by_none (inr is) = let e = sym waits ∙ ap (λ (r : Rest). r.launch) same.1 ∙ is in absurd cc
+
+answer_now : HistoryIsOne → (first : FirstSeq) (before : List Incoming) (e : Incoming) (load : Load)
+    (loads more : List Load) → loads ≡ load ∷ more → IsLoad first before e load → (past : History) (rest : Rest)
+    → rest.first ≡ first → IsHistoryOf before past rest → (launch : Launch) → rest.launch ≡ Some launch
+    → IsAnswerFor loads launch.arguments.program e
+answer_now one first before (File file) load loads more are (answer_is, awaits) past rest first_is history launch
+    waits =
+    let same =
+    (one before past awaits.past rest awaits.rest history awaits.history (first_is ∙ sym awaits.first_is)).1 in
+    let launch_is : launch ≡ awaits.launch =
+    let e = sym waits ∙ ap (λ (r : Rest). r.launch) same ∙ awaits.waits in cc in record {
+      front = [];
+      load = load;
+      back = more;
+      loads_are = are;
+      path_is = awaits.path_is ∙ ap (λ (l : Launch). l.arguments.program) (sym launch_is);
+      event_is = ap File (sym answer_is);
+    }
+answer_now one first before (Piece piece) load loads more are is past rest first_is history launch waits = absurd is
+answer_now one first before End load loads more are is past rest first_is history launch waits = absurd is
+answer_now one first before ReadFailed load loads more are is past rest first_is history launch waits = absurd is
+answer_now one first before NoMemory load loads more are is past rest first_is history launch waits = absurd is
+answer_now one first before (Report r) load loads more are is past rest first_is history launch waits = absurd is
+
+longer : (so_far before : List Incoming) (x e : Incoming) → x ≡ e
+    → so_far ++ x ∷ before ≡ (so_far ++ e ∷ []) ++ before
+longer so_far before x e same =
+    ap (λ y. so_far ++ y ∷ before) same ∙ sym (append_assoc so_far (e ∷ []) before)
+
+answer_later : (load : Load) (loads more : List Load) (path : List ℕ) (e : Incoming) → loads ≡ load ∷ more
+    → IsAnswerFor more path e → IsAnswerFor loads path e
+answer_later load loads more path e are is = record {
+  front = load ∷ is.front;
+  load = is.load;
+  back = is.back;
+  loads_are = are ∙ ap (λ ls. load ∷ ls) is.loads_are;
+  path_is = is.path_is;
+  event_is = is.event_is;
+}
+
+loaded_along : HistoryIsOne → (first : FirstSeq) (so_far events given : List Incoming) (loads : List Load)
+    → Interleaves first so_far events given loads → (before : List Incoming) (event : Incoming)
+    (after : List Incoming) → events ≡ before ++ event ∷ after → (past : History) (rest : Rest) → rest.first ≡ first
+    → IsHistoryOf (so_far ++ before) past rest → IsTaking past → (launch : Launch) → rest.launch ≡ Some launch
+    → IsAnswerFor loads launch.arguments.program event
+loaded_along one first so_far [] given loads is before event after are past rest first_is history taking launch waits =
+    absurd (none_within before after event are)
+loaded_along one first so_far (e ∷ events) given loads (inl (l, more, loads_are, loaded, later)) [] event after are past
+    rest first_is history taking launch waits =
+    let same : e ≡ event = cc in
+    subst (IsAnswerFor loads launch.arguments.program) same
+    (answer_now one first so_far e l loads more loads_are loaded past rest first_is
+    (subst (λ es. IsHistoryOf es past rest) (append-nil so_far) history) launch waits)
+loaded_along one first so_far (e ∷ events) given loads (inr (more, given_is, none, later)) [] event after are past rest
+    first_is history taking launch waits =
+    absurd (not_awaited one first so_far none past rest first_is
+    (subst (λ es. IsHistoryOf es past rest) (append-nil so_far) history) taking launch waits)
+loaded_along one first so_far (e ∷ events) given loads (inl (l, more, loads_are, loaded, later)) (x ∷ before) event
+    after are past rest first_is history taking launch waits =
+    let same : x ≡ e = cc in
+    let rest_are : events ≡ before ++ event ∷ after = cc in
+    answer_later l loads more launch.arguments.program event loads_are
+    (loaded_along one first (so_far ++ e ∷ []) events given more later before event after rest_are past rest first_is
+    (subst (λ es. IsHistoryOf es past rest) (longer so_far before x e same) history) taking launch waits)
+loaded_along one first so_far (e ∷ events) given loads (inr (more, given_is, none, later)) (x ∷ before) event after are
+    past rest first_is history taking launch waits =
+    let same : x ≡ e = cc in
+    let rest_are : events ≡ before ++ event ∷ after = cc in
+    loaded_along one first (so_far ++ e ∷ []) events more loads later before event after rest_are past rest first_is
+    (subst (λ es. IsHistoryOf es past rest) (longer so_far before x e same) history) taking launch waits
+
+pub each_loaded : HistoryIsOne → EachLaunchIsLoaded
+each_loaded one first events given loads is before event after are past rest first_is history taking launch waits =
+    loaded_along one first [] events given loads is before event after are past rest first_is history taking launch
+    waits
+
+-- ---- the events are all that came
+
+answer_event : (first : FirstSeq) (before : List Incoming) (e : Incoming) (load : Load) → IsLoad first before e load
+    → File load.answer ≡ e
+answer_event first before (File file) load is = ap File is.0
+answer_event first before (Piece piece) load is = absurd is
+answer_event first before End load is = absurd is
+answer_event first before ReadFailed load is = absurd is
+answer_event first before NoMemory load is = absurd is
+answer_event first before (Report r) load is = absurd is
+
+abbrev answers : List Load → List Incoming
+answers loads = map (λ (load : Load). File load.answer) loads
+
+merged_along : (first : FirstSeq) (so_far events given : List Incoming) (loads : List Load)
+    → Interleaves first so_far events given loads → AreMerged events given (answers loads)
+merged_along first so_far [] given loads is = (is.0, ap answers is.1)
+merged_along first so_far (e ∷ events) given loads (inl (l, more, are, loaded, later)) =
+    inr (
+      answers more,
+      ap answers are ∙ ap (λ x. x ∷ answers more) (answer_event first so_far e l loaded),
+      merged_along first
+          (so_far ++ e ∷ []) events given more later,
+    )
+merged_along first so_far (e ∷ events) given loads (inr (more, given_is, none, later)) =
+    inl (more, given_is, merged_along first (so_far ++ e ∷ []) events more loads later)
+
+pub events_returned : EventsAreReturned
+events_returned first events given loads is = merged_along first [] events given loads is

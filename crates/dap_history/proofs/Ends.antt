@@ -1,9 +1,8 @@
 -- A program is told to have exited where it has ended, and only there.
-use Rattle.dap_history.proofs.Common.{Accepted, Accepts, All, Causes, Command, Content, EndsBy, Event, EventBody, Fault, Faulted, GoesBackBy, Heading, History, Incoming, InputEnd, IsHistoryOf, IsLawfulReport, IsOutput, Item, Launched, Loaded, MemoryFailure, None, Ok, Option, Outgoing, PlainReport, ReadFailure, Rest, Running, Situation, SliceOutcome, Some, Step, StopReason, Went, WentOn, WrittenJoins, [], ap, arith, at, back_if, depth_at, end_of, faults, filter_map, filter_map-append, goes_back, inl, inr, is_due, item_leads, lacks_memory, launched, mode_by, or_else, refl, situation, stop_in, subst, sym, takes_all, unwrap_or, ℕ, ◌++◌, ◌<◌, ◌∙◌, ◌∷◌, ◌≡◌, AreLawful, Block, Effect, Launch, Launches, Reply, option_map_or, Stopped, Ready, Configuring, Fresh, Err}
+use Rattle.dap_history.proofs.Common.{Accepted, Accepts, All, Causes, Command, Content, EndsBy, Event, EventBody, Fault, Faulted, GoesBackBy, Heading, History, Incoming, InputEnd, IsHistoryOf, IsLawfulReport, IsOutput, Item, Launched, Loaded, MemoryFailure, None, Ok, Option, Outgoing, PlainReport, ReadFailure, Rest, Running, Situation, SliceOutcome, Some, Step, StopReason, Went, WentOn, WrittenJoins, [], ap, arith, at, back_if, depth_at, end_of, faults, filter_map, filter_map-append, goes_back, inl, inr, is_due, item_leads, lacks_memory, launched, or_else, refl, situation, stop_in, subst, sym, takes_all, unwrap_or, ℕ, ◌++◌, ◌<◌, ◌∙◌, ◌∷◌, ◌≡◌, AreLawful, Block, Effect, Launch, Launches, Reply, Stopped, Ready, Configuring, Fresh, Err}
 use Rattle.std.proofs.Common.{List, Bool, true, false}
 use Rattle.std.proofs.lemmas.List.Elements.{All-head, All-tail}
 use Rattle.dap_msg.specs.declared.command.Command.TheVariants as command
-use Rattle.dap_msg.specs.declared.requests.resume.RetreatKind.TheVariants as retreat
 use Rattle.dap_msg.specs.declared.outgoing.Outgoing.TheVariants.{Answer}
 use Rattle.dap_msg.specs.declared.outgoing.EventBody.TheVariants as event
 use Rattle.pl0_meaning.specs.declared.RunFault.{RunFault}
@@ -26,7 +25,7 @@ use Rattle.dap_history.proofs.Granted.{each_reply_told}
 use Rattle.dap_history.proofs.Transitions.{step_leads}
 use Rattle.dap_history.proofs.Progress.{report_program}
 use Rattle.dap_history.proofs.Passing.{Ran, starts_here, begun_there, none_before}
-use Rattle.dap_history.proofs.AsAsked.{WentBy, Kept, kept_kept, kept_first, GoesForward, nowhere}
+use Rattle.dap_history.proofs.AsAsked.{WentBy, Kept, kept_kept, kept_first, nowhere, forward_by}
 use Rattle.dap_history.proofs.Alive.{report_lives}
 
 -- ---- exits among events
@@ -278,15 +277,6 @@ module _ (one : OneProgram) (joins : WrittenJoins) where
       (each_first IsLawfulEvent Both both_first) events past rest (lawful_events events lawful) history
 
   -- ---- the end of a run
-
-  -- a command by which a run goes forward
-  forward_by : (asked : Command) (d : ℕ) (run : Heading) → mode_by d asked ≡ Some run.mode
-      → goes_back run.mode ≡ false → GoesForward asked
-  forward_by (command.Retreat retreat.StepBack a) d run mode_is on =
-      let e = ap (λ o. option_map_or goes_back o false) mode_is ∙ on in absurd cc
-  forward_by (command.Retreat retreat.ReverseContinue a) d run mode_is on =
-      let e = ap (λ o. option_map_or goes_back o false) mode_is ∙ on in absurd cc
-  forward_by _ d run mode_is on = tt
 
   done_on : (main : Block) (r : PlainReport) (e : SliceOutcome) → EndsBy main r e → e ≡ slice.Done
       → (r.start < r.end) × (at main r.end ≡ Some [])

@@ -91,6 +91,8 @@ pub mod Reacted
 -- A step orders at most one run and reports at most one stop, so what is so of the last is so of each; for
 -- `history_laws` and `run_laws`.
 pub mod Once
+-- A step orders at most one thing; for the clause `once` of `run_laws`.
+pub mod OneOrder
 -- Each run has the next number, and is in the mode that was asked for; for the clauses `counted` and `asked` of
 -- `run_laws`.
 pub mod Asked
@@ -124,7 +126,8 @@ pub mod Since
 pub mod Pauses
 -- The program stops at position 0 where it has to; for the clause `first` of `command_laws`.
 pub mod FirstStop
--- Each stop of a run is as the command asks by which the program goes; for the clause `as_asked` of `command_laws`.
+-- Each stop of a run is as the command asks by which the program goes, and none is passed; for the clauses `as_asked` and
+-- `none_passed` of `command_laws`.
 pub mod AsAsked
 -- Each event that is an item is taken, nothing is taken that isn't, and which items end a session; for the clauses
 -- `taken` and `ends` of `command_laws`.
@@ -143,5 +146,6 @@ pub mod Alive
 pub mod Ends
 -- No item leads nowhere; for the clause `all_lead` of `history_laws`.
 pub mod Effects
--- The loader is asked only for the path of a launch that waits; for the clause `loads` of `command_laws`.
+-- The loader is asked for the path of each launch that waits, and for no other, and the events are what inbox and loader
+-- returned; for the clauses `loads`, `loaded` and `returned` of `command_laws`.
 pub mod Asking

@@ -26,7 +26,7 @@ pub none_within : {A : Type 0} (front back : List A) (x : A) → ¬ ([] ≡ fron
 none_within [] back x is = absurd cc
 none_within (y ∷ front) back x is = absurd cc
 
-only : {A : Type 0} (xs front back : List A) (x : A) → AtMostOne xs → xs ≡ front ++ x ∷ back → xs ≡ x ∷ []
+pub only : {A : Type 0} (xs front back : List A) (x : A) → AtMostOne xs → xs ≡ front ++ x ∷ back → xs ≡ x ∷ []
 only [] front back x one is = absurd (none_within front back x is)
 only (y ∷ []) [] back x one is = cc
 only (y ∷ []) (z ∷ front) back x one is = absurd (none_within front back x (ap rest_of is))

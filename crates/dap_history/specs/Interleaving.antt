@@ -1,5 +1,5 @@
--- Defines which lists of events arise from what an inbox and a loader return.
-use Rattle.std.specs.Prelude.{◌≡◌, ◌⊎◌, ◌++◌, ◌∷◌, [], ℕ, List, Some, None, Result}
+-- Defines which lists of events arise from what an inbox and a loader return. States the laws of these.
+use Rattle.std.specs.Prelude.{◌≡◌, ◌⊎◌, ◌++◌, ◌∷◌, [], ℕ, List, map, Some, None, Result}
 use Rattle.dap_msg.specs.declared.request.FirstSeq.{FirstSeq}
 use Rattle.dap_history.specs.declared.launch.Launch.{Launch}
 use Rattle.dap_history.specs.declared.fault.LoadFault.{LoadFault}
@@ -46,7 +46,7 @@ Interleaves first before (e ∷ events) given loads =
     ⊎ ((more : List Incoming) × (given ≡ e ∷ more) × AwaitsNone first before
     × Interleaves first (before ++ e ∷ []) events more loads)
 
--- ---- the law of loads
+-- ---- the laws of loads
 
 -- The loader is asked for a path: after these events a launch waits for the file at this path, and what the loader
 -- answers is the next event.
@@ -58,13 +58,45 @@ pub record IsAsked (first : FirstSeq) (events : List Incoming) (load : Load) : T
   pub rest : Rest
   pub first_is : rest.first ≡ first
   pub history : IsHistoryOf before past rest
+  pub goes_on : IsTaking past
   pub launch : Launch
   pub waits : rest.launch ≡ Some launch
   pub path_is : load.path ≡ launch.arguments.program
 
--- The loader is asked for nothing but the path of a launch that waits for its file.
+-- The loader is asked for nothing but the path of a launch that waits for its file, and for nothing once the session is
+-- closed.
 abbrev pub EachLoadIsOfALaunch : Type 0
 EachLoadIsOfALaunch =
     (first : FirstSeq) (events given : List Incoming) (loads : List Load) → Interleaves first [] events given loads
     → (front : List Load) (load : Load) (back : List Load) → loads ≡ front ++ load ∷ back
     → IsAsked first events load
+
+-- the event is what the loader answered for this path
+pub record IsAnswerFor (loads : List Load) (path : List ℕ) (event : Incoming) : Type 0 where
+  pub front : List Load
+  pub load : Load
+  pub back : List Load
+  pub loads_are : loads ≡ front ++ load ∷ back
+  pub path_is : load.path ≡ path
+  pub event_is : event ≡ File load.answer
+
+-- Where a launch waits for its file, the next event is what the loader answered for its path.
+abbrev pub EachLaunchIsLoaded : Type 0
+EachLaunchIsLoaded =
+    (first : FirstSeq) (events given : List Incoming) (loads : List Load) → Interleaves first [] events given loads
+    → (before : List Incoming) (event : Incoming) (after : List Incoming) → events ≡ before ++ event ∷ after
+    → (past : History) (rest : Rest) → rest.first ≡ first → IsHistoryOf before past rest → IsTaking past
+    → (launch : Launch) → rest.launch ≡ Some launch → IsAnswerFor loads launch.arguments.program event
+
+-- the events are these and those, each in their order
+abbrev pub AreMerged : List Incoming → List Incoming → List Incoming → Type 0
+AreMerged [] these those = (these ≡ []) × (those ≡ [])
+AreMerged (e ∷ events) these those =
+    ((more : List Incoming) × (these ≡ e ∷ more) × AreMerged events more those)
+    ⊎ ((more : List Incoming) × (those ≡ e ∷ more) × AreMerged events these more)
+
+-- The events are all that the inbox and the loader returned, in their order, and nothing else.
+abbrev pub EventsAreReturned : Type 0
+EventsAreReturned =
+    (first : FirstSeq) (events given : List Incoming) (loads : List Load) → Interleaves first [] events given loads
+    → AreMerged events given (map (λ (load : Load). File load.answer) loads)

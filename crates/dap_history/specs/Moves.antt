@@ -16,10 +16,11 @@ use Rattle.pl0_meaning.specs.Values.{Frame, Configuration}
 use Rattle.pl0_meaning.specs.Runs.{at, outcome, Faults}
 use Rattle.dbg_plan.specs.Breakpoints.{Breakpoint}
 use Rattle.dbg_plan.specs.Due.{stops, depth_at}
-use Rattle.dbg_runner.specs.Plain.{Heading, PlainReport}
+use Rattle.dbg_runner.specs.Plain.{Heading, PlainReport, goes_back}
 use Rattle.dbg_runner.specs.declared.outcome.SliceOutcome.TheVariants as slice
+use Rattle.dap_history.specs.declared.situation.Situation.TheVariants.{Running}
 use Rattle.dap_history.specs.History.{Launched, Item, Content, Accepted, Step, History}
-use Rattle.dap_history.specs.Readings.{launched, last_run, position, plan}
+use Rattle.dap_history.specs.Readings.{situation, launched, last_run, position, plan}
 use Rattle.dap_history.specs.Events.{Incoming, Rest, AreLawful, IsHistoryOf}
 use Rattle.dap_history.specs.Stops.{told_fault, stop_in, StopsAt, run_in}
 use Rattle.dap_history.specs.Runs.{Grants}
@@ -161,3 +162,12 @@ EachStopIsAsAsked =
     → (run : Heading) → last_run before ≡ Some run
     → (l : Launched) × (asked : Command) × (from : ℕ) × (launched before ≡ Some l) × GoesBy before asked from
     × StopsAsAsked l run asked from reason m × IsAlive l m
+
+-- While the program runs forward, it has come to no position after its run's beginning where its command asks for a
+-- stop. So none is passed where a run is held and goes on as another.
+abbrev pub NoStopIsPassed : Type 0
+NoStopIsPassed =
+    (events : List Incoming) (past : History) (rest : Rest) → AreLawful events → IsHistoryOf events past rest
+    → situation past ≡ Running → (run : Heading) → last_run past ≡ Some run → goes_back run.mode ≡ false
+    → (l : Launched) × (asked : Command) × (from : ℕ) × (launched past ≡ Some l) × GoesBy past asked from
+    × (run.start ≤ position past) × NowhereUpTo l run asked from (position past)

@@ -35,6 +35,16 @@ RunsCountFromOne =
     → (front back : List PlainOrder) (run : Heading) → orders_of past ≡ front ++ Go run ∷ back
     → run.run ≡ length (filter_map go front) + 1
 
+-- ---- orders
+
+-- A step orders at most one thing: that a run begins, that it is held, or that the runner quits.
+abbrev pub EachStepOrdersOnce : Type 0
+EachStepOrdersOnce =
+    (events : List Incoming) (past : History) (rest : Rest) → IsHistoryOf events past rest
+    → (before : History) (step : Step) (after : History) → past ≡ before ++ step ∷ after
+    → (front back : List PlainOrder) (order : PlainOrder) → step.effect.orders ≡ front ++ order ∷ back
+    → step.effect.orders ≡ order ∷ []
+
 -- ---- modes
 
 -- the step answers a request with success

@@ -4,13 +4,13 @@ ghost use Rattle.dap_history.specs.Laws.{HistoryIsOne, ItemsLeadToOne, EachItemL
 ghost use Rattle.dap_history.specs.ReadingLaws.{ReadingsGoOn};
 ghost use Rattle.dap_history.specs.GoingBack.{EachGoesBackAsAsked, CountsBeginAnew, RetreatsAreNotHeld};
 ghost use Rattle.dap_history.specs.Lines.{PlanIsOfLines, EachRunHasItsLines, EachRunCountsFrom};
-ghost use Rattle.dap_history.specs.Runs.{RunsCountFromOne, EachRunIsAsAsked, GrantedRunsAreOrdered, HeldRunsGoOn, HoldOnce, WaitsAreHeld};
+ghost use Rattle.dap_history.specs.Runs.{RunsCountFromOne, EachStepOrdersOnce, EachRunIsAsAsked, GrantedRunsAreOrdered, HeldRunsGoOn, HoldOnce, WaitsAreHeld};
 ghost use Rattle.dap_history.specs.Transitions.{EachStepLeads, SituationIsAfterSteps};
 ghost use Rattle.dap_history.specs.Verdicts.{EachIsJudged, RefusalsChangeNothing, OthersTellNothing, AnswersComeFirst};
 ghost use Rattle.dap_history.specs.Loading.{EachLaunchIsOfItsFile};
-ghost use Rattle.dap_history.specs.Moves.{PositionZeroIsConsidered, PausesStop, EachStopIsAsAsked};
+ghost use Rattle.dap_history.specs.Moves.{PositionZeroIsConsidered, PausesStop, EachStopIsAsAsked, NoStopIsPassed};
 ghost use Rattle.dap_history.specs.Ends.{EachEndIsTheEnd, EachEndIsTold};
-ghost use Rattle.dap_history.specs.Interleaving.{EachLoadIsOfALaunch};
+ghost use Rattle.dap_history.specs.Interleaving.{EachLoadIsOfALaunch, EachLaunchIsLoaded, EventsAreReturned};
 ghost use Rattle.dap_history.specs.WorkedWords.{FramesBeginSo, SeqsAre};
 ghost use Rattle.dap_history.specs.Taken.{EventsAreTaken, EachItemEndsOrNot};
 ghost use Rattle.dap_history.specs.LineAnswers.{LinesAreAnswered};
@@ -66,6 +66,7 @@ pub fn history_laws()
 /// its contract is the laws.
 pub fn run_laws()
     ensures counted { RunsCountFromOne }
+    ensures once { EachStepOrdersOnce }
     ensures asked { EachRunIsAsAsked }
     ensures ordered { GrantedRunsAreOrdered }
     ensures onward { HeldRunsGoOn }
@@ -92,9 +93,12 @@ pub fn command_laws()
     ensures answers_first { AnswersComeFirst }
     ensures launched { EachLaunchIsOfItsFile }
     ensures loads { EachLoadIsOfALaunch }
+    ensures loaded { EachLaunchIsLoaded }
+    ensures returned { EventsAreReturned }
     ensures first { PositionZeroIsConsidered }
     ensures paused { PausesStop }
     ensures as_asked { EachStopIsAsAsked }
+    ensures none_passed { NoStopIsPassed }
     ensures taken { EventsAreTaken }
     ensures ends { EachItemEndsOrNot }
     ensures lines { LinesAreAnswered }

@@ -5,8 +5,8 @@
 //! order of `specs/Lib.antt`: what a step is (`History`), the readings of the items so far (`Readings`), a file for each
 //! topic of commands (`Launching` to `Inspection`), the reaction to each command (`Reactions`), reports (`Reports`), what
 //! each item causes (`Emission`), which items a list of events gives (`Events`), and the laws (`Laws` to `Shown`). They
-//! speak only of plain data, so two lists of events with the same data have the same history. The only code here is the types that both a session and its
-//! definitions speak of.
+//! speak only of plain data, so two lists of events with the same data have the same history. The only code here is the
+//! types that both a session and its definitions speak of.
 #![tactic(auto)]
 
 mod ending;

@@ -1,5 +1,5 @@
-use Rattle.dap_history.proofs.AsAsked.{stops_as_asked}
-use Rattle.dap_history.proofs.Asking.{each_asked}
+use Rattle.dap_history.proofs.AsAsked.{stops_as_asked, none_passed}
+use Rattle.dap_history.proofs.Asking.{each_asked, each_loaded, events_returned}
 use Rattle.dap_history.proofs.FirstStop.{zero_considered}
 use Rattle.dap_history.proofs.Judged.{each_judged, refusals_quiet, others_quiet, answers_first}
 use Rattle.dap_history.proofs.LineAnswers.{lines_answered}
@@ -50,3 +50,13 @@ returns-clause-answers_first c = answers_first
 
 pub returns-clause-loads : goal.returns-clause-loads
 returns-clause-loads c = each_asked
+
+pub returns-clause-loaded : goal.returns-clause-loaded
+returns-clause-loaded c = each_loaded c.history_laws.ensures.one
+
+pub returns-clause-returned : goal.returns-clause-returned
+returns-clause-returned c = events_returned
+
+pub returns-clause-none_passed : goal.returns-clause-none_passed
+returns-clause-none_passed c =
+    none_passed (one_program c.text_laws.ensures.program) c.meaning_laws.ensures.joins

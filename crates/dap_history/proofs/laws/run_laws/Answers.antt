@@ -3,12 +3,16 @@ use Rattle.dap_history.proofs.Texts.{one_program}
 use Rattle.dap_history.proofs.Ends.{each_end, each_told}
 use Rattle.dap_history.proofs.Granted.{each_reply_told, granted_ordered, held_go_on}
 use Rattle.dap_history.proofs.Lines.{plan_of_lines, has_its_lines, counts_as_set}
+use Rattle.dap_history.proofs.OneOrder.{each_orders_once}
 use Rattle.dap_history.proofs.Holding.{hold_once_law, waits_are_held}
 use Rattle.dap_history.proofs.Telling.{each_report_told}
 use Rattle.dap_history.proofs.laws.run_laws.Goals as goal
 
 pub returns-clause-counted : goal.returns-clause-counted
 returns-clause-counted c = runs_count
+
+pub returns-clause-once : goal.returns-clause-once
+returns-clause-once c = each_orders_once
 
 pub returns-clause-asked : goal.returns-clause-asked
 returns-clause-asked c = each_as_asked (one_program c.text_laws.ensures.program) c.meaning_laws.ensures.joins
