@@ -1,15 +1,17 @@
 -- What the four questions show is what the program is where it stands.
-use Rattle.dap_history.proofs.Common.{AnswersFrom, Block, Configuration, Counting, DivideByZero, Err, EvalFault, EvaluatesIn, Faulted, Frame, Fresh, InitializeArguments, IsStopped, Launched, Name, None, Ok, Option, Overflow, Path, Question, Refusal, RepliesAt, RepliesFrom, RunFault, Scope, Situation, Some, StepAt, Stopped, StoppedLastAt, Subject, [], ap, arith, at, at_most, eqb-true, frame_by_id, frame_name, if◌then◌else◌, inl, inr, launched, length, less_by, option_map_or, refl, refused_by, refused_thread, result_answer, scopes, scopes_from, settings, shown_column, shown_frame, shown_frames, shown_line, situation, subject_in, subst, suc, sym, value, zero, ℕ, ◌+◌, ◌-◌, ◌<◌, ◌∙◌, ◌∷◌, ◌≡◌}
+use Rattle.dap_history.proofs.Common.{AnswersFrom, Block, Configuration, Counting, DivideByZero, Err, EvalFault, EvaluatesIn, Faulted, Frame, Fresh, InitializeArguments, IsStopped, Launched, Name, None, Ok, Option, Overflow, Path, Question, Refusal, RepliesAt, RepliesFrom, RunFault, Scope, Situation, Some, StepAt, Stopped, StoppedLastAt, Subject, [], ap, arith, at, at_most, eqb-true, frame_by_id, frame_name, if◌then◌else◌, inl, inr, launched, length, less_by, option_map_or, refl, refused_by, refused_thread, result_answer, scopes, scopes_from, settings, shown_column, shown_frame, shown_frames, shown_line, situation, slice_get, subject_in, subst, suc, sym, value, zero, ℕ, ◌+◌, ◌-◌, ◌<◌, ◌∙◌, ◌∷◌, ◌≡◌, ◌≢◌}
 use Rattle.std.proofs.Common.{List, Bool, true, false, Result}
-use Rattle.std.specs.Prelude.{nat_eq, ℤ, option_map, drop, codes}
+use Rattle.std.specs.Prelude.{nat_eq, ℤ, option_map, option_and_then, drop, codes}
 use Rattle.dap_msg.specs.declared.command.Command.TheVariants as command
 use Rattle.dap_msg.specs.declared.question.Question.TheVariants as question
 use Rattle.dap_msg.specs.declared.question.Shown.{Shown as WhatIsShown}
 use Rattle.dap_msg.specs.declared.question.Shown.TheVariants as shown_as
 use Rattle.dap_msg.specs.declared.outgoing.Refusal.TheVariants as refusal
-use Rattle.pl0_tree.specs.Tree.{variables as declared}
+use Rattle.pl0_tree.specs.Tree.{Procedure, procedures, variables as declared}
+use Rattle.pl0_tree.specs.Scope.{block_at, procedure_at}
+use Rattle.pl0_tree.specs.Blocks.{name_of_block, procedure_name}
 use Rattle.pl0_meaning.specs.Values.{frame_at}
-use Rattle.pl0_meaning.specs.Frames.{IsLinkedTo, AreLinked}
+use Rattle.pl0_meaning.specs.Frames.{IsFrameOf, IsLinkedTo, AreLinked}
 use Rattle.pl0_meaning.specs.Laws.{FramesAreLinked, FramesFit}
 use Rattle.dbg_plan.specs.Values.{answered as evaluated}
 use Rattle.dap_history.specs.Frames.{named, names_of}
@@ -22,9 +24,30 @@ use Rattle.dap_history.proofs.LineAnswers.{Any, IsCounted, counted_kept, offset_
 
 -- ---- frames
 
-named_so : (main : Block) (q : Path) → IsBlockName main q (frame_name main q)
-named_so main [] = refl
-named_so main (k ∷ q) = λ x is. ap (λ o. option_map_or (λ (y : Name). y.word) o (codes "main")) is
+-- a procedure of the program has a name
+has_name : (main : Block) (k : ℕ) (q : Path) (b : Block) → block_at main (k ∷ q) ≡ Some b
+    → (x : Name) × (name_of_block main (k ∷ q) ≡ Some x)
+has_name main k q b found = by_around (block_at main q) refl found
+  where
+    by_around : (o : Option Block) → block_at main q ≡ o → option_and_then (procedure_at k) o ≡ Some b
+        → (x : Name) × (name_of_block main (k ∷ q) ≡ Some x)
+    by_around None none found = absurd cc
+    by_around (Some around) is found = by_procedure (slice_get (procedures around) k) refl found
+      where
+        by_procedure : (p : Option Procedure) → slice_get (procedures around) k ≡ p
+            → option_map (λ (p : Procedure). p.block) p ≡ Some b
+            → (x : Name) × (name_of_block main (k ∷ q) ≡ Some x)
+        by_procedure None none found = absurd cc
+        by_procedure (Some p) there found = (
+          p.name,
+          ap (option_and_then (procedure_name k)) is ∙ ap (option_map (λ (p : Procedure). p.name)) there,
+        )
+
+named_so : (main : Block) (q : Path) (b : Block) → block_at main q ≡ Some b → IsBlockName main q (frame_name main q)
+named_so main [] b found = refl
+named_so main (k ∷ q) b found =
+    let x = has_name main k q b found in
+    (x.0, x.1, ap (λ o. option_map_or (λ (y : Name). y.word) o (codes "main")) x.1)
 
 -- how a client counts, by what it said
 abbrev counting_of : InitializeArguments → Counting
@@ -32,17 +55,19 @@ counting_of asked =
     record { lines = less_by asked.lines_start_at_1; columns = less_by asked.columns_start_at_1 }
 
 module _ (main : Block) (asked : InitializeArguments) where
-  frame_so : (f : Frame) (id : ℕ) → ShowsFrame main asked f id (shown_frame main (counting_of asked) f id)
-  frame_so f id = record {
+  frame_so : (f : Frame) (id : ℕ) → IsFrameOf main f
+      → ShowsFrame main asked f id (shown_frame main (counting_of asked) f id)
+  frame_so f id fits = record {
     id_is = refl;
-    name_is = named_so main f.block;
+    name_is = named_so main f.block fits.block fits.found;
     line_is = λ s is. ap (λ o. shown_line (counting_of asked) (option_map (λ (x : StepAt). x.place) o)) is;
     column_is = λ s is. ap (λ o. shown_column (counting_of asked) (option_map (λ (x : StepAt). x.place) o)) is;
   }
 
-  frames_so : (c : Configuration) → ShowsFrames main asked c (shown_frames main (counting_of asked) c)
-  frames_so [] = tt
-  frames_so (f ∷ below) = (frame_so f (length below + 1), frames_so below)
+  frames_so : (c : Configuration) → AreLinked main c
+      → ShowsFrames main asked c (shown_frames main (counting_of asked) c)
+  frames_so [] linked = tt
+  frames_so (f ∷ below) linked = (frame_so f (length below + 1) linked.0, frames_so below linked.2)
 
 page_is : {A : Type 0} (start levels : ℕ) (xs : List A) → at_most levels (drop start xs) ≡ page start levels xs
 page_is start zero xs = refl
@@ -95,10 +120,11 @@ frame_above g below i f is = by_test (nat_eq (length below) i) refl
 
 -- a frame's scope in front of those of the frame that its link names
 linked_scopes : (main : Block) (whole : Configuration) (f g : Frame) (id : ℕ) (word : List ℕ) (more : List Scope)
-    → IsBlockName main f.block word → HasId whole (f.link + 1) g → ShowsScopes main whole g (f.link + 1) more
+    → IsBlockName main f.block word → f.block ≢ [] → HasId whole (f.link + 1) g
+    → ShowsScopes main whole g (f.link + 1) more
     → ShowsScopes main whole f id (record { name = word; reference = id } ∷ more)
-linked_scopes main whole f g id word [] named_ has shown = absurd shown
-linked_scopes main whole f g id word (t ∷ more) named_ has shown = (named_, refl, (g, has, shown))
+linked_scopes main whole f g id word [] named_ inner has shown = absurd shown
+linked_scopes main whole f g id word (t ∷ more) named_ inner has shown = (named_, refl, inner, (g, has, shown))
 
 has_next : (c : Configuration) (i : ℕ) (f : Frame) → frame_at c i ≡ Some f → HasId c (i + 1) f
 has_next c i f is = let e : suc i ≡ i + 1 = omega arith in subst (λ n. HasId c n f) e is
@@ -112,23 +138,24 @@ module _ (main : Block) (whole : Configuration) where
     abbrev own : List Scope
     own = record { name = frame_name main g.block; reference = i + 1 } ∷ scopes_from main below g.link
 
-    by_block : (q : Path) → g.block ≡ q → IsLinkedTo q g.link below → ShowsScopes main whole g (i + 1) own
-    by_block [] block_is links =
+    by_block : (q : Path) → g.block ≡ q → IsFrameOf main g → IsLinkedTo q g.link below
+        → ShowsScopes main whole g (i + 1) own
+    by_block [] block_is fits links =
         subst (λ b. ShowsScopes main whole g (i + 1)
         (record { name = frame_name main g.block; reference = i + 1 } ∷ scopes_from main b g.link)) (sym links)
-        (named_so main g.block, refl, block_is)
-    by_block (k ∷ q) block_is links =
+        (named_so main g.block fits.block fits.found, refl, block_is)
+    by_block (k ∷ q) block_is fits links =
         linked_scopes main whole g links.0 (i + 1) (frame_name main g.block) (scopes_from main below g.link)
-        (named_so main g.block) (has_next whole g.link links.0 (lower g.link links.0 links.1))
+        (named_so main g.block fits.block fits.found) (λ is. let e = sym block_is ∙ is in absurd cc) (has_next whole g.link links.0 (lower g.link links.0 links.1))
         (deeper g.link links.0 links.1)
 
-    by_test : IsLinkedTo g.block g.link below → (f : Frame) (b : Bool)
+    by_test : IsFrameOf main g → IsLinkedTo g.block g.link below → (f : Frame) (b : Bool)
         → (if b then Some g else frame_at below i) ≡ Some f
         → ShowsScopes main whole f (i + 1) (if b then own else scopes_from main below i)
-    by_test links f true is =
+    by_test fits links f true is =
         let same : g ≡ f = cc in
-        subst (λ h. ShowsScopes main whole h (i + 1) own) same (by_block g.block refl links)
-    by_test links f false is = deeper i f is
+        subst (λ h. ShowsScopes main whole h (i + 1) own) same (by_block g.block refl fits links)
+    by_test fits links f false is = deeper i f is
 
   scopes_so : (c : Configuration) → AreLinked main c
       → ((j : ℕ) (g : Frame) → frame_at c j ≡ Some g → frame_at whole j ≡ Some g)
@@ -136,7 +163,7 @@ module _ (main : Block) (whole : Configuration) where
   scopes_so [] linked within i f is = absurd cc
   scopes_so (g ∷ below) linked within i f is =
       by_test g below (λ j h there. within j h (frame_above g below j h there))
-      (scopes_so below linked.2 (λ j h there. within j h (frame_above g below j h there))) i linked.1 f
+      (scopes_so below linked.2 (λ j h there. within j h (frame_above g below j h there))) i linked.0 linked.1 f
       (nat_eq (length below) i) is
 
 -- ---- variables
@@ -211,7 +238,7 @@ module _ (linked : FramesAreLinked) (fit : FramesFit) (l : Launched) (n : ℕ) (
       → RepliesFrom of c q reply → Shows l counting c q reply
   shows_so (question.StackTrace a) reply allowed is = record {
     all = shown_frames l.program (counting_of counting) c;
-    shown = frames_so l.program counting c;
+    shown = frames_so l.program counting c (linked l.program n c there);
     result_is = on_one a.thread_id reply _ allowed is
         ∙ ap (λ frames. Ok (shown_as.StackTrace l.path frames (length c)))
         (page_is a.start_frame a.levels (shown_frames l.program (counting_of counting) c));

@@ -1,6 +1,6 @@
 -- States the law of the questions: what `stackTrace`, `scopes`, `variables` and `evaluate` show of the program where it
 -- stands.
-use Rattle.std.specs.Prelude.{◌≡◌, ◌⊎◌, ◌∷◌, [], ℕ, zero, suc, ◌+◌, ◌-◌, ℤ, List, length, drop, take, codes, None, Some, Result, Ok, Err}
+use Rattle.std.specs.Prelude.{◌≡◌, ◌≢◌, ◌⊎◌, ◌∷◌, [], ℕ, zero, suc, ◌+◌, ◌-◌, ℤ, List, length, drop, take, codes, None, Some, Result, Ok, Err}
 use Rattle.dap_msg.specs.Commands.{name_of}
 use Rattle.dap_msg.specs.declared.request.Request.{Request}
 use Rattle.dap_msg.specs.declared.requests.initialize.InitializeArguments.{InitializeArguments}
@@ -46,7 +46,7 @@ HasNone c id = (f : Frame) → ¬ HasId c id f
 -- the name of a block's frames: `main`, or the procedure's
 abbrev pub IsBlockName : Block → Path → List ℕ → Type 0
 IsBlockName main [] word = word ≡ codes "main"
-IsBlockName main (k ∷ q) word = (x : Name) → name_of_block main (k ∷ q) ≡ Some x → word ≡ x.word
+IsBlockName main (k ∷ q) word = (x : Name) × (name_of_block main (k ∷ q) ≡ Some x) × (word ≡ x.word)
 
 -- What is shown of a frame: its id, its name, and where its next step stands, as the client counts.
 pub record ShowsFrame (main : Block) (counting : InitializeArguments) (f : Frame) (id : ℕ) (shown : StackFrame)
@@ -80,12 +80,12 @@ pub record ShowsStack (l : Launched) (counting : InitializeArguments) (c : Confi
 -- ---- scopes
 
 -- The scopes of a frame: its own, with its id as the reference; then those of the frame that its static link names; the
--- main block's is the last.
+-- main block's is the last, and stands there once.
 abbrev pub ShowsScopes : Block → Configuration → Frame → ℕ → List Scope → Type 0
 ShowsScopes main c f id [] = ⊥
 ShowsScopes main c f id (s ∷ []) = IsBlockName main f.block s.name × (s.reference ≡ id) × (f.block ≡ [])
 ShowsScopes main c f id (s ∷ t ∷ more) =
-    IsBlockName main f.block s.name × (s.reference ≡ id)
+    IsBlockName main f.block s.name × (s.reference ≡ id) × (f.block ≢ [])
     × ((g : Frame) × HasId c (f.link + 1) g × ShowsScopes main c g (f.link + 1) (t ∷ more))
 
 -- ---- variables
