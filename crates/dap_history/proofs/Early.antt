@@ -4,7 +4,7 @@ use Rattle.std.proofs.Common.{List}
 use Rattle.std.specs.Prelude.{map, Result}
 use Rattle.dap_msg.specs.declared.command.Command.TheVariants as command
 use Rattle.dap_msg.specs.declared.outgoing.EventBody.TheVariants as event
-use Rattle.dap_msg.specs.declared.outgoing.StopReason.TheVariants as reason
+use Rattle.dap_history.proofs.Told.{by_stop_mark}
 use Rattle.dap_history.proofs.Reacted.{IsCalm, Reacted, by_answering, by_reaction}
 
 abbrev pub IsEarly : Situation → Type 0
@@ -32,11 +32,7 @@ orders_late (o ∷ os) is = neither (last_such order_mark os) (order_mark o) (or
 
 event_late : (e : EventBody) → ¬ IsEarlyMark (event_mark e)
 event_late event.Initialized is = is
-event_late (event.Stopped reason.Breakpoint) is = is
-event_late (event.Stopped reason.Step) is = is
-event_late (event.Stopped reason.Entry) is = is
-event_late (event.Stopped reason.Pause) is = is
-event_late (event.Stopped (reason.Exception x)) is = is
+event_late (event.Stopped why) is = by_stop_mark (λ s. ¬ IsEarly s) (λ early. early) (λ early. early) why is
 event_late (event.Output v) is = is
 event_late (event.Log text) is = is
 event_late (event.Exited code) is = is

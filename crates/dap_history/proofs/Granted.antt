@@ -1,16 +1,14 @@
 -- What a request tells besides its answer, and that a run that is granted is ordered.
-use Rattle.dap_history.proofs.Common.{Accepted, All-nil, Body, Causes, Command, Configuring, Content, Effect, EventBody, History, Incoming, IsHistoryOf, IsOutput, IsSome, Launched, None, Ok, Option, PlainReport, Reaction, Reason, Reply, Rest, Situation, SliceOutcome, Some, Step, [], ap, due_first, enters, first_logs, go, held_effect, inl, inr, is_some, last_such, mode_by, plan, refl, reply_of, report_effect, situation, stop_of, stopped_events, subst, sym, unwrap_or, waiting_pause, ◌++◌, ◌∙◌, ◌∷◌, ◌≡◌, ◌⊎◌}
+use Rattle.dap_history.proofs.Common.{Accepted, All-nil, Body, Causes, Command, Configuring, Content, Effect, EventBody, History, IsOutput, IsSome, Launched, None, Ok, Option, PlainReport, Reaction, Reason, Reply, Situation, SliceOutcome, Some, [], ap, due_first, enters, first_logs, go, held_effect, inl, inr, is_some, last_such, mode_by, plan, refl, reply_of, report_effect, situation, stop_of, stopped_events, subst, sym, unwrap_or, waiting_pause, ◌∙◌, ◌≡◌, ◌⊎◌}
 use Rattle.std.proofs.Common.{List, Bool, true, false}
 use Rattle.dap_msg.specs.declared.command.Command.TheVariants as command
 use Rattle.dbg_runner.specs.declared.outcome.SliceOutcome.TheVariants as slice
 use Rattle.dap_history.specs.Stops.{TellsFirst, TellsBy, EachReplyIsTold}
 use Rattle.dap_history.specs.Runs.{IsExcused, GrantedRunsAreOrdered, HeldRunsGoOn}
-use Rattle.dap_history.proofs.Along.{any_events, along}
-use Rattle.dap_history.proofs.Each.{EachTaken, each_kept, each_first}
 use Rattle.dap_history.proofs.Told.{stop_of_logs}
 use Rattle.dap_history.proofs.Silent.{first_at}
 use Rattle.dap_history.proofs.Reacted.{IsCalm, Reacted, by_refusing, by_answering, by_setting, by_starting, by_resuming, by_ending, by_retreating, by_interrupting, by_closing, by_reaction}
-use Rattle.dap_history.proofs.GoingBack.{Anything, anything_kept}
+use Rattle.dap_history.proofs.Judged.{was_taken}
 use Rattle.dap_history.proofs.Once.{quiet_in}
 use Rattle.dap_history.proofs.Telling.{logs_output}
 use Rattle.dap_history.proofs.Holding.{result_of}
@@ -87,18 +85,6 @@ report_run past r _ is none = absurd cc
 
 -- ---- the laws
 
-abbrev Any : Incoming → Type 0
-Any e = Unit {0}
-
-module _ (events : List Incoming) (past : History) (rest : Rest) (history : IsHistoryOf events past rest)
-    (before : History) (step : Step) (after : History) (past_is : past ≡ before ++ step ∷ after) where
-  each : EachTaken Any (Anything Any) past
-  each = along Any (EachTaken Any (Anything Any)) (each_kept Any (Anything Any) (anything_kept Any))
-      (each_first Any (Anything Any) tt) events past rest (any_events events) history
-
-  causes : Causes before step.item step
-  causes = (each.each before step after past_is).causes
-
 pub each_reply_told : EachReplyIsTold
 each_reply_told events past rest history before step after request past_is item_is =
     subst (λ (e : Effect). TellsBy (situation before) request.body e.events) (sym is.2.effect_is)
@@ -106,7 +92,9 @@ each_reply_told events past rest history before step after request past_is item_
     (λ reaction. reaction_tells before) is.1)
   where
     is : Causes before (Content (Some request)) step
-    is = subst (λ i. Causes before i step) item_is (causes events past rest history before step after past_is)
+    is =
+        subst (λ i. Causes before i step) item_is
+        (was_taken events past rest history before step after past_is).causes
 
 pub granted_ordered : GrantedRunsAreOrdered
 granted_ordered events past rest history before step after request past_is grants asks =
@@ -115,7 +103,9 @@ granted_ordered events past rest history before step after request past_is grant
     (λ reaction reacted granted. reaction_done before reacted grants.body granted asks) is.1 granted)
   where
     is : Causes before (Content (Some request)) step
-    is = subst (λ i. Causes before i step) grants.item_is (causes events past rest history before step after past_is)
+    is =
+        subst (λ i. Causes before i step) grants.item_is
+        (was_taken events past rest history before step after past_is).causes
 
     granted : is.0.result ≡ Ok grants.body
     granted = ap (λ a. unwrap_or (result_of a) (Ok grants.body)) (sym is.2.answer_is ∙ grants.answer_is)
@@ -126,4 +116,6 @@ held_go_on events past rest history before step after r past_is item_is held_is 
     (report_run before r r.outcome held_is none)
   where
     is : Causes before (Accepted r) step
-    is = subst (λ i. Causes before i step) item_is (causes events past rest history before step after past_is)
+    is =
+        subst (λ i. Causes before i step) item_is
+        (was_taken events past rest history before step after past_is).causes

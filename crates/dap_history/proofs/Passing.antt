@@ -7,7 +7,6 @@ use Rattle.dap_msg.specs.declared.command.CommandName.TheVariants as name
 use Rattle.dap_msg.specs.declared.command.Supported.TheVariants as supported
 use Rattle.dap_msg.specs.declared.outgoing.Outgoing.TheVariants.{Answer}
 use Rattle.dap_msg.specs.declared.outgoing.EventBody.TheVariants as event
-use Rattle.dap_msg.specs.declared.outgoing.StopReason.TheVariants as stop
 use Rattle.dbg_runner.specs.Lawful.{is_held, due_in as due_of}
 use Rattle.dbg_runner.specs.declared.outcome.SliceOutcome.TheVariants as slice
 use Rattle.dap_history.specs.Readings.{position}
@@ -15,6 +14,7 @@ use Rattle.dap_history.proofs.Texts.{OneProgram}
 use Rattle.dap_history.proofs.Along.{IsTaken}
 use Rattle.dap_history.proofs.Silent.{GoesBy, no_go, of_text, all_silent}
 use Rattle.dap_history.proofs.Outputs.{outputs_mark, GoesAs, no_run, as_text, report_goes, report_launches}
+use Rattle.dap_history.proofs.Told.{by_stop_mark}
 use Rattle.dap_history.proofs.Standing.{MarkIs, mark_else, IsAnswer}
 use Rattle.dap_history.proofs.Progress.{Progress, report_program}
 use Rattle.dap_history.proofs.Reacted.{replied}
@@ -54,11 +54,7 @@ events_not P stopped faulted ended (e ∷ es) is =
   where
     event_not : (e : EventBody) → ¬ MarkIs P (event_mark e)
     event_not event.Initialized is = is
-    event_not (event.Stopped stop.Breakpoint) is = stopped is
-    event_not (event.Stopped stop.Step) is = stopped is
-    event_not (event.Stopped stop.Entry) is = stopped is
-    event_not (event.Stopped stop.Pause) is = stopped is
-    event_not (event.Stopped (stop.Exception x)) is = faulted is
+    event_not (event.Stopped why) is = by_stop_mark (λ s. ¬ P s) stopped faulted why is
     event_not (event.Output v) is = is
     event_not (event.Log text) is = is
     event_not (event.Exited code) is = ended is

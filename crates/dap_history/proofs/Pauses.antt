@@ -223,15 +223,15 @@ read_first = inr (refl, λ w. absurd (none_first w.early w.step w.later w.past_i
 
 -- ---- what stops with that reason
 
+-- no position is due for a pause
+no_pause : (why : Reason) → ¬ (Some (stop_of why) ≡ Some stop.Pause)
+no_pause reason.Breakpoint is = absurd cc
+no_pause reason.Entry is = absurd cc
+no_pause reason.Step is = absurd cc
+
 reply_not : (s : Situation) (past : History) (o : Option StopReason) → StopsBy s past o → ¬ (o ≡ Some stop.Pause)
 reply_not s past None no_stop is = absurd cc
-reply_not s past (Some other) (at_first l r configuring launch due_is) is = reason_not r
-    (let e : stop_of r ≡ stop.Pause = cc in e)
-  where
-    reason_not : (r : Reason) → ¬ (stop_of r ≡ stop.Pause)
-    reason_not reason.Breakpoint is = absurd cc
-    reason_not reason.Entry is = absurd cc
-    reason_not reason.Step is = absurd cc
+reply_not s past (Some other) (at_first l r configuring launch due_is) is = no_pause r is
 
 launch_not : (launch : Launch) (file : Option (List ℕ)) (reply : Reply) → Launches launch.arguments file reply
     → ¬ (last_such stop_of_event reply.effect.events ≡ Some stop.Pause)
@@ -243,16 +243,11 @@ launch_not launch (Some text) reply (inr is) stops_ =
     let e = sym (ap (λ (r : Reply). last_such stop_of_event r.effect.events) is.reply_is) ∙ stops_ in absurd cc
 
 module _ (past : History) (r : PlainReport) where
-  reason_not_pause : (why : Reason) → ¬ (Some (stop_of why) ≡ Some stop.Pause)
-  reason_not_pause reason.Breakpoint is = absurd cc
-  reason_not_pause reason.Entry is = absurd cc
-  reason_not_pause reason.Step is = absurd cc
-
   report_pauses : (e : SliceOutcome) → last_such stop_of_event (report_effect past r e).events ≡ Some stop.Pause
       → (e ≡ slice.Held) × (waiting_pause past ≡ true)
   report_pauses slice.More is = let e = sym (outputs_stop_not past r) ∙ is in absurd cc
   report_pauses (slice.Due why) is =
-      absurd (reason_not_pause why (sym (outputs_stop past r (stopped_events (stop_of why))) ∙ is))
+      absurd (no_pause why (sym (outputs_stop past r (stopped_events (stop_of why))) ∙ is))
   report_pauses slice.Held is = by_pause (waiting_pause past) refl is
     where
       by_pause : (pauses : Bool) → waiting_pause past ≡ pauses

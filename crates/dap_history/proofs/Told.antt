@@ -1,10 +1,12 @@
 -- What numbers and logs say among events, and to which situation a stop leads.
-use Rattle.dap_history.proofs.Common.{Breakpoint, Event, EventBody, Log, Reason, RunFault, Some, Stopped, [], ap, exception_of, filter_map, last_such, log_events, log_of, message_mark, output, refl, stop_of, stop_of_event, text_of_log, told_reason, ℕ, ◌++◌, ◌∙◌, ◌∷◌, ◌≡◌}
+use Rattle.dap_history.proofs.Common.{Breakpoint, Event, EventBody, Faulted, Log, Reason, RunFault, Situation, Some, StopReason, Stopped, [], ap, exception_of, filter_map, last_such, log_events, log_of, message_mark, output, refl, stop_of, stop_of_event, text_of_log, told_reason, ℕ, ◌++◌, ◌∙◌, ◌∷◌, ◌≡◌}
 use Rattle.std.proofs.Common.{List, ℤ}
 use Rattle.std.specs.Prelude.{map}
 use Rattle.dap_msg.specs.declared.outgoing.EventBody.TheVariants as event
+use Rattle.dap_msg.specs.declared.outgoing.StopReason.TheVariants as stop
 use Rattle.dbg_plan.specs.declared.mode.Reason.TheVariants as reason
 use Rattle.pl0_meaning.specs.declared.RunFault.TheVariants as run_fault
+use Rattle.dap_history.specs.Readings.{stop_mark}
 use Rattle.dap_history.specs.Stops.{told_fault}
 use Rattle.dap_history.proofs.Readings.{or_else-none}
 
@@ -61,6 +63,11 @@ module _ (bs : List Breakpoint) where
   mark_of_logs (l ∷ ls) es = or_else-none _ ∙ mark_of_logs ls es
 
 -- ---- stops
+
+-- what is so of Stopped and of Faulted is so of where a stop leads
+pub by_stop_mark : (P : Situation → Type 0) → P Stopped → P Faulted → (why : StopReason) → P (stop_mark why)
+by_stop_mark P stopped faulted (stop.Exception x) = faulted
+by_stop_mark P stopped faulted _ = stopped
 
 pub stop_marks : (r : Reason) → message_mark (Event (event.Stopped (stop_of r))) ≡ Some Stopped
 stop_marks reason.Breakpoint = refl
