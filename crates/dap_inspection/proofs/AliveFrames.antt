@@ -1,5 +1,5 @@
 -- Frames by their ids.
-use Rattle.dap_inspection.proofs.Common.{Configuration, Frame, IsAlive, None, Some, [], ap, arith, cases_eq, frame_at, frame_at-below, frame_at-top, frame_by_id, inl, inr, length, refl, suc, zero, ℕ, ◌<◌, ◌∙◌, ◌∷◌, ◌≡◌, ◌≤◌}
+use Rattle.dap_inspection.proofs.Common.{Configuration, Frame, IsAlive, None, Some, [], ap, arith, cases_eq, frame_at, frame_at-below, frame_at-top, frame_by_id, inl, inr, length, refl, suc, sym, zero, ℕ, ◌<◌, ◌∙◌, ◌∷◌, ◌≡◌, ◌≤◌}
 
 none_above : (c : Configuration) (i : ℕ) → length c ≤ i → frame_at c i ≡ None
 none_above [] i le = refl
@@ -19,3 +19,8 @@ there (f ∷ below) i lt = elim (cases_eq (length below) i) [
 -- the frame with an id is the one of the number below
 pub by_id : (c : Configuration) (id i : ℕ) → IsAlive c id i → frame_by_id c id ≡ frame_at c i
 by_id c id i alive = ap (frame_by_id c) (let e : id ≡ suc i = omega (arith, alive.is) in e)
+
+pub not_none : (c : Configuration) (id i : ℕ) → IsAlive c id i → frame_by_id c id ≡ None → ⊥
+not_none c id i alive none =
+    let f = there c i alive.within in
+    let e = sym none ∙ by_id c id i alive ∙ f.1 in cc

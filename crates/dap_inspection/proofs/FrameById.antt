@@ -1,22 +1,16 @@
 -- The scopes of the frame with an id, if it is alive.
-use Rattle.dap_inspection.proofs.Common.{Configuration, List, Scope, Subject, ap, arith, frame_by_id, length, refl, scopes_from, suc, sym, zero, ℕ, ◌-◌, ◌<◌, ◌∙◌, ◌≡◌, ◌≢◌, ◌≤◌}
-use Rattle.std.proofs.Common.{Ok, Err}
+use Rattle.dap_inspection.proofs.Common.{Block, Configuration, IsAlive, List, Scope, Subject, ap, arith, frame_by_id, scopes_from, sym, ℕ, ◌-◌, ◌∙◌, ◌≡◌}
+use Rattle.std.proofs.Common.{Ok}
 use Rattle.dap_msg.specs.declared.question.Shown.TheVariants as shown
-use Rattle.dap_msg.specs.declared.outgoing.Refusal.TheVariants as refusal
 use Rattle.dap_history.specs.Inspection.{scopes}
-use Rattle.dap_inspection.proofs.AliveFrames.{none_alive, there}
+use Rattle.dap_inspection.proofs.AliveFrames.{by_id, there}
 
-pub none_with_zero : (of : Subject) (c : Configuration) (id : ℕ) → id ≡ 0
-    → Err refusal.UnknownFrame ≡ scopes of id c (frame_by_id c id)
-none_with_zero of c id is = sym (ap (λ n. scopes of id c (frame_by_id c n)) is)
-
-pub none_with_id : (of : Subject) (c : Configuration) (id : ℕ) → length c < id
-    → Err refusal.UnknownFrame ≡ scopes of id c (frame_by_id c id)
-none_with_id of c id above = sym (ap (scopes of id c) (none_alive c id above))
-
-pub scopes_with_id : (of : Subject) (c : Configuration) (id : ℕ) (found : List Scope) → id ≢ 0 → id ≤ length c →
-    found ≡ scopes_from of.program c (id - 1) → Ok (shown.Scopes found) ≡ scopes of id c (frame_by_id c id)
-scopes_with_id of c zero found positive alive is = absurd (positive refl)
-scopes_with_id of c (suc i) found positive alive is =
-    let at = there c i (omega (arith, alive)) in
-    ap (λ s. Ok (shown.Scopes s)) is ∙ sym (ap (λ o. scopes of (suc i) c o) at.1)
+pub scopes_with_id : (of : Subject) (main : Block) (c : Configuration) (id i : ℕ) (found : List Scope)
+    → of.program ≡ main → IsAlive c id i → found ≡ scopes_from main c i
+    → Ok (shown.Scopes found) ≡ scopes of id c (frame_by_id c id)
+scopes_with_id of main c id i found program alive is =
+    let f = there c i alive.within in
+    let number : i ≡ id - 1 = omega (arith, alive.is) in
+    ap (λ l. Ok (shown.Scopes l))
+    (is ∙ ap (λ b. scopes_from b c i) (sym program) ∙ ap (scopes_from of.program c) number)
+    ∙ sym (ap (scopes of id c) (by_id c id i alive ∙ f.1))

@@ -2,16 +2,10 @@
 use Rattle.std.specs.Prelude.{◌≡◌, ℕ, zero, suc, min, Option, Some, None}
 use Rattle.dap_msg.specs.declared.outgoing.StackFrame.{StackFrame}
 use Rattle.dap_msg.specs.declared.outgoing.Scope.{Scope}
-use Rattle.dap_msg.specs.declared.requests.initialize.InitializeArguments.{InitializeArguments}
 use Rattle.pl0_tree.specs.Tree.{Block}
 use Rattle.pl0_tree.specs.Blocks.{frame_name}
 use Rattle.pl0_meaning.specs.Values.{Frame}
-use Rattle.dap_history.specs.Breakpoints.{offset}
 use Rattle.dap_history.specs.Frames.{Counting, shown_frame}
-
--- how a client with these settings counts
-abbrev pub counting_of : InitializeArguments → Counting
-counting_of settings = record { lines = offset settings.lines_start_at_1; columns = offset settings.columns_start_at_1 }
 
 -- how many of the frames that are left are asked for: at most this many, or all where it is 0
 abbrev pub count_shown : ℕ → ℕ → ℕ

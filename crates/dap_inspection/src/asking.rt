@@ -1,10 +1,10 @@
 //! The answer to a question, by its kind.
 
-ghost use Rattle.std.specs.Prelude.{IfOk};
+ghost use Rattle.std.specs.Prelude.{IfOk, IsOk};
 ghost use Rattle.pl0_machine.specs.Machine.{frames};
 ghost use Rattle.dbg_plan.specs.Debugged.{machine_of, IsConsidered};
 ghost use Rattle.dap_history.specs.Inspection.{RepliesFrom};
-ghost use Rattle.dap_inspection.specs.Questions.{subject_of};
+ghost use Rattle.dap_inspection.specs.Questions.{subject_of, NamesNothingLive};
 
 use crate::evaluating::evaluate;
 use crate::frames::stack_trace;
@@ -27,8 +27,10 @@ pub fn ask(
     question: &Question,
 ) -> Result<Result<Shown, Refusal>, AllocError>
     requires { IsConsidered debuggee.now }
-    ensures { IfOk result (λ r. RepliesFrom
+    ensures replies { IfOk result (λ r. RepliesFrom
         (subject_of debuggee.now path.now settings) (frames (machine_of debuggee.now)) question.now r) }
+    // The refusal of a thread, a frame or a reference that there isn't takes no memory.
+    ensures enough { NamesNothingLive (frames (machine_of debuggee.now)) question.now → IsOk result }
 {
     match question {
         Question::StackTrace(asked) => stack_trace(alloc, debuggee, path, settings, *asked),

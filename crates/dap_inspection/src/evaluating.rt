@@ -1,8 +1,9 @@
 //! The answer to `evaluate`.
 
-ghost use Rattle.std.specs.Prelude.{◌≡◌, ◌<◌, IfOk};
+ghost use Rattle.std.specs.Prelude.{◌≡◌, ◌<◌, None, IfOk, IsOk};
 ghost use Rattle.pl0_machine.specs.Machine.{program, frames, frame_of, depth_of};
 ghost use Rattle.dbg_plan.specs.Debugged.{machine_of, debugged_program, IsConsidered};
+ghost use Rattle.dap_history.specs.Frames.{frame_by_id};
 ghost use Rattle.dap_history.specs.Inspection.{Subject, RepliesFrom, result_answer};
 ghost use Rattle.dap_msg.specs.declared.question.Question.TheVariants as question;
 ghost use Rattle.dap_inspection.specs.Evaluating.{IsReadIn};
@@ -27,8 +28,9 @@ pub(crate) fn evaluate(
     asked: &EvaluateArguments,
 ) -> Result<Result<Shown, Refusal>, AllocError>
     requires { IsConsidered debuggee.now }
-    ensures { (of : Subject) → of.program ≡ debugged_program debuggee.now →
+    ensures replies { (of : Subject) → of.program ≡ debugged_program debuggee.now →
         IfOk result (λ r. RepliesFrom of (frames (machine_of debuggee.now)) (question.Evaluate asked.now) r) }
+    ensures enough { frame_by_id (frames (machine_of debuggee.now)) asked.now.frame_id ≡ None → IsOk result }
 {
     let machine = debuggee.machine();
     let Some(frame) = frame_with_id(machine, asked.frame_id) else {

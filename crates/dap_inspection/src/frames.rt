@@ -1,14 +1,14 @@
 //! The answer to `stackTrace`.
 
-ghost use Rattle.std.specs.Prelude.{◌≡◌, ◌-◌, ◌<◌, ◌≤◌, IfOk};
+ghost use Rattle.std.specs.Prelude.{◌≡◌, ◌≢◌, ◌-◌, ◌<◌, ◌≤◌, IfOk, IsOk};
 ghost use Rattle.pl0_machine.specs.Machine.{program, frames, frame_of, depth_of};
 ghost use Rattle.dbg_plan.specs.Debugged.{machine_of, IsConsidered};
 ghost use Rattle.dap_history.specs.Breakpoints.{offset};
 ghost use Rattle.dap_history.specs.Frames.{frames_asked};
 ghost use Rattle.dap_history.specs.Inspection.{RepliesFrom};
 ghost use Rattle.dap_msg.specs.declared.question.Question.TheVariants as question;
-ghost use Rattle.dap_inspection.specs.Questions.{subject_of};
-ghost use Rattle.dap_inspection.specs.Showing.{counting_of, count_shown, IsShownAs};
+ghost use Rattle.dap_inspection.specs.Questions.{counting_of, subject_of};
+ghost use Rattle.dap_inspection.specs.Showing.{count_shown, IsShownAs};
 
 use crate::frame_name::frame_name;
 use dap_msg::{InitializeArguments, Items, Refusal, Shown, StackFrame, StackTraceArguments, Text};
@@ -30,8 +30,9 @@ pub(crate) fn stack_trace(
     asked: StackTraceArguments,
 ) -> Result<Result<Shown, Refusal>, AllocError>
     requires { IsConsidered debuggee.now }
-    ensures { IfOk result (λ r. RepliesFrom (subject_of debuggee.now path.now settings)
+    ensures replies { IfOk result (λ r. RepliesFrom (subject_of debuggee.now path.now settings)
         (frames (machine_of debuggee.now)) (question.StackTrace asked) r) }
+    ensures enough { asked.thread_id ≢ 1 → IsOk result }
 {
     if asked.thread_id != 1 {
         return Ok(Err(Refusal::UnknownThread));

@@ -1,10 +1,10 @@
 //! The answer to `variables`.
 
-ghost use Rattle.std.specs.Prelude.{◌≡◌, ◌<◌, IfOk, length, map};
+ghost use Rattle.std.specs.Prelude.{◌≡◌, ◌<◌, None, IfOk, IsOk, length, map};
 ghost use Rattle.pl0_tree.specs.Plain.{plain_name};
 ghost use Rattle.pl0_machine.specs.Machine.{program, frames, frame_of, depth_of, variables_of};
 ghost use Rattle.dbg_plan.specs.Debugged.{machine_of, debugged_program, IsConsidered};
-ghost use Rattle.dap_history.specs.Frames.{named};
+ghost use Rattle.dap_history.specs.Frames.{frame_by_id, named};
 ghost use Rattle.dap_history.specs.Inspection.{Subject, RepliesFrom};
 ghost use Rattle.dap_msg.specs.declared.question.Question.TheVariants as question;
 ghost use Rattle.dap_inspection.specs.Locals.{names_in, numbers_of};
@@ -28,8 +28,9 @@ pub(crate) fn variables(
     asked: VariablesArguments,
 ) -> Result<Result<Shown, Refusal>, AllocError>
     requires { IsConsidered debuggee.now }
-    ensures { (of : Subject) → of.program ≡ debugged_program debuggee.now →
+    ensures replies { (of : Subject) → of.program ≡ debugged_program debuggee.now →
         IfOk result (λ r. RepliesFrom of (frames (machine_of debuggee.now)) (question.Variables asked) r) }
+    ensures enough { frame_by_id (frames (machine_of debuggee.now)) asked.variables_reference ≡ None → IsOk result }
 {
     let machine = debuggee.machine();
     let Some(frame) = frame_with_id(machine, asked.variables_reference) else {

@@ -1,13 +1,14 @@
 //! The answer to `scopes`.
 
-ghost use Rattle.std.specs.Prelude.{◌≡◌, ◌-◌, ◌<◌, ◌≤◌, IfOk};
+ghost use Rattle.std.specs.Prelude.{◌≡◌, ◌-◌, ◌<◌, ◌≤◌, None, IfOk, IsOk};
 ghost use Rattle.pl0_machine.specs.Machine.{program, frames, frame_of, depth_of};
 ghost use Rattle.dbg_plan.specs.Debugged.{machine_of, debugged_program, IsConsidered};
-ghost use Rattle.dap_history.specs.Frames.{scopes_from};
+ghost use Rattle.dap_history.specs.Frames.{frame_by_id, scopes_from};
 ghost use Rattle.dap_history.specs.Inspection.{Subject, RepliesFrom};
 ghost use Rattle.dap_msg.specs.declared.question.Question.TheVariants as question;
 ghost use Rattle.dap_inspection.specs.Showing.{IsScopeOf};
 
+use crate::alive::frame_with_id;
 use crate::frame_name::frame_name;
 use dap_msg::{Items, Refusal, Scope, ScopesArguments, Shown};
 use dbg_plan::Debuggee;
@@ -25,15 +26,15 @@ pub(crate) fn scopes(
     asked: ScopesArguments,
 ) -> Result<Result<Shown, Refusal>, AllocError>
     requires { IsConsidered debuggee.now }
-    ensures { (of : Subject) → of.program ≡ debugged_program debuggee.now →
+    ensures replies { (of : Subject) → of.program ≡ debugged_program debuggee.now →
         IfOk result (λ r. RepliesFrom of (frames (machine_of debuggee.now)) (question.Scopes asked) r) }
+    ensures enough { frame_by_id (frames (machine_of debuggee.now)) asked.frame_id ≡ None → IsOk result }
 {
     let machine = debuggee.machine();
-    let id = asked.frame_id as usize;
-    if id == 0 || machine.depth() < id {
+    let Some(frame) = frame_with_id(machine, asked.frame_id) else {
         return Ok(Err(Refusal::UnknownFrame));
-    }
-    let scopes = scope_chain(alloc, machine, id - 1)?;
+    };
+    let scopes = scope_chain(alloc, machine, frame)?;
     Ok(Ok(Shown::Scopes(Items::new(scopes))))
 }
 

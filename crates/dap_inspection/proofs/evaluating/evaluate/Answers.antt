@@ -2,6 +2,7 @@ use Rattle.pl0_machine.specs.Machine.{program, frames, frame_of}
 use Rattle.dbg_plan.specs.Debugged.{machine_of}
 use Rattle.dap_inspection.specs.Alive.{IsAlive}
 use Rattle.dap_inspection.specs.Evaluating.{IsReadIn}
+use Rattle.dap_inspection.proofs.AliveFrames.{not_none}
 use Rattle.dap_inspection.proofs.FrameReadings.{refuses, answers}
 use Rattle.dap_inspection.proofs.evaluating.evaluate.Goals as goal
 use Rattle.dap_inspection.proofs.evaluating.evaluate.Goals.{In_ok-read}
@@ -13,17 +14,22 @@ reads : (c : In_ok-read) → IsReadIn (program (machine_of c.args.debuggee.now))
     (frame_of (machine_of c.args.debuggee.now) c.in-Some.frame) c.args.asked.now.expression c.in_ok-read.read
 reads c = rw (c.machine-machine.ensures, c.as_str.ensures) at c.in_ok-read.ensures
 
-pub returns-in_default-read : goal.returns-in_default-read
-returns-in_default-read c of same =
+pub returns-in_default-read-clause-replies : goal.returns-in_default-read-clause-replies
+returns-in_default-read-clause-replies c of same =
     let m = machine_of c.args.debuggee.now in
-    let at = (goal.at.returns-in_default-read c).In_ok-read in
+    let at = (goal.at.returns-in_default-read-clause-replies c).In_ok-read in
     rw same (refuses (program m) (frames m) c.args.asked.now.frame_id c.in-Some.frame c.args.asked.now.expression
     (alive at) (rw c.in_default-read.is at (reads at)))
 
-pub returns : goal.returns
-returns c of same =
+pub returns-clause-replies : goal.returns-clause-replies
+returns-clause-replies c of same =
     let m = machine_of c.args.debuggee.now in
-    let at = (goal.at.returns c).In_ok-read in
+    let at = (goal.at.returns-clause-replies c).In_ok-read in
     rw same (answers (program m) (frames m) c.args.asked.now.frame_id c.in-Some.frame c.args.asked.now.expression
     (alive at) c.in-Some-read.expression c.evaluate.result _ (rw c.in-Some-read.is at (reads at)) c.evaluate.ensures
     c.answer_of.ensures)
+
+pub returns-in_err-read-clause-enough : goal.returns-in_err-read-clause-enough
+returns-in_err-read-clause-enough c none =
+    absurd (not_none (frames (machine_of c.args.debuggee.now)) c.args.asked.now.frame_id c.in-Some.frame
+    (rw c.machine-machine.ensures at c.in-Some.ensures) none)

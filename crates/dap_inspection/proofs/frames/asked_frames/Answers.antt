@@ -1,6 +1,7 @@
 use Rattle.std.proofs.Common.{◌≡◌, ◌-◌, length, take, rules, arith, ap, ◌∙◌}
 use Rattle.pl0_machine.specs.Machine.{program, frames}
-use Rattle.dap_inspection.specs.Showing.{counting_of, count_shown}
+use Rattle.dap_inspection.specs.Questions.{counting_of}
+use Rattle.dap_inspection.specs.Showing.{count_shown}
 use Rattle.dap_inspection.proofs.AskedFrames.{rest_of, one_more, all_asked}
 use Rattle.dap_inspection.proofs.frames.asked_frames.Goals as goal
 use Rattle.dap_inspection.proofs.frames.asked_frames.Goals.{After-saturating_sub-left}

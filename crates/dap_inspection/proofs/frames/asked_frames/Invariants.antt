@@ -1,6 +1,6 @@
 use Rattle.std.proofs.Common.{◌≡◌, take}
 use Rattle.pl0_machine.specs.Machine.{program, frames}
-use Rattle.dap_inspection.specs.Showing.{counting_of}
+use Rattle.dap_inspection.specs.Questions.{counting_of}
 use Rattle.dap_inspection.proofs.AskedFrames.{rest_of}
 use Rattle.dap_inspection.proofs.frames.asked_frames.Given as goal
 

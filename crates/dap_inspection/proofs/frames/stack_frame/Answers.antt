@@ -1,7 +1,8 @@
 use Rattle.std.proofs.Common.{◌≡◌, ◌-◌, ◌∙◌, sym, subst, arith}
 use Rattle.pl0_machine.specs.Machine.{program_of, frame_of, Shows}
 use Rattle.dap_msg.specs.declared.outgoing.StackFrame.{StackFrame}
-use Rattle.dap_inspection.specs.Showing.{counting_of, IsShownAs}
+use Rattle.dap_inspection.specs.Questions.{counting_of}
+use Rattle.dap_inspection.specs.Showing.{IsShownAs}
 use Rattle.dap_inspection.proofs.ShownFrame.{shown_within, shown_as}
 use Rattle.dap_inspection.proofs.frames.stack_frame.Goals as goal
 use Rattle.dap_inspection.proofs.frames.stack_frame.Goals.{After-frame-view}
