@@ -4,7 +4,8 @@ pub mod Stays
 -- A reply that nothing follows, and whose step is quiet, leaves the phase as it is; for `answer` and `refuse`, and
 -- through other lemmas for more.
 pub mod Unmoved
--- What is replied in the situation of a phase; for `begin` and `close`, and through other lemmas for more.
+-- What is replied in the situation of a phase; for `back`, `begin`, `close`, `set_plan`, and through other lemmas for
+-- more.
 pub mod Situations
 -- The rows of the chooser are those of the table; for the functions of `choosing`.
 pub mod Rows

@@ -38,12 +38,10 @@ use Rattle.dap_replies.specs.declared.effect.Reply.{Reply as Given}
 use Rattle.dap_msg.specs.declared.requests.resume.ResumeKind.{ResumeKind}
 use Rattle.dap_msg.specs.declared.requests.resume.RetreatKind.{RetreatKind}
 use Rattle.dap_replies.specs.Replied.{request_step, HasReplied}
-use Rattle.dap_replies.specs.declared.standing.StandsAt.{StandsAt}
-use Rattle.dap_replies.specs.declared.standing.StandsAt.TheVariants as stands_at
-use Rattle.dap_replies.specs.Going.{HasGone, HasStopped, HasEnded, IsOver, phase_at}
+use Rattle.dap_replies.specs.Going.{HasGone, HasStopped, HasEnded, IsOver}
 use Rattle.dap_replies.specs.declared.choosing.Reaction.TheVariants as chosen
 use Rattle.dap_replies.specs.Choosing.{launched_as, Chooses, Carries}
-use Rattle.dap_replies.proofs.Situations.{replies_by}
+use Rattle.dap_replies.proofs.Situations.{replies_by, StandsAt, Stop, Fault, phase_at}
 use Rattle.dap_replies.proofs.Begun.{run_begins}
 use Rattle.dap_replies.proofs.Stays.{told_stays, target_stays, debuggee_stays}
 
@@ -275,12 +273,12 @@ ends_faulted laws t d body kind given body_is ended command choice past is =
 -- the program goes back from a stop or from a fault
 pub returns_there : ReadingsGoOn → (s : StandsAt) (t : Target) (d : Debugged) (kind : RetreatKind) (given : Given)
     → HasGone t d (retreat_mode kind) body.None [] given → Carries (phase_at s t d) (chosen.Retreat kind) given
-returns_there laws stands_at.Stop t d kind given gone command choice past is =
+returns_there laws Stop t d kind given gone command choice past is =
     let l = launched_as t d.unit in
     goes_on laws command t d (retreat_mode kind) body.None [] past given choice.suits refl is.keeps.0 is.keeps.1 gone
     (replies_by (phase.Stopped t d) past is command (Retreat l kind) (choice.reacts past is)
     (causing body.None (goes_after [] (resumes past l (retreat_mode kind)))) refl)
-returns_there laws stands_at.Fault t d kind given gone command choice past is =
+returns_there laws Fault t d kind given gone command choice past is =
     let l = launched_as t d.unit in
     goes_on laws command t d (retreat_mode kind) body.None [] past given choice.suits refl is.keeps.0 is.keeps.1 gone
     (replies_by (phase.Faulted t d) past is command (Retreat l kind) (choice.reacts past is)

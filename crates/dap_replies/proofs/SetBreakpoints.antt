@@ -34,14 +34,11 @@ use Rattle.dap_phase.specs.declared.phase.Target.{Target}
 use Rattle.dap_phase.specs.Runs.{OrderedRun, heading_in, ordered_to_hold}
 use Rattle.dap_phase.specs.Phases.{situation_of, IsTarget, IsDebuggee, IsRun, IsPhase}
 use Rattle.dap_replies.specs.Replied.{HasReplied, request_step}
-use Rattle.dap_replies.specs.declared.standing.StandsAt.{StandsAt}
-use Rattle.dap_replies.specs.declared.standing.StandsAt.TheVariants as stands_at
-use Rattle.dap_replies.specs.Going.{phase_at}
 use Rattle.dap_replies.specs.Answering.{without_events}
 use Rattle.dap_replies.specs.Lines.{AreAnswered, program_in}
 use Rattle.dap_replies.specs.Choosing.{launched_as, Chooses, Carries}
 use Rattle.dap_replies.specs.declared.choosing.Reaction.TheVariants as chosen
-use Rattle.dap_replies.proofs.Situations.{replies_by}
+use Rattle.dap_replies.proofs.Situations.{replies_by, StandsAt, Stop, Fault, phase_at}
 use Rattle.dap_replies.proofs.Unmoved.{unmoved, leaves_phase}
 use Rattle.dap_replies.proofs.Stays.{situation_stays, target_stays, position_stays, plan_stays, last_run_stays, runs_stay, waiting_pause_stays, no_last}
 
@@ -216,12 +213,12 @@ pub put_in_standing : ReadingsGoOn → (s : StandsAt) (t : Target) (d now : Debu
     (plan : Listed) → now ≡ with_plan d (plain_breakpoints plan.breakpoints) (d.position + 1)
     → Carries (phase_at s t d) (chosen.SetBreakpoints answers plan)
     (without_events (Ok (body.Breakpoints answers)) None (phase_at s t now))
-put_in_standing laws stands_at.Stop t d now answers plan now_is (command.SetBreakpoints asked) choice past is =
+put_in_standing laws Stop t d now answers plan now_is (command.SetBreakpoints asked) choice past is =
     let bs = plain_breakpoints plan.breakpoints in
     put_in_there laws t d now bs asked answers past (phase.Stopped t) is is.keeps
     (set_replies (phase.Stopped t d) past asked answers bs is (choice.reacts past is)) now_is
     (λ x new at holds. record { situation_is = at; keeps = holds })
-put_in_standing laws stands_at.Fault t d now answers plan now_is (command.SetBreakpoints asked) choice past is =
+put_in_standing laws Fault t d now answers plan now_is (command.SetBreakpoints asked) choice past is =
     let bs = plain_breakpoints plan.breakpoints in
     put_in_there laws t d now bs asked answers past (phase.Faulted t) is is.keeps
     (set_replies (phase.Faulted t d) past asked answers bs is (choice.reacts past is)) now_is

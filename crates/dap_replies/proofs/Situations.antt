@@ -6,7 +6,10 @@ use Rattle.dap_history.specs.Readings.{situation}
 use Rattle.dap_history.specs.Replies.{Reply}
 use Rattle.dap_history.specs.Reactions.{Reaction, reply_of, Reacts}
 use Rattle.dap_history.specs.Emission.{RepliesIn}
+use Rattle.dbg_plan.specs.Debugged.{Debugged}
 use Rattle.dap_phase.specs.declared.phase.Phase.{Phase}
+use Rattle.dap_phase.specs.declared.phase.Phase.TheVariants as phase
+use Rattle.dap_phase.specs.declared.phase.Target.{Target}
 use Rattle.dap_phase.specs.Phases.{IsPhase, situation_of}
 
 -- the situation of the history is that of the phase
@@ -20,3 +23,14 @@ pub replies_by : (p : Phase) (past : History) → IsPhase p past → (command : 
     → RepliesIn (situation past) past command reply
 replies_by p past is command reaction reacts reply reply_is =
     replies_there p past is command reply (record { reaction = reaction; reacts = reacts; reply_is = reply_is })
+
+-- ---- where a program stands
+
+-- it stopped, or it stopped before a step that faults
+pub data StandsAt : Type 0 where
+  Stop : StandsAt
+  Fault : StandsAt
+
+abbrev pub phase_at : StandsAt → Target → Debugged → Phase
+phase_at Stop t d = phase.Stopped t d
+phase_at Fault t d = phase.Faulted t d

@@ -17,8 +17,6 @@ use Rattle.dap_phase.specs.declared.phase.Phase.{Phase}
 use Rattle.dap_phase.specs.declared.phase.Phase.TheVariants as phase
 use Rattle.dap_phase.specs.declared.phase.Target.{Target}
 use Rattle.dap_replies.specs.declared.effect.Reply.{Reply}
-use Rattle.dap_replies.specs.declared.standing.StandsAt.{StandsAt}
-use Rattle.dap_replies.specs.declared.standing.StandsAt.TheVariants as stands_at
 
 -- after these events the debuggee goes on in a further run
 pub record HasGone (t : Target) (d : Debugged) (m : Mode) (body : Body) (events : List EventBody) (given : Reply) : Type
@@ -55,11 +53,6 @@ pub record WaitsToPause (t : Target) (run : OrderedRun) (given : Reply) : Type 0
   pub orders_are : option_to_list (option_map plain_order given.effect.order) ≡ (if run.held
       || goes_back run.mode then [] else Hold t.runs ∷ [])
   pub phase_is : given.effect.phase ≡ phase.Running t (ordered_to_hold (record run { waiting_pause = true }))
-
--- the phase of a program that stands so
-abbrev pub phase_at : StandsAt → Target → Debugged → Phase
-phase_at stands_at.Stop t d = phase.Stopped t d
-phase_at stands_at.Fault t d = phase.Faulted t d
 
 -- the program stands
 abbrev pub IsAtStop : Phase → Type 0

@@ -8,9 +8,12 @@ use Rattle.dap_msg.specs.declared.command.Command.{Command}
 use Rattle.dap_msg.specs.declared.command.Command.TheVariants as command
 use Rattle.dap_msg.specs.declared.command.CommandName.TheVariants as name
 use Rattle.dap_msg.specs.declared.command.Supported.TheVariants as supported
+use Rattle.dap_msg.specs.declared.question.Question.{Question}
 use Rattle.dap_msg.specs.declared.requests.resume.ThreadArguments.{ThreadArguments}
 use Rattle.dap_msg.specs.declared.outgoing.Outgoing.{Outgoing}
 use Rattle.dap_msg.specs.declared.outgoing.Outgoing.TheVariants.{Answer}
+use Rattle.pl0_machine.specs.Machine.{frames}
+use Rattle.dbg_plan.specs.Debugged.{machine_of}
 use Rattle.dbg_runner.specs.Plain.{PlainReport}
 use Rattle.dbg_runner.specs.Orders.{plain_order}
 use Rattle.dbg_runner.specs.declared.outcome.SliceOutcome.TheVariants as slice
@@ -24,6 +27,7 @@ use Rattle.dap_history.specs.Emission.{RepliesIn}
 use Rattle.dap_phase.specs.declared.phase.Phase.{Phase}
 use Rattle.dap_phase.specs.declared.phase.Phase.TheVariants as phase
 use Rattle.dap_phase.specs.Phases.{IsPhase}
+use Rattle.dap_inspection.specs.Questions.{NamesNothingLive}
 use Rattle.dap_replies.specs.declared.effect.Effect.{Effect as Done}
 use Rattle.dap_replies.specs.declared.effect.Reply.{Reply as Given}
 
@@ -107,13 +111,19 @@ NothingStands _ = Unit {0}
 abbrev pub NothingMoves : Phase → ThreadArguments → Type 0
 NothingMoves p asked = NothingStands p ⊎ (asked.thread_id ≢ 1)
 
+-- no program stands, or the question names a thread, a frame or a reference that there isn't
+abbrev pub NothingIsShown : Phase → Question → Type 0
+NothingIsShown (phase.Stopped t d) question = NamesNothingLive (frames (machine_of d)) question
+NothingIsShown (phase.Faulted t d) question = NamesNothingLive (frames (machine_of d)) question
+NothingIsShown _ question = Unit {0}
+
 -- The reply takes no memory: there is nothing to make for it, or the command isn't served.
 abbrev pub TakesNoMemory : Phase → Command → Type 0
 TakesNoMemory p (command.SetBreakpoints asked) = HasNoProgram p
 TakesNoMemory p command.ConfigurationDone = IsConfigured p
 TakesNoMemory p (command.Resume kind asked) = NothingMoves p asked
 TakesNoMemory p (command.Retreat kind asked) = NothingMoves p asked
-TakesNoMemory p (command.Inspect question) = NothingStands p
+TakesNoMemory p (command.Inspect question) = NothingIsShown p question
 TakesNoMemory p _ = Unit {0}
 
 -- The report tells a client nothing: its run goes on, and it has no numbers and no logs.

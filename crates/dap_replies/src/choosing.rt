@@ -6,7 +6,7 @@ ghost use Rattle.dap_msg.specs.declared.command.Command.TheVariants as command_i
 ghost use Rattle.dap_msg.specs.declared.outgoing.Refusal.TheVariants as refusal_is;
 ghost use Rattle.dap_replies.specs.declared.choosing.Reaction.TheVariants as reaction_is;
 ghost use Rattle.dap_replies.specs.Choosing.{Chooses, MakesNothing};
-ghost use Rattle.dap_replies.specs.Replied.{IsConfigured, NothingMoves, NothingStands, TakesNoMemory};
+ghost use Rattle.dap_replies.specs.Replied.{IsConfigured, NothingIsShown, NothingMoves, TakesNoMemory};
 
 use crate::breakpoints::set_breakpoints;
 use dap_inspection::ask;
@@ -151,7 +151,7 @@ fn pause(phase: &Phase, asked: ThreadArguments) -> Reaction
 /// Chooses the reaction to a question: it is answered or refused where the program stands.
 fn inspect(alloc: Global, phase: &Phase, question: &Question) -> Result<Reaction, AllocError>
     ensures chooses { IfOk result (Chooses (command_is.Inspect question.now) phase.now) }
-    ensures enough { NothingStands phase.now → IsOkAnd result MakesNothing }
+    ensures enough { NothingIsShown phase.now question.now → IsOkAnd result MakesNothing }
 {
     match phase {
         Phase::Fresh

@@ -19,7 +19,6 @@ mod refusing;
 mod replying;
 mod reporting;
 mod running;
-mod standing;
 
 pub use effect::{Effect, Reply};
 pub use launching::launch;

@@ -7,12 +7,11 @@ ghost use Rattle.dap_history.specs.Replies.{log_events};
 ghost use Rattle.dap_history.specs.Running.{body_of, mode_of, retreat_mode};
 ghost use Rattle.dap_replies.specs.declared.choosing.Reaction.TheVariants as reaction_is;
 ghost use Rattle.dap_replies.specs.Choosing.{Carries, FitsIn};
-ghost use Rattle.dap_replies.specs.Going.{HasGone, HasStopped, HasEnded, phase_at};
+ghost use Rattle.dap_replies.specs.Going.{HasGone, HasStopped, HasEnded};
 
 use crate::effect::{Effect, Reply};
 use crate::logging::push_logs;
 use crate::reporting::stop_reason;
-use crate::standing::StandsAt;
 use dap_history::reading_laws;
 use dap_msg::{Body, EventBody, Items, ResumeKind, RetreatKind};
 use dap_phase::{Phase, Run, Target, Unstarted};
@@ -128,21 +127,21 @@ pub(crate) fn retreat(alloc: Global, phase: Phase, kind: RetreatKind) -> Result<
     ensures { IfOk result (Carries phase (reaction_is.Retreat kind)) }
 {
     match phase {
-        Phase::Stopped(target, debuggee) => back(alloc, StandsAt::Stop, target, debuggee, kind),
-        Phase::Faulted(target, debuggee) => back(alloc, StandsAt::Fault, target, debuggee, kind),
+        Phase::Stopped(target, debuggee) => back(alloc, target, debuggee, kind),
+        Phase::Faulted(target, debuggee) => back(alloc, target, debuggee, kind),
         _ => unreachable!(),
     }
 }
 
-/// Goes back from a stop or from a fault.
+/// Goes back from a stop, or in the same way from a fault.
 fn back(
     alloc: Global,
-    _stands: StandsAt,
     target: Target,
     debuggee: StoppedDebuggee,
     kind: RetreatKind,
 ) -> Result<Reply, AllocError>
-    ensures { IfOk result (Carries (phase_at _stands target debuggee) (reaction_is.Retreat kind)) }
+    ensures stop { IfOk result (Carries (phase_is.Stopped target debuggee) (reaction_is.Retreat kind)) }
+    ensures fault { IfOk result (Carries (phase_is.Faulted target debuggee) (reaction_is.Retreat kind)) }
 {
     reading_laws();
     go(

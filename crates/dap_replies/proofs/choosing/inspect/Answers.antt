@@ -9,14 +9,14 @@ returns-in-Ok-clause-chooses c =
     let d = c.debuggee-debuggee in
     answers_there c.args.phase.now c.in-Stopped.target c.in-Stopped.debuggee d.result.now c.in-Stopped.is
     d.ensures.same d.ensures.considered c.args.question.now c.in-Ok.shown
-    (rw c.in-Ok.is at c.in_ok-shown-in-Stopped.ensures)
+    (rw c.in-Ok.is at c.in_ok-shown-in-Stopped.ensures.replies)
 
 pub returns-in-Err-clause-chooses : goal.returns-in-Err-clause-chooses
 returns-in-Err-clause-chooses c =
     let d = c.debuggee-debuggee in
     refuses_there c.args.phase.now c.in-Stopped.target c.in-Stopped.debuggee d.result.now c.in-Stopped.is
     d.ensures.same d.ensures.considered c.args.question.now c.in-Err.why
-    (rw c.in-Err.is at c.in_ok-shown-in-Stopped.ensures)
+    (rw c.in-Err.is at c.in_ok-shown-in-Stopped.ensures.replies)
 
 pub returns-in-Running-clause-chooses : goal.returns-in-Running-clause-chooses
 returns-in-Running-clause-chooses c =

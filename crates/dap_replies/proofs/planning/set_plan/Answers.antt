@@ -5,8 +5,8 @@ use Rattle.dbg_runner.specs.Plain.{goes_back}
 use Rattle.dap_phase.specs.Runs.{OrderedRun, ordered_to_hold}
 use Rattle.dap_phase.specs.declared.phase.Phase.TheVariants as phase
 use Rattle.dap_replies.specs.declared.choosing.Reaction.TheVariants as chosen
-use Rattle.dap_replies.specs.declared.standing.StandsAt.TheVariants as stands_at
 use Rattle.dap_replies.specs.Choosing.{Carries}
+use Rattle.dap_replies.proofs.Situations.{Stop, Fault}
 use Rattle.dap_replies.proofs.SetBreakpoints.{once, put_in_standing, waits_in_run, answers_after_end}
 use Rattle.dap_replies.proofs.planning.set_plan.Goals as goal
 
@@ -30,7 +30,7 @@ returns-in_ok-debuggee-in-Stopped c =
     let d = c.in-Stopped.debuggee in
     subst (λ p. Carries p reaction c.answer_lines-in-Stopped.result) (sym c.in-Stopped.is)
     (subst (Carries (phase.Stopped t d) reaction) (sym c.answer_lines-in-Stopped.ensures)
-    (put_in_standing c.reading_laws.ensures stands_at.Stop t d c.in_ok-debuggee-in-Stopped.debuggee c.args.answers
+    (put_in_standing c.reading_laws.ensures Stop t d c.in_ok-debuggee-in-Stopped.debuggee c.args.answers
     c.args.plan c.in_ok-debuggee-in-Stopped.ensures))
 
 pub returns-in_ok-debuggee-in-Faulted : goal.returns-in_ok-debuggee-in-Faulted
@@ -40,7 +40,7 @@ returns-in_ok-debuggee-in-Faulted c =
     let d = c.in-Faulted.debuggee in
     subst (λ p. Carries p reaction c.answer_lines-in-Faulted.result) (sym c.in-Faulted.is)
     (subst (Carries (phase.Faulted t d) reaction) (sym c.answer_lines-in-Faulted.ensures)
-    (put_in_standing c.reading_laws.ensures stands_at.Fault t d c.in_ok-debuggee-in-Faulted.debuggee c.args.answers
+    (put_in_standing c.reading_laws.ensures Fault t d c.in_ok-debuggee-in-Faulted.debuggee c.args.answers
     c.args.plan c.in_ok-debuggee-in-Faulted.ensures))
 
 pub returns-in-Ended : goal.returns-in-Ended
