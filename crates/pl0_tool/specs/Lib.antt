@@ -5,11 +5,10 @@ pub mod Arguments
 pub mod Running
 -- the program of a text
 pub mod Loading
--- what a trace tells
-pub mod Traced
-pub mod Tracing
 -- what is drawn of a machine
 pub mod Drawing
+-- what a trace tells of a position
+pub mod Tracing
 -- what is told of a fault
 pub mod Faulting
 -- the lines of a text
@@ -22,12 +21,13 @@ pub mod Instructions
 pub mod Listing
 -- the table of a trace
 pub mod Table
+-- bytes that are still to be written
+pub mod Pending
+-- what is written of a trace, and how it ends
+pub mod Traced
 -- how commands end
 pub mod Reporting
 -- what each command tells of a text
 pub mod Commands
 -- what the program does with its arguments
 pub mod Executing
--- What private contracts cite.
--- bytes that are still to be written
-pub mod Pending

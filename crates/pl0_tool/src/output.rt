@@ -1,6 +1,6 @@
 //! Lines that are written in large blocks.
 
-ghost use Rattle.std.specs.Prelude.{◌≡◌, ◌++◌, [], false, List, ℕ, MatchResult, if◌then◌else◌};
+ghost use Rattle.std.specs.Prelude.{◌≡◌, ◌≢◌, ◌++◌, [], true, false, List, ℕ, OnOk, IfErr, MatchResult, if◌then◌else◌};
 ghost use Rattle.byte_streams.specs.Streams.{Output, WritesAll, FailsIn, output as output_at};
 ghost use Rattle.pl0_tool.specs.Pending.{Holds};
 
@@ -43,9 +43,21 @@ impl<O: Write + IsTerminal + Drop> WatchedOutput<O> {
 }
 
 impl<O: Write + Drop> Write for WatchedOutput<O> {
-    ghost contents = { λ noticing. O.contents noticing.inner };
+    ghost use Rattle.std.specs.Io.{WritesAtMost};
+    ghost use Rattle.std.specs.Io.KnownBytes.{WriteAppends, Keeps};
+    ghost use Rattle.std.specs.IoError.{error_kind};
+    ghost use Rattle.std.specs.declared.io.ErrorKind.TheVariants as kind;
 
-    fn write(&mut self, bytes: &[u8]) -> io::Result<usize> {
+    ghost contents = { λ watched. O.contents watched.inner };
+
+    fn write(&mut self, bytes: &[u8]) -> io::Result<usize>
+        ensures bound { WritesAtMost result bytes.now }
+        ensures bytes { WriteAppends (O.contents self.old.inner) (O.contents self.new.inner) result bytes.now }
+        ensures taken { OnOk result (self.new.is_closed ≡ self.old.is_closed) }
+        ensures unread { IfErr result (λ error. error_kind error ≡ kind.BrokenPipe → self.new.is_closed ≡ true) }
+        ensures failed { IfErr result (λ error. error_kind error ≢ kind.BrokenPipe
+            → self.new.is_closed ≡ self.old.is_closed) }
+    {
         let written = self.inner.write(bytes);
         if let Err(error) = &written {
             self.is_closed |= error.kind() == ErrorKind::BrokenPipe;
@@ -53,7 +65,10 @@ impl<O: Write + Drop> Write for WatchedOutput<O> {
         written
     }
 
-    fn flush(&mut self) -> io::Result<()> {
+    fn flush(&mut self) -> io::Result<()>
+        ensures bytes { Keeps (O.contents self.old.inner) (O.contents self.new.inner) }
+        ensures same { self.new.is_closed ≡ self.old.is_closed }
+    {
         self.inner.flush()
     }
 }
