@@ -16,10 +16,11 @@ use Rattle.pl0_tree.specs.Scope.{AreLawfulOutside, IsLawfulOutside, condition_us
 use Rattle.pl0_tree.specs.Faults.{IsConditionOf, IsExpressionOf, IsFirstExpressionFault, in_tokens, by_itself}
 use Rattle.pl0_tree.specs.Unique.{condition_text_once}
 use Rattle.pl0_syntax.specs.Laws.{FaultExcludesExpressions}
+use Rattle.pl0_meaning.specs.WorkedRun.{called, place}
 use Rattle.dbg_plan.specs.declared.breakpoint.Rule.{Rule}
 use Rattle.dbg_plan.specs.declared.breakpoint.Rule.TheVariants.{From, Every}
 use Rattle.dbg_plan.specs.Messages.{Part, Text, Value, expressions, ReadsParts, Lacks, braced}
-use Rattle.dbg_plan.specs.WorkedText.{called, nested, place}
+use Rattle.dbg_plan.specs.WorkedText.{nested}
 use Rattle.dbg_plan.specs.Resolutions.{ReadsRule}
 use Rattle.dbg_plan.specs.WorkedReadings.{RulesRead, OthersAreNoRules, ConditionsRead, NamesAreOfTheBlock, MessagesRead, BracesClose, BracesAreNotDoubled, repeated, values, MessagesAreShort}
 use Rattle.dbg_plan.proofs.MessageParts.{continues, alone}

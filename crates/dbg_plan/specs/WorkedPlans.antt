@@ -7,6 +7,7 @@ use Rattle.pl0_tree.specs.declared.tree.Relation.TheVariants.{Equal}
 use Rattle.pl0_tree.specs.Tree.{Variable, Number, Binary, Odd, Compare, Condition, Expression, Block}
 use Rattle.pl0_meaning.specs.declared.RunFault.{RunFault}
 use Rattle.pl0_meaning.specs.declared.RunFault.TheVariants.{Overflow, DivideByZero}
+use Rattle.pl0_meaning.specs.WorkedRun.{called}
 use Rattle.dbg_plan.specs.declared.breakpoint.Rule.{Rule}
 use Rattle.dbg_plan.specs.declared.breakpoint.Rule.TheVariants.{From, Every}
 use Rattle.dbg_plan.specs.declared.mode.Mode.TheVariants.{Entry, Continue, In, Over, Out, StepBack, Reverse}
@@ -19,7 +20,7 @@ use Rattle.dbg_plan.specs.Logs.{Log, logs, said}
 use Rattle.dbg_plan.specs.Resolutions.{step_from}
 use Rattle.dbg_plan.specs.Retreat.{Stop, goal_of}
 use Rattle.dbg_plan.specs.Trail.{Trail, new_trail, kept_at, floor_of}
-use Rattle.dbg_plan.specs.WorkedText.{called, nested, loop}
+use Rattle.dbg_plan.specs.WorkedText.{nested, loop}
 
 -- ---- breakpoints
 

@@ -3,12 +3,13 @@
 use Rattle.std.specs.Prelude.{ℕ, zero, suc, List, [], ◌∷◌, ◌++◌, Some, None, pos, codes}
 use Rattle.pl0_tree.specs.declared.tree.Relation.TheVariants.{Equal}
 use Rattle.pl0_tree.specs.Tree.{Variable, Number, Compare}
+use Rattle.pl0_meaning.specs.WorkedRun.{called}
 use Rattle.dbg_plan.specs.declared.breakpoint.Rule.{Rule}
 use Rattle.dbg_plan.specs.declared.breakpoint.Rule.TheVariants.{From, Every}
 use Rattle.dbg_plan.specs.Breakpoints.{TextCondition}
 use Rattle.dbg_plan.specs.Messages.{Part, Message, Text, Value}
 use Rattle.dbg_plan.specs.Resolutions.{ReadsConditionAt, ReadsRule, ReadsMessageAt}
-use Rattle.dbg_plan.specs.WorkedText.{called, nested}
+use Rattle.dbg_plan.specs.WorkedText.{nested}
 
 -- k from the third arrival on, or each second one; no text is no rule. The least number is 1, the greatest 2^31 - 1.
 abbrev pub RulesRead : Type 0

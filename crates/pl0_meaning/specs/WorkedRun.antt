@@ -85,7 +85,7 @@ outer = ABlock [] (k 3 5 ∷ []) (AProcedure (q 4 11) inner NoMore)
     (place 12 4)
 
 -- the text as a tree; its two procedures are `outer` and `inner` above
-abbrev main : Block
+abbrev pub main : Block
 main = ABlock [] (n 1 5 ∷ []) (AProcedure (p 2 11) outer NoMore)
     (Then (Assign (n 13 7) (Number (pos 2))) (Then (Call (place 13 15) (p 13 20)) Empty)) (place 13 25)
 
