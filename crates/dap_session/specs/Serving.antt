@@ -17,6 +17,17 @@ use Rattle.dap_session.specs.Ports.{Ports}
 use Rattle.dap_session.specs.Sending.{Sends, RefusesNothing, TriesQuit}
 use Rattle.dap_session.specs.Taking.{NeedsNoMemory, EventGivesUp}
 
+-- No event was taken after the session had ended: before the last one it took items.
+pub record EndsAtLast (first : FirstSeq) (events : List Incoming) : Type 0 where
+  pub before : List Incoming
+  pub last : Incoming
+  pub events_are : events ≡ before ++ last ∷ []
+  pub past : History
+  pub rest : Rest
+  pub first_is : rest.first ≡ first
+  pub history : IsHistoryOf before past rest
+  pub taking : IsTaking past
+
 -- The events were taken until the session had this ending, and everything that they cause was sent: the frames of the
 -- messages, numbered 1, 2, 3 and so on, none of them 2^53 or more, and the orders.
 pub record Serves (first : FirstSeq) (events : List Incoming) (ending : Ending) (old later : Ports) : Type 0 where
@@ -25,6 +36,7 @@ pub record Serves (first : FirstSeq) (events : List Incoming) (ending : Ending) 
   pub first_is : rest.first ≡ first
   pub history : IsHistoryOf events past rest
   pub ending_is : ending_of past ≡ Some ending
+  pub at_last : EndsAtLast first events
   pub frames_are : later.frames ≡ old.frames ++ frames_from 1 (messages_of past)
   pub orders_are : later.orders ≡ old.orders ++ orders_of past
   pub seqs_fit : next_seq past ≤ 2 ^ 53
