@@ -1,4 +1,4 @@
--- The loader is asked for the path of each launch that waits, and for no other, and the events are what inbox and loader
+-- The loader is asked for the path of each launch that waits, and for no other; the events are what inbox and loader
 -- returned.
 use Rattle.dap_history.proofs.Common.{File, FirstSeq, History, Incoming, IsHistoryOf, IsTaking, Launch, Piece, ReadFailed, NoMemory, None, Report, Rest, Some, [], ap, append-nil, inl, inr, subst, sym, ℕ, ◌++◌, ◌∙◌, ◌∷◌, ◌≡◌, ◌⊎◌}
 use Rattle.std.proofs.Common.{List}

@@ -126,8 +126,8 @@ pub mod Since
 pub mod Pauses
 -- The program stops at position 0 where it has to; for the clause `first` of `command_laws`.
 pub mod FirstStop
--- Each stop of a run is as the command asks by which the program goes, and none is passed; for the clauses `as_asked` and
--- `none_passed` of `command_laws`.
+-- Each stop of a run is as the command asks by which the program goes, and none is passed; for the clauses `as_asked`
+-- and `none_passed` of `command_laws`.
 pub mod AsAsked
 -- Each event that is an item is taken, nothing is taken that isn't, and which items end a session; for the clauses
 -- `taken` and `ends` of `command_laws`.
@@ -146,6 +146,6 @@ pub mod Alive
 pub mod Ends
 -- No item leads nowhere; for the clause `all_lead` of `history_laws`.
 pub mod Effects
--- The loader is asked for the path of each launch that waits, and for no other, and the events are what inbox and loader
+-- The loader is asked for the path of each launch that waits, and for no other; the events are what inbox and loader
 -- returned; for the clauses `loads`, `loaded` and `returned` of `command_laws`.
 pub mod Asking

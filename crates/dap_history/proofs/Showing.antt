@@ -146,7 +146,8 @@ module _ (main : Block) (whole : Configuration) where
         (named_so main g.block fits.block fits.found, refl, block_is)
     by_block (k ∷ q) block_is fits links =
         linked_scopes main whole g links.0 (i + 1) (frame_name main g.block) (scopes_from main below g.link)
-        (named_so main g.block fits.block fits.found) (λ is. let e = sym block_is ∙ is in absurd cc) (has_next whole g.link links.0 (lower g.link links.0 links.1))
+        (named_so main g.block fits.block fits.found) (λ is. let e = sym block_is ∙ is in absurd cc)
+        (has_next whole g.link links.0 (lower g.link links.0 links.1))
         (deeper g.link links.0 links.1)
 
     by_test : IsFrameOf main g → IsLinkedTo g.block g.link below → (f : Frame) (b : Bool)
