@@ -1,5 +1,5 @@
--- Worked examples of what the text of `WorkedRun` doesn't have: constants, one of them hidden by another, two variables,
--- two procedures side by side, a loop with statements behind it, `begin` in `begin`, and faults.
+-- Worked examples of what the text of `WorkedRun` doesn't have: constants, one of them hidden by another, two
+-- variables, two procedures side by side, a loop with statements behind it, `begin` in `begin`, and faults.
 use Rattle.std.specs.Prelude.{◌≡◌, ℕ, ◌++◌, List, [], ◌∷◌, Some, None, Err, ℤ, pos, negsuc, refl, map, codes}
 use Rattle.pl0_tree.specs.Tree.{Name, Expression, Variable, Number, Negate, Binary, Odd, Compare, Statement, Empty, Then, Assign, Call, Write, If, While, Constant, Block, ABlock, NoMore, AProcedure}
 use Rattle.pl0_tree.specs.declared.tree.Operator.TheVariants.{Add, Subtract, Divide}

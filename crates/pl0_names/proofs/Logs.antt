@@ -271,9 +271,9 @@ module _ {T : Type 0} where
           e.word.now e.meaning w
       each w = at w (bytes_eq e.word.now w) (bytes_eq-Decides e.word.now w).0
 
-  old_declared : (m : ℕ) (es : List (Entry T)) (word : List ℕ) (d x : T) → names (at_level m es) word ≡ Some x →
+  stays_declared : (m : ℕ) (es : List (Entry T)) (word : List ℕ) (d x : T) → names (at_level m es) word ≡ Some x →
       map names (blocks (suc m) es) ≡ declared_in (map names (blocks (suc m) es)) word d
-  old_declared m es word d x some =
+  stays_declared m es word d x some =
       ap (λ f. f ∷ map names (blocks m es)) (λ i w. at w (bytes_eq word w) (bytes_eq-Decides word w).0 i)
     where
       at : (w : List ℕ) (b : Bool) → (b ≡ true → word ≡ w) → names (at_level m es) w ≡ option_or
@@ -296,4 +296,4 @@ module _ {T : Type 0} where
       map names (blocks n es) ≡ declared_in (map names (blocks n es)) word d
   declared_old n m es word d x more some =
       subst (λ k. map names (blocks k es) ≡ declared_in (map names (blocks k es)) word d) (sym (more ∙ add-one m))
-      (old_declared m es word d x some)
+      (stays_declared m es word d x some)

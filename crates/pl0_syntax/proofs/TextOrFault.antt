@@ -152,19 +152,19 @@ module _ (main : Block) (none : (k : FaultKind) (p : Place) → ¬ IsNameFault m
 
 module _ (main : Block) (q : Path) (uses : List Use)
     (none : (k : FaultKind) (p : Place) → ¬ IsNameFaultOutside main q uses k p) where
-  outside_use_lawful : (i : ℕ) (u : Use) → slice_get uses i ≡ Some u → (o : Option Home)
+  use_lawful_outside : (i : ℕ) (u : Use) → slice_get uses i ≡ Some u → (o : Option Home)
       → home main q u.name.word ≡ o → IsLawfulOutside main q u
-  outside_use_lawful i u is None found =
+  use_lawful_outside i u is None found =
       absurd (none Unknown u.name.place (IsNameFaultOutside.unknown i u is found))
-  outside_use_lawful i u is (Some h) found = record {
+  use_lawful_outside i u is (Some h) found = record {
     at = h;
     found = found;
     allowed = holds (allows_or_not h.declaration.meaning u.use_kind)
         (λ wrong. none WrongKind u.name.place (IsNameFaultOutside.wrong_kind i u h is found wrong));
   }
 
-  outside_lawful : AreLawfulOutside main q uses
-  outside_lawful i u is = outside_use_lawful i u is (home main q u.name.word) refl
+  names_lawful : AreLawfulOutside main q uses
+  names_lawful i u is = use_lawful_outside i u is (home main q u.name.word) refl
 
 -- ---- the laws
 
@@ -195,9 +195,9 @@ texts_have_one = has_one ReadsProgram IsNameFault IsLawful lawful
 pub conditions_have_one : IsReadOrFaulty ReadsConditionText → ConditionsHaveOne
 conditions_have_one read_or_faulty main q =
     has_one ReadsConditionText (IsConditionNameFault main q) (λ c. AreLawfulOutside main q (condition_uses c))
-    (λ c. outside_lawful main q (condition_uses c)) read_or_faulty
+    (λ c. names_lawful main q (condition_uses c)) read_or_faulty
 
 pub expressions_have_one : IsReadOrFaulty ReadsExpressionText → ExpressionsHaveOne
 expressions_have_one read_or_faulty main q =
     has_one ReadsExpressionText (IsExpressionNameFault main q) (λ e. AreLawfulOutside main q (expression_uses e))
-    (λ e. outside_lawful main q (expression_uses e)) read_or_faulty
+    (λ e. names_lawful main q (expression_uses e)) read_or_faulty

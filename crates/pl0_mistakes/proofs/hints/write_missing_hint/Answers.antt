@@ -35,7 +35,8 @@ returns-then-lacks_end c =
     let lacks_end = sym c.lacks_end.ensures ∙ c.if-lacks_end.true in
     written c.write-then-lacks_end.result _ c.args.line.now.items (missing_hint (plain c.args.scene)) _
     (cond-false _ _ _ fraction
-    ∙ (cond-false _ _ _ final ∙ (cond-false _ _ _ lacks_begin ∙ cond-true _ _ _ lacks_end))) c.write-then-lacks_end.ensures
+    ∙ (cond-false _ _ _ final ∙ (cond-false _ _ _ lacks_begin ∙ cond-true _ _ _ lacks_end)))
+    c.write-then-lacks_end.ensures
 
 pub returns-then-lacks_semicolon : goal.returns-then-lacks_semicolon
 returns-then-lacks_semicolon c =
