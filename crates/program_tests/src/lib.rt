@@ -3,10 +3,11 @@
 //! Nothing here is installed.
 //!
 //! Most are tables: `table` says how a row is written, and `shown` what is shown of its text. `tokens`, `faults`,
-//! `editor`, `steps`, `code` and `runs` have the rows about the language, a stage each. `plans`, `logpoints`, `slices`, `going_back`, `retreats` and `runner` have those about the debugger. On random
-//! programs, `beside` runs slices beside single steps, and `due` counts arrivals anew beside the debuggee. `examples`
-//! has the example calls that stand at the heads of libraries. `machines` and `debugged` make machines and debuggees of
-//! texts; `test_kit` has the ports of a runner.
+//! `editor`, `steps`, `code` and `runs` have the rows about the language, a stage each. `plans`, `logpoints`, `slices`,
+//! `going_back`, `retreats` and `runner` have those about the debugger. On random programs, `beside` runs slices beside
+//! single steps, and `due` counts arrivals anew beside the debuggee. `examples` has the example calls that stand at the
+//! heads of libraries. `machines` and `debugged` make machines and debuggees of texts; `test_kit` has the ports of a
+//! runner.
 #![tactic(auto)]
 
 #[cfg(test)]
