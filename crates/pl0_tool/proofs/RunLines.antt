@@ -8,7 +8,7 @@ use Rattle.pl0_meaning.specs.Runs.{Outcome, Goes, Faults, Stuck, at, led_to, out
 use Rattle.pl0_machine.specs.declared.outcome.StepOutcome.{StepOutcome}
 use Rattle.pl0_tool.specs.declared.running.RunEnd.TheVariants.{Ended, Faulted, FaultedUnwritten, WriteFailed}
 use Rattle.pl0_tool.specs.declared.running.RunEnd.{RunEnd}
-use Rattle.pl0_tool.specs.Running.{HasRunSlice}
+use Rattle.pl0_tool.specs.Running.{HasRunSlice, slice_steps}
 use Rattle.std.proofs.Common.{◌⊎◌, inl, inr}
 use Rattle.pl0_meaning.specs.Laws.{WrittenJoins}
 use Rattle.pl0_tool.proofs.PendingBytes.{writes_both, writes_and_fails}
@@ -346,15 +346,17 @@ held_still start now new before out pending came s held =
 
 -- a slice of a run is over, and all was written, or the output failed in it
 pub slice_over : (start now new : Standing) (result : Option RunEnd) (before after : Output) → Came start now
-    → Stretches 0 None now new
+    → Stretches 0 None now new → new.position ≡ start.position + slice_steps
     → ((result ≡ None) × WritesAll (lines_between start new) before after)
     ⊎ ((result ≡ Some WriteFailed) × FailsIn (lines_between start new) before after)
     → HasRunSlice result start new before after
-slice_over start now new result before after came s (inl (is, wrote)) =
+slice_over start now new result before after came s whole (inl (is, wrote)) =
     let came_here = (stretched_on start now new came s).0 in
+    let there = ap (λ (m : Standing). m.position) came_here.1 in
+    let steps : came_here.0 ≡ slice_steps = omega (arith, there, whole) in
     subst (λ r. HasRunSlice r start new before after) (sym is)
-    (record { steps = came_here.0; led = came_here.1; running = s.running; wrote = wrote })
-slice_over start now new result before after came s (inr (is, failed)) =
+    (record { led = came_here.1 ∙ ap (λ k. ahead start k) steps; running = s.running; wrote = wrote })
+slice_over start now new result before after came s whole (inr (is, failed)) =
     let came_here = (stretched_on start now new came s).0 in
     subst (λ r. HasRunSlice r start new before after) (sym is) (came_here.0, came_here.1, failed)
 

@@ -57,14 +57,13 @@ HasRun WriteFailed old new before after =
 
 -- ---- slices
 
--- how many steps are taken at most until all that they wrote is written
+-- how many steps a slice has, unless the run ends in it
 abbrev pub slice_steps : ℕ
 slice_steps = 65536
 
 -- A slice of a run is over, and the run goes on: all that its steps wrote was written.
 pub record RunsOn (old new : Standing) (before after : Output) : Type 0 where
-  pub steps : ℕ
-  pub led : new ≡ ahead old steps
+  pub led : new ≡ ahead old slice_steps
   pub running : 0 < depth_of new
   pub wrote : WritesAll (lines_between old new) before after
 

@@ -1,6 +1,6 @@
 //! Lines that are written in large blocks.
 
-ghost use Rattle.std.specs.Prelude.{◌≡◌, ◌≢◌, ◌++◌, [], true, false, List, ℕ, OnOk, IfErr, MatchResult, if◌then◌else◌};
+ghost use Rattle.std.specs.Prelude.{◌≡◌, ◌≢◌, ◌≤◌, ◌++◌, [], true, false, List, ℕ, length, IsTrue, OnOk, IfErr, MatchResult, if◌then◌else◌};
 ghost use Rattle.byte_streams.specs.Streams.{Output, WritesAll, FailsIn, output as output_at};
 ghost use Rattle.pl0_tool.specs.Pending.{Holds};
 
@@ -85,12 +85,13 @@ pub fn put<O: Sink>(
     room: usize,
     bytes: &[u8],
 ) -> Result<(), WriteFailed>
-    ensures { (before : Output) (text : List ℕ)
+    ensures held { (before : Output) (text : List ℕ)
         → Holds before (output_at (O.written output.old) (O.failures output.old)) pending.old.items text
         → MatchResult result
         (λ _. Holds before (output_at (O.written output.new) (O.failures output.new)) pending.new.items
         (text ++ bytes.now))
         (λ _. FailsIn (text ++ bytes.now) before (output_at (O.written output.new) (O.failures output.new))) }
+    ensures few { length pending.new.items ≤ room }
 {
     if keep(pending, room, bytes) {
         return Ok(());
@@ -101,7 +102,8 @@ pub fn put<O: Sink>(
 
 /// Adds bytes to those that are still to be written, and returns whether there was room and memory for them.
 fn keep(pending: &mut Vec<u8>, room: usize, bytes: &[u8]) -> bool
-    ensures { pending.new.items ≡ (if result then pending.old.items ++ bytes.now else pending.old.items) }
+    ensures kept { pending.new.items ≡ (if result then pending.old.items ++ bytes.now else pending.old.items) }
+    ensures few { IsTrue result → length pending.new.items ≤ room }
 {
     if room < pending.len().saturating_add(bytes.len()) {
         return false;
@@ -142,11 +144,12 @@ pub fn spill<O: Sink>(
     pending: &mut Vec<u8>,
     room: usize,
 ) -> Result<(), WriteFailed>
-    ensures { (before : Output) (text : List ℕ)
+    ensures held { (before : Output) (text : List ℕ)
         → Holds before (output_at (O.written output.old) (O.failures output.old)) pending.old.items text
         → MatchResult result
         (λ _. Holds before (output_at (O.written output.new) (O.failures output.new)) pending.new.items text)
         (λ _. FailsIn text before (output_at (O.written output.new) (O.failures output.new))) }
+    ensures few { length pending.new.items ≤ room }
 {
     if pending.len() <= room {
         return Ok(());

@@ -27,8 +27,8 @@ pub enum RunEnd {
     WriteFailed,
 }
 
-/// How many steps are taken at most until what is pending is written, so that a run which is stopped from outside keeps
-/// what it wrote before.
+/// How many steps are taken until what is pending is written, so that a run which is stopped from outside keeps what it
+/// wrote before.
 const SLICE: u64 = 1 << 16;
 
 /// Runs a machine to the end of its program, to a step that faults, or until the output fails, and writes each number
@@ -57,8 +57,8 @@ pub fn run_machine<O: Sink>(
     unreachable!()
 }
 
-/// Runs a machine as [`run_machine`] does, for a slice of at most 2^16 steps, and returns `None` where the run goes on.
-/// Nothing is pending then.
+/// Runs a machine as [`run_machine`] does, for a slice of 2^16 steps, or fewer where the run ends, and returns `None`
+/// where it goes on. Nothing is pending then.
 pub fn run_slice<O: Sink>(
     rt: &impl Wait,
     machine: &mut Machine,

@@ -16,7 +16,7 @@ returns g c before text held =
     subst (λ l. MatchResult c.put-2.result (λ _. Holds before later c.put-2.new.pending.items l)
     (λ _. FailsIn l before later))
     (line text digits (signed_decimal c.args.number) is)
-    (c.put-2.ensures before (text ++ digits) (c.in_ok-put.ensures before text held))
+    (c.put-2.ensures.held before (text ++ digits) (c.in_ok-put.ensures.held before text held))
 
 pub returns-in_err-put : goal.returns-in_err-put
 returns-in_err-put g c before text held =
@@ -27,4 +27,4 @@ returns-in_err-put g c before text held =
     c.as_bytes.ensures.value ∙ c.format.ensures.text ∙ ap signed_decimal (to_z-of_z w64 c.args.number fits) in
     let p = err_from_is_err_and c.from_residual.result c.from_residual.ensures.1 in
     rw p.1 (subst (λ l. FailsIn l before later) (line text digits (signed_decimal c.args.number) is)
-    (fails_before before later (text ++ digits) (10 ∷ []) (c.in_err-put.ensures before text held)))
+    (fails_before before later (text ++ digits) (10 ∷ []) (c.in_err-put.ensures.held before text held)))

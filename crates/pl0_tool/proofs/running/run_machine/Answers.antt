@@ -1,4 +1,5 @@
 use Rattle.pl0_tool.proofs.Common.{refl, ◌+◌}
+use Rattle.pl0_tool.specs.Running.{slice_steps}
 use Rattle.pl0_tool.proofs.RunLines.{came_both, run_join, written_join}
 use Rattle.pl0_tool.proofs.running.run_machine.Goals as goal
 
@@ -16,8 +17,8 @@ slices-preserved g c =
     let came = c.slices.invariant.1 in
     let on = c.in-None-run_slice.ensures.ran in (
       on.running,
-      (came.0 + on.steps, came_both start mid new came.0 on.steps came.1 on.led),
+      (came.0 + slice_steps, came_both start mid new came.0 slice_steps came.1 on.led),
       c.in-None-run_slice.ensures.empty refl,
-      written_join c.meaning_laws.ensures.joins start mid new came.0 on.steps _ _ _ came.1 on.led
+      written_join c.meaning_laws.ensures.joins start mid new came.0 slice_steps _ _ _ came.1 on.led
           c.slices.invariant.3 on.wrote,
     )

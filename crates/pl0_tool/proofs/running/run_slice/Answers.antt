@@ -1,4 +1,5 @@
-use Rattle.pl0_tool.proofs.Common.{[], ap, Done, FailsIn, Fault, FitsSigned, Holds, lines_between, None, output, Ran, RanOn, refl, rules, signed_decimal, Some, subst, sym, to_z-of_z, w64, Went, ◌++◌, ◌∙◌, ◌∷◌}
+use Rattle.pl0_tool.proofs.Common.{[], ap, Done, FailsIn, Fault, FitsSigned, Holds, lines_between, None, output, Ran, RanOn, refl, rules, signed_decimal, Some, subst, sym, to_z-of_z, w64, Went, ◌++◌, ◌∙◌, ◌+◌, ◌≡◌, ◌∷◌}
+use Rattle.pl0_tool.specs.Running.{slice_steps}
 use Rattle.pl0_tool.proofs.RunLines.{before_limit, came_on, failed_so, held_on, held_still, ran_on, running_on, slice_ended, slice_faulted, slice_over, wrote_on}
 use Rattle.pl0_tool.proofs.running.run_slice.Goals as goal
 
@@ -10,7 +11,9 @@ returns-in-None-run-clause-ran g c =
     let came = c.numbers.invariant.1 in
     let before = output (g.O.Sink.written c.args.output.now) (g.O.Sink.failures c.args.output.now) in
     let s = c.in-None-run.ensures.0 in
-    slice_over start now new c.finish.result before _ came s
+    let at_limit = c.in-None-run.ensures.1 in
+    let whole : new.position ≡ start.position + slice_steps = search (rules, at_limit) in
+    slice_over start now new c.finish.result before _ came s whole
     (c.finish.ensures.written before (lines_between start new)
     (held_still start now new before _ _ came s c.numbers.invariant.3))
 

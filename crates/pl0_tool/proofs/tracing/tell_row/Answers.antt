@@ -10,7 +10,7 @@ returns-in-Ok g c =
       row,
       c.in_ok-row.ensures.0,
       c.in_ok-row.ensures.1,
-      λ first text held. c.in-Ok.ensures first (text ++ row_text m.unit row)
+      λ first text held. c.in-Ok.ensures.held first (text ++ row_text m.unit row)
           (row_held m c.next_row.new.machine row.outcome c.deref-unit.result.now row first _ _ _ text
           c.in_ok-row.ensures.1 (c.deref-unit.ensures ∙ c.unit.ensures) c.in_ok-put_row.ensures held),
     )
@@ -21,7 +21,7 @@ returns g c =
     let row = c.in_ok-row.row in (
       row,
       c.in_ok-row.ensures.0,
-      λ first text held. c.in-Err.ensures first (text ++ row_text m.unit row)
+      λ first text held. c.in-Err.ensures.held first (text ++ row_text m.unit row)
           (row_held m c.next_row.new.machine row.outcome c.deref-unit.result.now row first _ _ _ text
           c.in_ok-row.ensures.1 (c.deref-unit.ensures ∙ c.unit.ensures) c.in_ok-put_row.ensures held),
     )
