@@ -1,4 +1,4 @@
--- A queue is full only once four orders were pushed.
+-- A queue is full only once enough orders were pushed.
 use Rattle.std.proofs.Common.{◌≡◌, ◌≤◌, List, [], ◌∷◌, ◌++◌, ap, length, map, arith, length-append}
 use Rattle.std.proofs.lemmas.List.{length-map}
 use Rattle.dbg_runner.specs.Orders.{plain_order}
@@ -6,16 +6,16 @@ use Rattle.dbg_runner.specs.declared.order.Order.{Order}
 use Rattle.dap_wires.specs.declared.order_queue.TheConstants.{ORDERS_CAPACITY}
 
 -- where the queue is full
-pub four_pushed : (pushed taken inside : List Order) → pushed ≡ taken ++ inside → length inside ≡ ORDERS_CAPACITY
+pub enough_pushed : (pushed taken inside : List Order) → pushed ≡ taken ++ inside → length inside ≡ ORDERS_CAPACITY
     → ORDERS_CAPACITY ≤ length (map plain_order pushed)
-four_pushed pushed taken inside is four =
+enough_pushed pushed taken inside is filled =
     let m = length-map pushed plain_order in let e =
-    ap length is in let a = length-append taken inside in omega (arith, m, e, a, four)
+    ap length is in let a = length-append taken inside in omega (arith, m, e, a, filled)
 
 -- and after one order more
-pub still_four : (old new : List Order) (x : Order) → new ≡ old ++ x ∷ []
+pub still_enough : (old new : List Order) (x : Order) → new ≡ old ++ x ∷ []
     → ORDERS_CAPACITY ≤ length (map plain_order old)
     → ORDERS_CAPACITY ≤ length (map plain_order new)
-still_four old new x is was =
+still_enough old new x is was =
     let m = length-map old plain_order in let n = length-map new plain_order in
     let e = ap length is in let a = length-append old (x ∷ []) in omega (arith, m, n, e, a, was)

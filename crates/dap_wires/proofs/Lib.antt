@@ -1,6 +1,6 @@
 -- Each step of a queue keeps its rule; for the functions of `channels`, `ends`, `event_ends` and others.
 pub mod Delivered
--- Where an order is refused, four orders at least were pushed; for `offer`.
+-- Where an order is refused, enough were pushed to fill the queue; for `offer`.
 pub mod Filling
 -- A list that grew at its end by one more; for `read_loop` and `write_loop`.
 pub mod Growing

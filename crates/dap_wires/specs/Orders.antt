@@ -8,7 +8,7 @@ use Rattle.dbg_runner.specs.Plain.{PlainOrder}
 use Rattle.dap_session.specs.Ports.{PushedOrders}
 use Rattle.dap_wires.specs.declared.order_ends.OrderSender.{OrderSender}
 use Rattle.dap_wires.specs.declared.order_ends.OrderReceiver.{OrderReceiver}
-pub use Rattle.dap_wires.specs.Full.{FourWerePushed}
+pub use Rattle.dap_wires.specs.Full.{orders_room, EnoughWerePushed}
 
 module _ {R : Type 0} where
   -- the orders that the session pushed, and how often it found the queue full; the runner is never gone
@@ -16,12 +16,12 @@ module _ {R : Type 0} where
   pushed_orders e =
       record { orders = map plain_order (view e.pass).put_first; fulls = length e.fulls.entries; refusals = 0 }
 
-  -- four orders that were pushed, as many as the queue has room for, were inside together
+  -- as many orders that were pushed as the queue has room for were inside together
   pub record WasFull (e : OrderSender R) : Type 0 where
     pub taken : List Order
     pub inside : List Order
     pub pushed_are : (view e.pass).put_first ≡ taken ++ inside
-    pub full : length inside ≡ 4
+    pub full : length inside ≡ orders_room
 
   -- the orders that the runner took
   abbrev pub taken_orders : OrderReceiver R → List PlainOrder

@@ -7,7 +7,7 @@ ghost use Rattle.crossbeam_queue.specs.Passes.{view, IsPassOf, ruled_capacity};
 ghost use Rattle.dap_session.specs.Sending.{IsPrefixOf};
 ghost use Rattle.dbg_runner.specs.Orders.{plain_order};
 ghost use Rattle.dbg_runner.specs.declared.order.Order.{Order};
-ghost use Rattle.dap_wires.specs.Orders.{FourWerePushed, pushed_orders, taken_orders, push_queue, pop_queue};
+ghost use Rattle.dap_wires.specs.Orders.{EnoughWerePushed, pushed_orders, taken_orders, push_queue, pop_queue};
 
 use crate::end_log::EndLog;
 use crate::order_ends::{OrderQueue, OrderReceiver, OrderSender};
@@ -63,7 +63,7 @@ pub fn orders<R: Wait + Copy + Drop>(
 pub fn reconcile_orders<R: Wait + Drop>(session: OrderSender<R>, runner: OrderReceiver<R>)
     requires { pop_queue runner ≡ push_queue session }
     ensures taken { IsPrefixOf (taken_orders runner) (pushed_orders session).orders }
-    ensures full { (pushed_orders session).fulls ≢ 0 → FourWerePushed (pushed_orders session).orders }
+    ensures full { (pushed_orders session).fulls ≢ 0 → EnoughWerePushed (pushed_orders session).orders }
 {
     let OrderSender {
         queue,

@@ -3,7 +3,7 @@
 ghost use Rattle.std.specs.Prelude.{◌≡◌, ◌≢◌, IfOk};
 ghost use Rattle.dap_session.specs.Sending.{IsPrefixOf};
 ghost use Rattle.dap_wires.specs.Inbox.{client_events, client_queue, sent_reports, report_queue, received, left_queue};
-ghost use Rattle.dap_wires.specs.Orders.{FourWerePushed, pushed_orders, push_queue, taken_orders, pop_queue};
+ghost use Rattle.dap_wires.specs.Orders.{EnoughWerePushed, pushed_orders, push_queue, taken_orders, pop_queue};
 ghost use Rattle.dap_wires.specs.Outbox.{messages_put, ended_queue, messages_received, received_queue};
 ghost use Rattle.dap_wires.specs.Senders.{from_client, reports_among};
 ghost use Rattle.dap_wires.specs.Wires.{AreUnused, AreJoined};
@@ -82,7 +82,7 @@ pub fn reconcile<R: Wait + Drop>(
     ensures reports { IsPrefixOf (reports_among (received ends.inbox)) (sent_reports reports) }
     ensures frames { IsPrefixOf (messages_received written) (messages_put ends.outbox) }
     ensures orders { IsPrefixOf (taken_orders taken) (pushed_orders ends.orders).orders }
-    ensures full { (pushed_orders ends.orders).fulls ≢ 0 → FourWerePushed (pushed_orders ends.orders).orders }
+    ensures full { (pushed_orders ends.orders).fulls ≢ 0 → EnoughWerePushed (pushed_orders ends.orders).orders }
 {
     let SessionEnds {
         inbox,
