@@ -30,8 +30,8 @@ pub mod SameTexts
 pub mod HitNumbers
 -- A list of breakpoints in the order of their steps is cut into a part for each step; for `starts_of` and others.
 pub mod Parts
--- A table of the comparisons that stand alone at their steps is one of other breakpoints that are the same there, and is
--- read by a step; for `Plan::new`, `Plan::marks` and `run_quietly`.
+-- A table of the comparisons that stand alone at their steps is also one of other breakpoints that are the same there,
+-- and is read by a step; for `Plan::new`, `Plan::marks` and `run_quietly`.
 pub mod OnlyOnes
 -- Lines that are answered one after another give the whole resolution; for `resolve_at`, `resolve_line` and `resolve`.
 pub mod Lines

@@ -232,8 +232,8 @@ after trail (n ∷ ns) = after (kept_at trail n) ns
 abbrev multiples : ℕ → List ℕ
 multiples count = map (λ k. 4096 * (k + 1)) (range_with_len 0 count)
 
--- A checkpoint is kept where the last one, or the beginning, is at least 4096 positions back. Before a 65th every second
--- one is given up, and the next ones are to be twice as far apart.
+-- A checkpoint is kept where the last one, or the beginning, is at least 4096 positions back. Before a 65th one every
+-- second is given up, and the next ones are to be twice as far apart.
 abbrev pub TrailsKeep : Type 0
 TrailsKeep =
     ((after new_trail (4095 ∷ 4096 ∷ 8191 ∷ 8300 ∷ 12395 ∷ 12396 ∷ [])).kept ≡ 4096 ∷ 8300 ∷ 12396 ∷ [])
