@@ -8,7 +8,7 @@ with its tests from nothing and the run of these, of its must-fail edits and the
 program, and of all together. Each is measured with one job on a copy of the crate, over what is kept of the crates
 below, which are proved first where they are not. The first edit costs a proof of its own. The gate builds a program by
 a second compiler too, which is not measured. The status is 1 where a part fails, or where a crate takes over 10 minutes
-in all.
+without its edits.
 """
 from __future__ import annotations
 
@@ -79,11 +79,12 @@ def main() -> int:
     is_within = True
     for name in names:
         seconds, edits = times(name)
+        proof, tests, _, program = seconds
         cells = [f"{one:.0f}" if one else "" for one in seconds]
         cells.insert(3, str(edits) if edits else "")
         print(f"| `{name}` | {' | '.join(cells)} | {sum(seconds):.0f} |", flush=True)
-        if sum(seconds) > BUDGET:
-            print(f"{name} takes over {BUDGET:.0f} processor seconds", file=sys.stderr)
+        if proof + tests + program > BUDGET:
+            print(f"{name} takes over {BUDGET:.0f} processor seconds without its edits", file=sys.stderr)
             is_within = False
     return 0 if is_within else 1
 

@@ -4,10 +4,10 @@
 usage: gate_watch.py [COMMAND..]
 
 Runs `rt ci` with nothing kept, or COMMAND, and looks once a second at the processes below it. At its end it prints a
-row for each crate, the processor seconds of the prover and the compilers that worked for it, the dearest first, then
-the sum, the wall time, and the most memory that all had together. What a process takes after the last look at it is
-missed. The status is that of the command, or 1 where that is 0 and the budget isn't kept: what is above it stands on
-standard error.
+row for each crate, the processor seconds of the prover and the compilers that worked for it, and those that its
+must-fail edits took, the dearest first, then the sums, the wall time, and the most memory that all had together. What a
+process takes after the last look at it is missed. The status is that of the command, or 1 where that is 0 and the
+budget isn't kept: what is above it stands on standard error.
 """
 from __future__ import annotations
 
@@ -21,7 +21,9 @@ from typing import NamedTuple
 
 CRATE = re.compile(rb"--crate-name\0([a-z0-9_]+)\0")
 TICKS, PAGE = os.sysconf("SC_CLK_TCK"), os.sysconf("SC_PAGE_SIZE")
-# The processor minutes that the whole may take, and each crate.
+# How the kit names the folder in which it tries an edit.
+EDIT_FOLDER = "rt-edit-"
+# The processor minutes that the whole may take, and each crate without its edits.
 WHOLE_MINUTES, CRATE_MINUTES = 190, 10
 
 
@@ -70,11 +72,26 @@ def crate_of(number: int) -> str | None:
     return named.group(1).decode() if named else None
 
 
+def tries_an_edit(number: int) -> bool:
+    """Whether a process judges a must-fail edit."""
+    try:
+        return pathlib.Path(os.readlink(f"/proc/{number}/cwd")).name.startswith(EDIT_FOLDER)
+    except OSError:
+        return False
+
+
+class Spent(NamedTuple):
+    """The processor seconds that a crate took, and those of its edits."""
+
+    itself: float
+    edits: float
+
+
 class Watched(NamedTuple):
-    """What a command came to: its status, the processor seconds of each crate, and the most bytes of memory."""
+    """What a command came to: its status, what each crate took, and the most bytes of memory."""
 
     status: int
-    seconds: dict[str, float]
+    spent: dict[str, Spent]
     memory: int
 
 
@@ -82,20 +99,21 @@ def watch(command: list[str]) -> Watched:
     """Runs a command to its end."""
     run, memory = subprocess.Popen(command), 0
     # (a process is known by its number and its start, since numbers are used again)
-    seconds: dict[tuple[int, str], tuple[str, float]] = {}
+    seconds: dict[tuple[int, str], tuple[str, bool, float]] = {}
     while run.poll() is None:
         processes = processes_now()
         found = {number: processes[number] for number in below(run.pid, processes)}
         memory = max(memory, sum(process.memory for process in found.values()))
         for number, process in found.items():
             key = number, process.started
-            name = crate_of(number) or seconds.get(key, ("others", 0.0))[0]
-            seconds[key] = name, process.seconds
+            name, is_edit, _ = seconds.get(key, ("others", False, 0.0))
+            seconds[key] = crate_of(number) or name, is_edit or tries_an_edit(number), process.seconds
         time.sleep(1)
-    sums: dict[str, float] = {}
-    for name, spent in seconds.values():
-        sums[name] = sums.get(name, 0.0) + spent
-    return Watched(run.returncode, sums, memory)
+    spent: dict[str, Spent] = {}
+    for name, is_edit, taken in seconds.values():
+        itself, edits = spent.get(name, Spent(0.0, 0.0))
+        spent[name] = Spent(itself, edits + taken) if is_edit else Spent(itself + taken, edits)
+    return Watched(run.returncode, spent, memory)
 
 
 def gate_anew() -> list[str]:
@@ -104,11 +122,11 @@ def gate_anew() -> list[str]:
     return ["rt", "ci", *(["--anew"] if "--anew" in said.stdout + said.stderr else [])]
 
 
-def above_budget(seconds: dict[str, float]) -> list[str]:
+def above_budget(spent: dict[str, Spent]) -> list[str]:
     """What takes more than it may."""
-    found = [f"{name} takes over {CRATE_MINUTES} minutes" for name, spent in seconds.items()
-             if spent > 60 * CRATE_MINUTES]
-    whole = sum(seconds.values()) / 60
+    found = [f"{name} takes over {CRATE_MINUTES} minutes without its edits" for name, one in spent.items()
+             if one.itself > 60 * CRATE_MINUTES]
+    whole = sum(sum(one) for one in spent.values()) / 60
     if whole > WHOLE_MINUTES:
         found.append(f"the whole takes {whole:.0f} minutes, and may take {WHOLE_MINUTES}")
     return found
@@ -117,12 +135,14 @@ def above_budget(seconds: dict[str, float]) -> list[str]:
 def main() -> int:
     begin = time.monotonic()
     watched = watch(sys.argv[1:] or gate_anew())
-    print("| Crate | Processor seconds |\n|---|---|")
-    for name, spent in sorted(watched.seconds.items(), key=lambda row: -row[1]):
-        print(f"| `{name}` | {spent:,.0f} |")
-    minutes, wall = sum(watched.seconds.values()) / 60, (time.monotonic() - begin) / 60
-    print(f"| all | {minutes:.0f} minutes, in {wall:.0f} minutes of wall time and {watched.memory / 2**30:.1f} GB |")
-    above = above_budget(watched.seconds)
+    print("| Crate | Processor seconds | Those of its edits |\n|---|---|---|")
+    for name, one in sorted(watched.spent.items(), key=lambda row: -sum(row[1])):
+        print(f"| `{name}` | {one.itself:,.0f} | {one.edits:,.0f} |")
+    itself, edits = (sum(one[part] for one in watched.spent.values()) / 60 for part in (0, 1))
+    print(f"| minutes of all | {itself:.0f} | {edits:.0f} |")
+    print(f"{itself + edits:.0f} processor minutes, in {(time.monotonic() - begin) / 60:.0f} minutes of wall time and "
+          f"{watched.memory / 2**30:.1f} GB")
+    above = above_budget(watched.spent)
     print("\n".join(above), file=sys.stderr)
     return watched.status or (1 if above else 0)
 
