@@ -1,7 +1,8 @@
 //! Setting breakpoints.
 
-ghost use Rattle.std.specs.Prelude.{◌≡◌, [], IfOk};
+ghost use Rattle.std.specs.Prelude.{IfOk};
 ghost use Rattle.dap_server.specs.Messages.{plain_reply};
+ghost use Rattle.stack_adapter.specs.Promises.{Shows};
 
 use crate::machine::Machine;
 use dap_server::Reply;
@@ -25,7 +26,7 @@ pub fn set_breakpoints(
     machine: &Machine,
     arguments: Option<&Value>,
 ) -> Result<Breakpoints, AllocError>
-    ensures { IfOk result (λ set. (plain_reply set.reply).events ≡ []) }
+    ensures { IfOk result (λ set. Shows (plain_reply set.reply)) }
 {
     let mut lines = Vec::new(alloc);
     let mut answers = Vec::new(alloc);

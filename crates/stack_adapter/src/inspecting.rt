@@ -1,7 +1,8 @@
 //! Questions about the program where it stands.
 
-ghost use Rattle.std.specs.Prelude.{◌≡◌, [], IfOk};
+ghost use Rattle.std.specs.Prelude.{IfOk};
 ghost use Rattle.dap_server.specs.Messages.{plain_reply};
+ghost use Rattle.stack_adapter.specs.Promises.{Tells};
 
 use crate::command::Question;
 use crate::loading::text;
@@ -27,7 +28,7 @@ pub fn ask(
     question: Question,
     arguments: Option<&Value>,
 ) -> Result<Reply, AllocError>
-    ensures { IfOk result (λ reply. (plain_reply reply).events ≡ []) }
+    ensures { IfOk result (λ reply. Tells question (plain_reply reply)) }
 {
     let body = match question {
         Question::StackTrace => frames(alloc, machine, path)?,

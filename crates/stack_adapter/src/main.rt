@@ -12,7 +12,8 @@
 //! | `disconnect` | ends the session |
 //!
 //! It refuses all else as `unsupported`. A program takes some steps while its request is answered, and all others in a
-//! thread of its own; while it runs, only `pause`, `threads` and `disconnect` are granted. `program.rt` has the language.
+//! thread of its own; while it runs, only `initialize`, `pause`, `threads` and `disconnect` are granted. `program.rt` has
+//! the language.
 //!
 //! What it promises of its replies is `Replies` in `specs/Promises.antt`; docs/YOUR_OWN_ADAPTER.md explains it.
 #![tactic(auto)]

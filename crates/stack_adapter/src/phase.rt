@@ -16,13 +16,3 @@ pub enum Phase {
     /// The program has ended.
     Ended,
 }
-
-impl Phase {
-    /// Returns the program, where it is loaded and hasn't ended.
-    pub fn machine(&self) -> Option<&Machine> {
-        match self {
-            Phase::Configuring(machine, _) | Phase::Stopped(machine) => Some(machine),
-            Phase::Fresh | Phase::Running | Phase::Ended => None,
-        }
-    }
-}

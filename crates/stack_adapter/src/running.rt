@@ -1,8 +1,8 @@
 //! Running the program, some steps at a time.
 
-ghost use Rattle.std.specs.Prelude.{IfOk, OnOk};
+ghost use Rattle.std.specs.Prelude.{◌≡◌, None, Ok, IfOk, OnOk};
 ghost use Rattle.dap_server.specs.Messages.{plain_reply};
-ghost use Rattle.stack_adapter.specs.Promises.{standing_of, HasPrinted, Goes};
+ghost use Rattle.stack_adapter.specs.Promises.{standing_of, AreOutputs, Goes};
 
 use crate::machine::{Fault, Machine, Outcome};
 use crate::telling::{Leg, Went, end, output, stop};
@@ -32,7 +32,8 @@ pub fn start(
     stop_on_entry: bool,
     breakpoints: &[usize],
 ) -> Result<Went, AllocError>
-    ensures { IfOk result (λ went. Goes (plain_reply went.reply) (standing_of went.leg)) }
+    ensures outcome { IfOk result (λ went. (plain_reply went.reply).outcome ≡ Ok None) }
+    ensures told { IfOk result (λ went. Goes (plain_reply went.reply).events (standing_of went.leg)) }
 {
     let reply = Reply::done(alloc);
     if stop_on_entry {
@@ -56,8 +57,9 @@ pub fn run(
     breakpoints: &[usize],
     mut reply: Reply,
 ) -> Result<Went, AllocError>
-    requires { HasPrinted (plain_reply reply) }
-    ensures { IfOk result (λ went. Goes (plain_reply went.reply) (standing_of went.leg)) }
+    requires { AreOutputs (plain_reply reply).events }
+    ensures outcome { IfOk result (λ went. (plain_reply went.reply).outcome ≡ (plain_reply reply).outcome) }
+    ensures told { IfOk result (λ went. Goes (plain_reply went.reply).events (standing_of went.leg)) }
 {
     for _ in 0..STEPS {
         match take_step(alloc, &mut machine, &mut reply)? {
@@ -79,8 +81,9 @@ pub fn run(
 
 /// Takes a step, and adds what it prints to the reply.
 fn take_step(alloc: Global, machine: &mut Machine, reply: &mut Reply) -> Result<Outcome, AllocError>
-    requires { HasPrinted (plain_reply reply.old) }
-    ensures { OnOk result (HasPrinted (plain_reply reply.new)) }
+    requires { AreOutputs (plain_reply reply.old).events }
+    ensures outcome { (plain_reply reply.new).outcome ≡ (plain_reply reply.old).outcome }
+    ensures told { OnOk result (AreOutputs (plain_reply reply.new).events) }
 {
     let outcome = machine.step()?;
     if let Outcome::Printed(number) = outcome {

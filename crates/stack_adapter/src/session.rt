@@ -57,7 +57,7 @@ impl<'a, R: Wait + Files + Clock> Session<'a, R> {
         }
     }
 
-    /// Returns what a command is replied to.
+    /// Returns what is replied to a command.
     fn reply_to(
         &mut self,
         alloc: Global,

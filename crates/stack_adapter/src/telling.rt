@@ -1,8 +1,9 @@
 //! What is told of a run.
 
-ghost use Rattle.std.specs.Prelude.{◌≡◌, codes, IfOk};
+ghost use Rattle.std.specs.Prelude.{◌≡◌, IfOk, option_map};
+ghost use Rattle.serde_json.specs.View.{view};
 ghost use Rattle.dap_server.specs.Messages.{plain_reply, plain_event};
-ghost use Rattle.stack_adapter.specs.Promises.{standing_of, HasPrinted, Goes};
+ghost use Rattle.stack_adapter.specs.Promises.{standing_of, output, exited, stopped, stop_body, AreOutputs, Goes};
 
 use crate::machine::Machine;
 use dap_server::{Event, Reply};
@@ -26,7 +27,7 @@ pub struct Went {
 
 /// Returns the event that tells a number.
 pub fn output(alloc: Global, number: i64) -> Result<Event, AllocError>
-    ensures { IfOk result (λ event. (plain_event event).name ≡ codes "output") }
+    ensures { IfOk result (λ event. plain_event event ≡ output number) }
 {
     let line = format!(in alloc; "{number}\n")?;
     let body = json!(in alloc; {"category": "stdout", "output": line})?;
@@ -35,11 +36,11 @@ pub fn output(alloc: Global, number: i64) -> Result<Event, AllocError>
 
 /// Adds that the program has ended.
 pub fn end(alloc: Global, mut reply: Reply) -> Result<Went, AllocError>
-    requires { HasPrinted (plain_reply reply) }
-    ensures { IfOk result (λ went. Goes (plain_reply went.reply) (standing_of went.leg)) }
+    requires { AreOutputs (plain_reply reply).events }
+    ensures outcome { IfOk result (λ went. (plain_reply went.reply).outcome ≡ (plain_reply reply).outcome) }
+    ensures told { IfOk result (λ went. Goes (plain_reply went.reply).events (standing_of went.leg)) }
 {
-    let body = json!(in alloc; {"exitCode": 0u64})?;
-    reply.push(Event::new(alloc, "exited", Some(body))?)?;
+    reply.push(exited(alloc)?)?;
     reply.push(Event::new(alloc, "terminated", None)?)?;
     Ok(Went {
         reply,
@@ -55,19 +56,39 @@ pub fn stop(
     text: Option<&str>,
     mut reply: Reply,
 ) -> Result<Went, AllocError>
-    requires { HasPrinted (plain_reply reply) }
-    ensures { IfOk result (λ went. Goes (plain_reply went.reply) (standing_of went.leg)) }
+    requires { AreOutputs (plain_reply reply).events }
+    ensures outcome { IfOk result (λ went. (plain_reply went.reply).outcome ≡ (plain_reply reply).outcome) }
+    ensures told { IfOk result (λ went. Goes (plain_reply went.reply).events (standing_of went.leg)) }
 {
-    let body = stopped(alloc, reason, text)?;
-    reply.push(Event::new(alloc, "stopped", Some(body))?)?;
+    reply.push(stopped(alloc, reason, text)?)?;
     Ok(Went {
         reply,
         leg: Leg::Stopped(machine),
     })
 }
 
+/// Returns the event that tells the code with which the program has ended.
+fn exited(alloc: Global) -> Result<Event, AllocError>
+    ensures { IfOk result (λ event. plain_event event ≡ exited) }
+{
+    let body = json!(in alloc; {"exitCode": 0u64})?;
+    Event::new(alloc, "exited", Some(body))
+}
+
+/// Returns the event that tells a stop.
+fn stopped(alloc: Global, reason: &str, text: Option<&str>) -> Result<Event, AllocError>
+    ensures { IfOk result (λ event.
+        plain_event event ≡ stopped reason.now (option_map (λ t. t.now) text.entry)) }
+{
+    let body = stop_body(alloc, reason, text)?;
+    Event::new(alloc, "stopped", Some(body))
+}
+
 /// Returns the body that tells a stop: its reason, and a text where there is more to say.
-fn stopped(alloc: Global, reason: &str, text: Option<&str>) -> Result<Value, AllocError> {
+fn stop_body(alloc: Global, reason: &str, text: Option<&str>) -> Result<Value, AllocError>
+    ensures { IfOk result (λ body.
+        view body ≡ stop_body reason.now (option_map (λ t. t.now) text.entry)) }
+{
     match text {
         Some(text) => json!(in alloc; {
             "allThreadsStopped": true,

@@ -1,8 +1,8 @@
 //! What is done at the requests that need the program.
 
-ghost use Rattle.std.specs.Prelude.{◌≡◌, IfOk};
+ghost use Rattle.std.specs.Prelude.{◌≡◌, [], IfOk};
 ghost use Rattle.dap_server.specs.Messages.{plain_reply};
-ghost use Rattle.stack_adapter.specs.Promises.{standing, standing_of, IsQuiet, LoadsOrNot, HasPrinted, GoesOrNot, Settles};
+ghost use Rattle.stack_adapter.specs.Promises.{standing, standing_of, resumed, success, Settles, Loads, Sets, Starts, Resumes, Pauses, Inspects};
 
 use crate::breakpoints::set_breakpoints;
 use crate::command::{Question, Resume};
@@ -41,7 +41,7 @@ impl<R: Wait + Files + Clock> Session<'_, R> {
         arguments: Option<&Value>,
     ) -> Result<Reply, AllocError>
         ensures { IfOk result (λ reply.
-            LoadsOrNot (standing self.old.phase) (plain_reply reply) (standing self.new.phase)) }
+            Loads (standing self.old.phase) (plain_reply reply) (standing self.new.phase)) }
     {
         if let Phase::Running = self.phase {
             return Reply::refused(alloc, "a program runs");
@@ -49,6 +49,7 @@ impl<R: Wait + Files + Clock> Session<'_, R> {
         match load(self.rt, alloc, arguments)? {
             Launched::Loaded(loaded) => {
                 self.path = loaded.path;
+                self.breakpoints.clear();
                 self.phase = Phase::Configuring(loaded.machine, loaded.stop_on_entry);
                 let mut reply = Reply::done(alloc);
                 reply.push(Event::new(alloc, "initialized", None)?)?;
@@ -65,10 +66,13 @@ impl<R: Wait + Files + Clock> Session<'_, R> {
         arguments: Option<&Value>,
     ) -> Result<Reply, AllocError>
         ensures { IfOk result (λ reply.
-            IsQuiet (standing self.old.phase) (plain_reply reply) (standing self.new.phase)) }
+            Sets (standing self.old.phase) (plain_reply reply) (standing self.new.phase)) }
     {
-        let Some(machine) = self.phase.machine() else {
-            return Reply::refused(alloc, "no program is loaded, or it runs");
+        let machine = match &self.phase {
+            Phase::Configuring(machine, _) | Phase::Stopped(machine) => machine,
+            Phase::Fresh | Phase::Running | Phase::Ended => {
+                return Reply::refused(alloc, "no program is loaded, or it runs");
+            }
         };
         let set = set_breakpoints(alloc, machine, arguments)?;
         self.breakpoints = set.lines;
@@ -78,7 +82,7 @@ impl<R: Wait + Files + Clock> Session<'_, R> {
     /// Starts the program once the client has set its breakpoints.
     pub(super) fn start(&mut self, alloc: Global) -> Result<Reply, AllocError>
         ensures { IfOk result (λ reply.
-            GoesOrNot (standing self.old.phase) (plain_reply reply) (standing self.new.phase)) }
+            Starts (standing self.old.phase) (plain_reply reply) (standing self.new.phase)) }
     {
         match mem::replace(&mut self.phase, Phase::Ended) {
             Phase::Configuring(machine, stop_on_entry) => {
@@ -97,7 +101,7 @@ impl<R: Wait + Files + Clock> Session<'_, R> {
     /// Lets the program go on.
     pub(super) fn resume(&mut self, alloc: Global, resume: Resume) -> Result<Reply, AllocError>
         ensures { IfOk result (λ reply.
-            GoesOrNot (standing self.old.phase) (plain_reply reply) (standing self.new.phase)) }
+            Resumes resume (standing self.old.phase) (plain_reply reply) (standing self.new.phase)) }
     {
         match mem::replace(&mut self.phase, Phase::Ended) {
             Phase::Stopped(machine) => {
@@ -117,7 +121,7 @@ impl<R: Wait + Files + Clock> Session<'_, R> {
     /// Asks the program to stop, which it tells when it has.
     pub(super) fn pause(&mut self, alloc: Global) -> Result<Reply, AllocError>
         ensures { IfOk result (λ reply.
-            IsQuiet (standing self.old.phase) (plain_reply reply) (standing self.new.phase)) }
+            Pauses (standing self.old.phase) (plain_reply reply) (standing self.new.phase)) }
     {
         match self.phase {
             Phase::Running => {
@@ -157,7 +161,7 @@ impl<R: Wait + Files + Clock> Session<'_, R> {
         arguments: Option<&Value>,
     ) -> Result<Reply, AllocError>
         ensures { IfOk result (λ reply.
-            IsQuiet (standing self.now.phase) (plain_reply reply) (standing self.now.phase)) }
+            Inspects question (standing self.now.phase) (plain_reply reply) (standing self.now.phase)) }
     {
         match &self.phase {
             Phase::Stopped(machine) => ask(alloc, machine, self.path.as_str(), question, arguments),
@@ -168,7 +172,7 @@ impl<R: Wait + Files + Clock> Session<'_, R> {
 
 /// Returns the reply that lets the program go on, to which nothing is added yet.
 fn resumed(alloc: Global, resume: Resume) -> Result<Reply, AllocError>
-    ensures { IfOk result (λ reply. HasPrinted (plain_reply reply)) }
+    ensures { IfOk result (λ reply. plain_reply reply ≡ success (resumed resume) []) }
 {
     match resume {
         Resume::Continue => Ok(Reply::with_body(
