@@ -16,7 +16,6 @@ use Rattle.dbg_plan.specs.Due.{due, depth_at}
 use Rattle.dbg_plan.specs.declared.mode.Mode.{Mode}
 use Rattle.dbg_plan.specs.declared.mode.Mode.TheVariants as mode
 use Rattle.dbg_plan.specs.declared.mode.Reason.{Reason}
-use Rattle.dbg_plan.specs.declared.mode.Reason.TheVariants as reason
 use Rattle.dbg_runner.specs.Orders.{plain_order}
 use Rattle.dbg_runner.specs.Plain.{PlainOrder, Go}
 use Rattle.dbg_runner.specs.Reported.{heading}
@@ -28,7 +27,7 @@ use Rattle.dap_history.specs.ReadingLaws.{ReadingsGoOn}
 use Rattle.dap_history.specs.Replies.{nothing, reporting, ordering, causing, stop_of, stopped_events, exited_events, log_events}
 use Rattle.dap_history.specs.Running.{goes, resumes, first_mode, first_logs, enters, retreat_mode, mode_of, body_of}
 use Rattle.dap_history.specs.Reactions.{Start, Resume, End, Retreat}
-use Rattle.dap_history.proofs.Told.{numbers_in, numbers_of_logs, mark_of_logs}
+use Rattle.dap_history.proofs.Told.{numbers_in, numbers_of_logs, mark_of_logs, stop_marks}
 use Rattle.dap_history.specs.Emission.{RepliesIn}
 use Rattle.dap_phase.specs.declared.phase.Phase.{Phase}
 use Rattle.dap_phase.specs.declared.phase.Phase.TheVariants as phase
@@ -198,12 +197,6 @@ pub told_there : (d e : Debugged) (ls : List Log) (events : List EventBody) → 
 told_there d e ls events e_is ls_are is =
     is ∙ ap (λ (e : Debugged). log_events e.breakpoints ls) e_is ∙ ap (log_events d.breakpoints) ls_are
 
-stop_mark_of : (why : Reason) → last_such message_mark (map Event (stopped_events (stop_of why)))
-    ≡ Some situation_is.Stopped
-stop_mark_of reason.Breakpoint = refl
-stop_mark_of reason.Entry = refl
-stop_mark_of reason.Step = refl
-
 -- position 0 is due
 pub enters_due : ReadingsGoOn → (t : Target) (d e : Debugged) (m : Mode) (why : Reason) (events : List EventBody)
     (past : History) (given : Given) → e ≡ considered d → m ≡ first_mode (launched_as t d.unit) → Some why ≡ due_now d m
@@ -216,7 +209,7 @@ enters_due laws t d e m why events past given e_is m_is why_is events_are stoppe
     stops_there laws command t (considered d) why (first_logs past (launched_as t d.unit)) past given
     choice.suits
     (numbers_of_logs bs ls (stopped_events (stop_of why)))
-    (mark_of_logs bs ls (stopped_events (stop_of why)) ∙ stop_mark_of why)
+    (mark_of_logs bs ls (stopped_events (stop_of why)) ∙ stop_marks why)
     is.keeps.0 (still_there d past is.keeps.1)
     (subst (λ es. HasStopped t (considered d) why es given) (events_are ∙ logs_as t d past is)
     (subst (λ e. HasStopped t e why events given) e_is stopped))
