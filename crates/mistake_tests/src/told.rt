@@ -80,7 +80,7 @@ const MISTAKES: [(&str, &str); 18] = [
 ];
 
 /// What is said beside a token that can't stand where it does, and where nothing is.
-const HINTS: [(&str, &str); 69] = [
+const HINTS: [(&str, &str); 72] = [
     (
         "begin ! (1) x := 2 end.",
         "a.pl0:1:13: error: `x` can't stand here; perhaps a `;` is missing before it\n",
@@ -242,6 +242,18 @@ const HINTS: [(&str, &str); 69] = [
     (
         "if not 1 = 1 then.",
         "a.pl0:1:8: error: `1` can't stand here; PL/0 has no keyword `not`\n",
+    ),
+    (
+        "begin for i := 1 to 3 do end.",
+        "a.pl0:1:11: error: `i` can't stand here; PL/0 has no keyword `for`\n",
+    ),
+    (
+        "begin repeat ! 1 until 1 = 1 end.",
+        "a.pl0:1:14: error: `!` can't stand here; PL/0 has no keyword `repeat`\n",
+    ),
+    (
+        "begin if 1 = 1 then ! 1; else ! 2 end.",
+        "a.pl0:1:31: error: `!` can't stand here; PL/0 has no keyword `else`\n",
     ),
     (
         "begin ! 1; // one",

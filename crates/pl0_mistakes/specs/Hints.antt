@@ -142,10 +142,14 @@ lacks_semicolon s = begins_part s && ends_part s
 abbrev pub lacks_call : Scene → Bool
 lacks_call s = is_target s && one_of s.found (codes ";" ∷ codes "end" ∷ codes "." ∷ [])
 
--- a word that other languages have in this place; `not` is read as a name there, and what comes after it is refused
+-- a word that other languages have in this place
 abbrev pub is_foreign : List ℕ → Bool
 is_foreign token =
     one_of token (codes "and" ∷ codes "or" ∷ codes "mod" ∷ codes "else" ∷ codes "until" ∷ [])
+
+-- a word that other languages have where a name stands: it is read as one, and what comes after it is refused
+abbrev pub is_foreign_name : List ℕ → Bool
+is_foreign_name token = one_of token (codes "not" ∷ codes "else" ∷ codes "for" ∷ codes "repeat" ∷ [])
 
 -- a statement by which other languages write, or read
 abbrev pub is_writing : Scene → Bool
@@ -173,7 +177,7 @@ is_compared s = is_comparison s.found && one_of s.opener (codes ":=" ∷ codes "
 abbrev pub other_hint : Scene → List ℕ
 other_hint s =
     if is_foreign s.found then codes "; PL/0 has no keyword " ++ quoted s.found []
-    else (if bytes_eq s.before (codes "not") then codes "; PL/0 has no keyword " ++ quoted s.before []
+    else (if is_foreign_name s.before then codes "; PL/0 has no keyword " ++ quoted s.before []
     else (if is_writing s then codes "; `!` writes a number"
     else (if is_reading s then codes "; a program reads no input"
     else (if bytes_eq s.found (codes "const") then codes "; constants are declared first in a block"

@@ -2,7 +2,7 @@
 
 ghost use Rattle.std.specs.Prelude.{◌≡◌, ◌++◌, OnOk};
 ghost use Rattle.pl0_mistakes.specs.Scenes.{plain};
-ghost use Rattle.pl0_mistakes.specs.Hints.{is_number, is_name, keyword_meant, meant, is_comparison, opens_statement, is_target, may_end, ends_statement, in_condition, begins_statement, at_opening, is_comment, is_unequal, is_doubled, is_confused, has_value, has_becomes, is_enclosed, has_parameters, has_fraction, is_final, lacks_begin, lacks_end, ends_part, begins_part, lacks_semicolon, lacks_call, is_foreign, is_writing, is_reading, is_sign, is_signed, is_inner_sign, is_compared, other_hint, missing_hint, case_hint, hint};
+ghost use Rattle.pl0_mistakes.specs.Hints.{is_number, is_name, keyword_meant, meant, is_comparison, opens_statement, is_target, may_end, ends_statement, in_condition, begins_statement, at_opening, is_comment, is_unequal, is_doubled, is_confused, has_value, has_becomes, is_enclosed, has_parameters, has_fraction, is_final, lacks_begin, lacks_end, ends_part, begins_part, lacks_semicolon, lacks_call, is_foreign, is_foreign_name, is_writing, is_reading, is_sign, is_signed, is_inner_sign, is_compared, other_hint, missing_hint, case_hint, hint};
 
 use crate::cases::keyword_meant;
 use crate::scene::{Scene, is, is_keyword};
@@ -96,7 +96,7 @@ fn write_other_hint(line: &mut Vec<u8>, scene: Scene<'_>) -> Result<(), AllocErr
 {
     if is_foreign(scene.found) {
         write_around(line, "; PL/0 has no keyword ", scene.found, "")
-    } else if is(scene.before, "not") {
+    } else if is_foreign_name(scene.before) {
         write_around(line, "; PL/0 has no keyword ", scene.before, "")
     } else if is_writing(scene) {
         write(line, "; `!` writes a number")
@@ -124,6 +124,13 @@ fn is_foreign(token: &[u8]) -> bool
         || is(token, "mod")
         || is(token, "else")
         || is(token, "until")
+}
+
+/// Whether a word is one that other languages have where a name stands.
+fn is_foreign_name(token: &[u8]) -> bool
+    ensures { result ≡ is_foreign_name token.now }
+{
+    is(token, "not") || is(token, "else") || is(token, "for") || is(token, "repeat")
 }
 
 /// Whether there is a statement by which other languages write.
