@@ -28,7 +28,7 @@ use Rattle.dap_wires.specs.declared.writer_message.WriterMessage.TheVariants as 
 use Rattle.dap_wires.specs.declared.reading.ReadEnd.{ReadEnd}
 use Rattle.dap_wires.specs.declared.reading.ReadEnd.TheVariants as ends
 use Rattle.byte_streams.specs.declared.writing.WriteFailed.{WriteFailed}
-use Rattle.dap_wires.specs.Orders.{FourWerePushed}
+use Rattle.dap_wires.specs.Orders.{EnoughWerePushed}
 use Rattle.dap_wires.specs.WriterMessages.{bundled, frames_in, has_end, AreEnded}
 use Rattle.dap_wires.specs.Reading.{IsReadUntil, last_of}
 use Rattle.dap_wires.specs.Senders.{from_client, reports_among}
@@ -145,8 +145,8 @@ found_gone f events given loads sent (gives_up cannot from short) = λ none.
     let broke = short.fails.breaks in
     not_empty short.fails.between.refused broke.frame (sym broke.refused_are ∙ (sym short.quit.refused_are ∙ none))
 
-pub moved : {xs ys : List PlainOrder} → FourWerePushed xs → xs ≡ ys → FourWerePushed ys
-moved four same = subst (λ orders. FourWerePushed orders) same four
+pub moved : {xs ys : List PlainOrder} → EnoughWerePushed xs → xs ≡ ys → EnoughWerePushed ys
+moved four same = subst (λ orders. EnoughWerePushed orders) same four
 
 -- ---- the reader
 
@@ -301,13 +301,13 @@ pub gathers : (f : FirstSeq) (wrote : Result (Unit {0}) WriteFailed) (result : R
     → SessionLeaves f result [] given before.loads after.loads nothing_sent put pushed
     → IsReadUntil end client (input_of before.streams) (input_of after.streams) → IsPrefixOf (from_client given) client
     → DoesAll Idle acts Ended → orders ≡ flat_map order_in acts → reports ≡ flat_map sent_in acts
-    → IsPrefixOf orders pushed.orders → (pushed.fulls ≢ 0 → FourWerePushed pushed.orders)
+    → IsPrefixOf orders pushed.orders → (pushed.fulls ≢ 0 → EnoughWerePushed pushed.orders)
     → IsPrefixOf (reports_among given) reports
     → after.passed ≡ before.passed ++ flat_map passed_in acts
     → IsWrittenUntil wrote taken (output_of before.streams) (output_of after.streams) → IsPrefixOf taken put
     → TasksEnd f wrote result before after
 gathers f wrote result before after given put pushed end client acts reports orders taken
-    drove read client_taken leads orders_are reports_are orders_taken four reports_taken gate_passed written put_taken =
+    drove read client_taken leads orders_are reports_are orders_taken many reports_taken gate_passed written put_taken =
     let d = drove.driven in
     let drives : SessionOutcome f d.events given d.loads nothing_sent drove.later result =
     subst (λ g. SessionOutcome f d.events g d.loads nothing_sent drove.later result) (sym d.given_are) d.drives in
@@ -325,8 +325,8 @@ gathers f wrote result before after given put pushed end client acts reports ord
         drives = drives;
         loads_are = d.loads_are;
         never_gone = drove.never_gone;
-        full = λ is. subst (λ orders. FourWerePushed orders) drove.orders_are
-            (four (λ none. found_full f d.events given d.loads drove.later
+        full = λ is. subst (λ orders. EnoughWerePushed orders) drove.orders_are
+            (many (λ none. found_full f d.events given d.loads drove.later
             (subst (λ r. SessionOutcome f d.events given d.loads nothing_sent drove.later r) is drives)
             (sym drove.fulls_are ∙ none)));
       };

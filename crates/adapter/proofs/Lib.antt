@@ -15,8 +15,8 @@ mod FaultStands
 -- What was read up to a `disconnect` or a framing fault is answered; for the clauses `disconnected` and `fault` of
 -- `serving_laws`.
 mod UpTo
--- `serve` never reports that its runner or its writer is gone, and `OrdersFull` only where four orders were pushed; for
--- the clauses `gone`, `full` and `fault` of `serving_laws`.
+-- `serve` never reports that its runner or its writer is gone, and `OrdersFull` only where enough orders were pushed to
+-- fill their queue; for the clauses `gone`, `full` and `fault` of `serving_laws`.
 mod SessionFaults
 -- Which runs the runner reports, by the number of the run that it took last; for `serving_laws`.
 mod RunNumbers

@@ -10,7 +10,7 @@ use Rattle.dap_history.specs.declared.ending.Closed.TheVariants as closed
 use Rattle.dap_session.specs.Serving.{SessionOutcome}
 use Rattle.byte_streams.specs.declared.writing.WriteFailed.{WriteFailed}
 use Rattle.adapter.specs.declared.serving.ServeFault.TheVariants.{Session}
-use Rattle.adapter.specs.Laws.{closed_of, OutcomeIsOfSession, NobodyIsGone, FullAfterFour}
+use Rattle.adapter.specs.Laws.{closed_of, OutcomeIsOfSession, NobodyIsGone, FullAfterEnough}
 use Rattle.adapter.specs.Serving.{World, nothing_sent, outcome_of, TasksEnd, IsServed, tasks_ended, had_no_memory, had_no_thread}
 use Rattle.adapter.proofs.Gathered.{found_runner_gone}
 
@@ -69,11 +69,11 @@ nobody_is_gone f outcome before after (had_no_memory is same) =
 nobody_is_gone f outcome before after (had_no_thread is same) =
     (λ gone. let e = sym is ∙ gone in absurd cc, λ gone. let e = sym is ∙ gone in absurd cc)
 
-pub full_after_four : FullAfterFour
-full_after_four f before after (tasks_ended wrote result is driven) =
-    let a = answers wrote result OrdersFull (sym is) in
-    let four : TasksEnd f wrote (Err OrdersFull) before after =
-    subst (λ r. TasksEnd f wrote r before after) a.1 driven in
-    record { wrote = wrote; driven = four; four = four.session.full refl }
-full_after_four f before after (had_no_memory is same) = absurd cc
-full_after_four f before after (had_no_thread is same) = absurd cc
+pub full_after_enough : FullAfterEnough
+full_after_enough f before after (tasks_ended (Ok done) result is driven) =
+    let found : TasksEnd f (Ok tt) (Err OrdersFull) before after =
+    subst (λ r. TasksEnd f (Ok done) r before after) (answers (Ok done) result OrdersFull (sym is)).1 driven in
+    record { driven = found; enough = found.session.full refl }
+full_after_enough f before after (tasks_ended (Err failed) result is driven) = absurd cc
+full_after_enough f before after (had_no_memory is same) = absurd cc
+full_after_enough f before after (had_no_thread is same) = absurd cc

@@ -14,7 +14,7 @@ use Rattle.dap_history.specs.Events.{Incoming, End, Rest, IsHistoryOf}
 use Rattle.dap_history.specs.Laws.{stream_of}
 use Rattle.dap_session.specs.Sending.{IsPrefixOf}
 use Rattle.byte_streams.specs.declared.writing.WriteFailed.{WriteFailed}
-use Rattle.dap_wires.specs.Orders.{FourWerePushed}
+use Rattle.dap_wires.specs.Orders.{EnoughWerePushed}
 use Rattle.byte_streams.specs.Streams.{Supply}
 use Rattle.adapter.specs.declared.serving.Served.{Served}
 use Rattle.adapter.specs.declared.serving.Served.TheVariants as served
@@ -108,15 +108,14 @@ NobodyIsGone =
     (first : FirstSeq) (outcome : Result Served ServeFault) (before after : World) → IsServed first outcome before after
     → (outcome ≢ Err (Session WriterGone)) × (outcome ≢ Err (Session RunnerGone))
 
--- The session gave up since the queue of orders was full, and pushed four orders at least, of which the last may be the
--- Quit that it tried then.
+-- The session gave up since the queue of orders was full, and pushed enough orders to fill it, of which the last may be
+-- the Quit that it tried then. All that was put was written.
 pub record FoundFull (first : FirstSeq) (before after : World) : Type 0 where
-  pub wrote : Result (Unit {0}) WriteFailed
-  pub driven : TasksEnd first wrote (Err OrdersFull) before after
-  pub four : FourWerePushed driven.sent.orders
+  pub driven : TasksEnd first (Ok tt) (Err OrdersFull) before after
+  pub enough : EnoughWerePushed driven.sent.orders
 
--- `serve` returns the fault that the queue of orders was full only where four orders at least were pushed.
-abbrev pub FullAfterFour : Type 0
-FullAfterFour =
+-- `serve` returns the fault that the queue of orders was full only where enough orders were pushed to fill it.
+abbrev pub FullAfterEnough : Type 0
+FullAfterEnough =
     (first : FirstSeq) (before after : World) → IsServed first (Err (Session OrdersFull)) before after
     → FoundFull first before after

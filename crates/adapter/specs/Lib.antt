@@ -9,8 +9,6 @@ pub mod AllRead
 pub mod UpTo
 -- The exit status and the last line on standard error.
 pub mod ExitReasons
--- What a loader of files reads.
-pub mod Loading
 -- What the arguments ask for.
 pub mod Arguments
 -- The text of a listing.
@@ -20,5 +18,7 @@ pub mod Checking
 -- What the program does with its arguments, and how it ends.
 pub mod Running
 -- What private contracts cite.
+-- What a loader of files reads.
+pub mod Loading
 -- What the session's thread leaves when it ends.
 pub mod Jobs

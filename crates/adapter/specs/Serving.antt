@@ -21,7 +21,7 @@ use Rattle.adapter.specs.declared.serving.ServeFault.{ServeFault}
 use Rattle.adapter.specs.declared.serving.ServeFault.TheVariants as fault
 use Rattle.dap_wires.specs.declared.reading.ReadEnd.{ReadEnd}
 use Rattle.byte_streams.specs.declared.writing.WriteFailed.{WriteFailed}
-use Rattle.dap_wires.specs.Orders.{FourWerePushed}
+use Rattle.dap_wires.specs.Orders.{EnoughWerePushed}
 use Rattle.dap_wires.specs.Reading.{IsReadUntil}
 use Rattle.dap_wires.specs.Senders.{from_client, reports_among}
 use Rattle.byte_streams.specs.Streams.{Supply, supply, Output, output, WritesAll, FailsIn}
@@ -83,8 +83,8 @@ TakenOfPushed (Err fault) acts pushed = IsPrefixOf (flat_map order_in acts) push
 
 -- The session took what the inbox gave, and the files that the loader returned for its launches: these are the events.
 -- It sent what they lead to, by the way in which it ended, and the loader was asked for nothing else. It was never
--- answered that the runner is gone, and found the queue of orders full only where it pushed four at least, of which the
--- last may be the Quit that it tried then.
+-- answered that the runner is gone, and found the queue of orders full only where it pushed enough to fill it, of which
+-- the last may be the Quit that it tried then.
 pub record SessionSends (first : FirstSeq) (result : Result Closed SessionFault) (given : List Incoming) (sent : Ports)
     (loads later_loads : List Load) : Type 0 where
   pub events : List Incoming
@@ -93,7 +93,7 @@ pub record SessionSends (first : FirstSeq) (result : Result Closed SessionFault)
   pub drives : SessionOutcome first events given loaded nothing_sent sent result
   pub loads_are : later_loads ≡ loads ++ loaded
   pub never_gone : sent.runner_gone ≡ 0
-  pub full : result ≡ Err OrdersFull → FourWerePushed sent.orders
+  pub full : result ≡ Err OrdersFull → EnoughWerePushed sent.orders
 
 -- The reader sent to the inbox what it read. The session took all of that, or a prefix, by the way in which it ended.
 pub record ReaderSends (result : Result Closed SessionFault) (given : List Incoming)

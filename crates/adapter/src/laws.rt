@@ -2,7 +2,7 @@
 
 ghost use Rattle.adapter.specs.AllRead.{AllReadIsAnswered};
 ghost use Rattle.adapter.specs.UpTo.{DisconnectIsAnswered, AllBeforeFaultIsAnswered};
-ghost use Rattle.adapter.specs.Laws.{OutcomeIsOfSession, InputIsTakenWhole, FirstDisconnectCloses, RunsEndOnce, NobodyIsGone, FullAfterFour};
+ghost use Rattle.adapter.specs.Laws.{OutcomeIsOfSession, InputIsTakenWhole, FirstDisconnectCloses, RunsEndOnce, NobodyIsGone, FullAfterEnough};
 
 use dap_history::{command_laws, history_laws};
 use dbg_runner::runner_laws;
@@ -18,7 +18,7 @@ pub fn serving_laws()
     ensures disconnect { FirstDisconnectCloses }
     ensures runs { RunsEndOnce }
     ensures gone { NobodyIsGone }
-    ensures full { FullAfterFour }
+    ensures full { FullAfterEnough }
 {
     history_laws();
     command_laws();

@@ -1,7 +1,7 @@
 use Rattle.adapter.proofs.AllRead.{all_read_is_answered}
 use Rattle.adapter.proofs.InputTaken.{input_taken_whole, first_disconnect_closes}
 use Rattle.adapter.proofs.RunsEnd.{runs_end_once}
-use Rattle.adapter.proofs.SessionFaults.{outcome_is_of_session, nobody_is_gone, full_after_four}
+use Rattle.adapter.proofs.SessionFaults.{outcome_is_of_session, nobody_is_gone, full_after_enough}
 use Rattle.adapter.proofs.UpTo.{disconnect_is_answered, all_before_fault_is_answered}
 use Rattle.adapter.proofs.laws.serving_laws.Goals as goal
 
@@ -37,7 +37,7 @@ pub returns-clause-gone : goal.returns-clause-gone
 returns-clause-gone c = nobody_is_gone
 
 pub returns-clause-full : goal.returns-clause-full
-returns-clause-full c = full_after_four
+returns-clause-full c = full_after_enough
 
 pub returns-clause-runs : goal.returns-clause-runs
 returns-clause-runs c = runs_end_once c.runner_laws.ensures.one_last c.runner_laws.ensures.runs

@@ -6,7 +6,7 @@ use Rattle.dap_session.specs.Ports.{ports}
 use Rattle.dbg_runner.specs.Queues.{passed_in}
 use Rattle.dap_session.specs.Sending.{IsPrefixOf}
 use Rattle.dap_wires.specs.Inbox.{client_events, received, sent_reports, taken_events}
-use Rattle.dap_wires.specs.Orders.{FourWerePushed, pushed_orders, taken_orders}
+use Rattle.dap_wires.specs.Orders.{EnoughWerePushed, pushed_orders, taken_orders}
 use Rattle.dap_wires.specs.Outbox.{put_frames, messages_put, messages_received, messages_taken}
 use Rattle.dap_wires.specs.Reading.{IsReadUntil}
 use Rattle.dap_wires.specs.Senders.{from_client, reports_among}
@@ -29,7 +29,7 @@ returns-in-Ok-clause-served g c =
     × (c.outcome.result ≡ outcome_of c.in-Ok.wrote closed) × (c.in-Ok.input.now ≡ c.input-1.given.0)
     × (c.in-Ok.output.now ≡ c.output-1.given.0) × (c.in-Ok.loader.now ≡ c.loader-1.given.0)
     × (c.in-Ok.gate.now ≡ c.gate-1.given.0) × ((pushed_orders ends.orders).fulls ≢ 0
-    → FourWerePushed (pushed_orders ends.orders).orders) = (
+    → EnoughWerePushed (pushed_orders ends.orders).orders) = (
       (c.reconcile.ensures.reports.0, search (rules, c.reconcile.ensures.reports.1)),
       (c.reconcile.ensures.client.0, search (rules, c.reconcile.ensures.client.1)),
       (c.reconcile.ensures.frames.0, search (rules, c.reconcile.ensures.frames.1)),
@@ -106,7 +106,7 @@ returns-in-Ok-clause-served g c =
     subst (λ x. IsWrittenUntil c.in-Ok.wrote w.2.0 (output_at (g.O.Sink.written x) (g.O.Sink.failures x))
     (output_at (g.O.Sink.written c.in-Ok.output.now) (g.O.Sink.failures c.in-Ok.output.now)))
     c.tasks_over-writer.ensures.output w.2.2 in
-    let four : (pushed_orders ends.orders).fulls ≢ 0 → FourWerePushed (pushed_orders ends.orders).orders = facts.9 in
+    let full : (pushed_orders ends.orders).fulls ≢ 0 → EnoughWerePushed (pushed_orders ends.orders).orders = facts.9 in
     let passed : g.G.Gate.passed c.in-Ok.gate.now ≡ g.G.Gate.passed c.args.gate.now ++ flat_map passed_in r.3.0 =
     r.3.4 ∙ ap (λ x. g.G.Gate.passed x ++ flat_map passed_in r.3.0) c.tasks_over-writer.ensures.gate in
     let before : World =
@@ -123,7 +123,7 @@ returns-in-Ok-clause-served g c =
     session read
     (subst (λ l. IsPrefixOf (from_client (received ends.inbox)) l) client inbox_client)
     r.3.1 r.3.2 r.3.3
-    orders_taken four inbox_reports passed written
+    orders_taken full inbox_reports passed written
     (subst (λ l. IsPrefixOf l (messages_put ends.outbox)) taken outbox_taken) in
     tasks_ended c.in-Ok.wrote closed answer (rw (input, output, loader, gate) at driven)
 
