@@ -104,6 +104,8 @@ def reads_again(one: Watched, seconds: float) -> str:
     logs = [message["body"]["output"] for message in one.messages if message.get("event") == "output"]
     if numbers != list(range(1, len(numbers) + 1)) or logs != [f"x is {turn % 2}\n" for turn in range(len(logs))]:
         raise Wrong("messages are missing")
+    if not logs:
+        raise Wrong("nothing was logged")
     one.child.stdin.close()
     return f"waits with {memory} KiB, {rest}; {len(logs)} logs in their order, none missing; {one.must_end({0: ''})}"
 

@@ -30,7 +30,7 @@ import client
 from client import Client, frame, put_files
 from notation import said_of
 
-FRESH, READY, CONFIGURING, RUNNING, PRINTING, STOPPED, FAULTED, ENDED = SITUATIONS = (
+FRESH, READY, CONFIGURING, RUNNING, PRINTING, STOPPED, FAULTED, ENDED = (
     "fresh", "ready", "configuring", "running", "printing", "stopped", "faulted", "ended",
 )
 # What comes after a case: the next request is answered; it is taken for a part of what was announced; the session is

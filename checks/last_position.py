@@ -46,12 +46,12 @@ def copy_crates(top: pathlib.Path) -> None:
 
 
 def play(top: pathlib.Path) -> dict[str, dict]:
-    """The bodies that the session sends, by the command or the event that they are of."""
+    """The bodies that the session sends, by the command or the event that they are of. It has to succeed."""
     (top / "sent").write_bytes(b"".join(frame(request(seq, *one)) for seq, one in enumerate(REQUESTS, 1)))
     (top / "loop.pl0").write_text(PROGRAM)
     files = [word for name in ("sent", "loop.pl0") for word in ("--data", f"{name}={top / name}")]
     run = subprocess.run(["rt", "try", "--seconds", "300", *files, "--", "session", "sent"], cwd=top / "crates/speed",
-                         stdout=subprocess.PIPE)
+                         stdout=subprocess.PIPE, check=True)
     said, frames = {}, Frames()
     frames.take(run.stdout)
     for content in frames:

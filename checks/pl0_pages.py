@@ -133,7 +133,7 @@ def wrong_traces(pl0: str):
     for start in ("0", "3", "7"):
         told = run(pl0, "trace", "-", "--from", start, text=FAULTY)
         said = b"-:1:22: fault: division by zero\n  in main at -:1:22\n"
-        if told.returncode != 1 or not told.stderr.startswith(said):
+        if (told.stderr, told.returncode) != (said, 1):
             yield f"a trace from {start} of a run that faults: {told}"
 
 
@@ -188,7 +188,8 @@ def wrong_stops(pl0: str):
         yield f"a run that was stopped: {written!r}"
     with open("/dev/full", "wb") as full:
         told = run(pl0, "run", "-", text=WRITES_AND_FAULTS, stdout=full, stderr=pipe)
-    if not (b": fault: division by zero\n" in told.stderr and told.stderr.endswith(b"pl0: cannot write the output\n")):
+    said = b"-:1:19: fault: division by zero\n  in main at -:1:19\npl0: cannot write the output\n"
+    if (told.stderr, told.returncode) != (said, 3):
         yield f"a fault, with a full disk: {told}"
     told = run(pl0, "check", "missing", str(TOP / "docs"), str(TOP / "checks" / "mistakes" / "mod.pl0"))
     said = told.stderr.splitlines()

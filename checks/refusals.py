@@ -336,7 +336,9 @@ def is_judged(name: str, run: Run, kind: str, later: str, library: str) -> bool:
     all_later = " with all later ones" if later else ""
     times = sum(ends.values()) + wrong
     print(f"{name}, {kind} refused{all_later} {times} times, up to {number}: {said}{before}{unseen}", flush=True)
-    return not wrong and not unseen and (kind != "allocation" or run.ends is not SESSION_ENDS or early > 0)
+    is_tried = times > 0 or (kind == "write" and not run.pieces)
+    is_early = early > 0 or kind != "allocation" or run.ends is not SESSION_ENDS
+    return is_tried and is_early and not wrong and not unseen
 
 
 def is_whole_hindered(name: str, run: Run, library: str) -> bool:

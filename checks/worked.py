@@ -62,7 +62,10 @@ def wrong(client: Client, exchange) -> str | None:
 def of_tests(first: int) -> list[Session]:
     """The sessions of session_tests, whose crate has its own reader for the same notation."""
     sources = sorted(SESSION_TESTS.glob("*.rt"))
-    return [one for source in sources for one in of_session_tests(source.read_text(encoding="utf-8"), first)]
+    found = [one for source in sources for one in of_session_tests(source.read_text(encoding="utf-8"), first)]
+    if not found:
+        raise SystemExit(f"no session that a program can be played is in {SESSION_TESTS}")
+    return found
 
 
 def differences(program: str, first: int = 1) -> Iterator[tuple[str, str | None]]:

@@ -122,7 +122,7 @@ def wrong_manifest(file: zipfile.ZipFile, package: dict) -> Iterator[str]:
 def named(part: object) -> Iterator[str]:
     """The files that a part of package.json names."""
     if isinstance(part, str) and part.startswith("./"):
-        yield part[2:] if part.startswith("./") else part
+        yield part[2:]
     for inner in part.values() if isinstance(part, dict) else part if isinstance(part, list) else ():
         yield from named(inner)
 

@@ -48,7 +48,7 @@ def main() -> int:
     with tempfile.TemporaryDirectory(dir=HERE / "out") as folder:
         crate = make_copy(pathlib.Path(folder))
         answers = [is_answered(crate, source) for source in sorted(HERE.glob("*.txt"))]
-    return 0 if all(answers) else 1
+    return 0 if answers and all(answers) else 1
 
 
 sys.exit(main())

@@ -34,7 +34,7 @@ def wrong_in(edit: pathlib.Path) -> Iterator[str]:
                 yield f"{name}: {texts[file].count(old)} places for {old}"
         elif word == "new":
             texts[file] = texts[file].replace(old, value, 1)
-    if old is None:
+    if all(text == file.read_text(encoding="utf-8") for file, text in texts.items()):
         yield f"{name}: it changes nothing"
 
 

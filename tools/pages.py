@@ -256,7 +256,17 @@ def functions(text: str) -> Iterator[tuple[str, int]]:
         head = FUNCTION.match(line)
         if head:
             end = next((at for at, one in enumerate(lines[number:], number) if is_last(one, head[1])), number)
-            yield head[2], sum(not CONTRACT.match(one) for one in lines[number:end + 1])
+            yield head[2], len([*without_contracts(lines[number:end + 1])])
+
+
+def without_contracts(lines: list[str]) -> Iterator[str]:
+    """The lines that belong to no clause of a contract; a clause goes on until its braces are closed."""
+    opened = 0
+    for line in lines:
+        if opened or CONTRACT.match(line):
+            opened += line.count("{") - line.count("}")
+        else:
+            yield line
 
 
 def is_last(line: str, indent: str) -> bool:

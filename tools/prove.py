@@ -4,11 +4,12 @@ them first.
 
 usage: prove.py CRATE..
 
-While `rt` works on a crate it keeps others from all crates below it, so a checkout proves nearly one crate at a time. So a
-few copies of the crates are made, in a temporary folder; in each a library at a time is proved, and what `rt` keeps of it in
-`out/` is brought to the checkout, from where the other copies take it: `rt run` then finds all libraries proved. COPIES says
-how many, by default one a processor, as far as there is memory: each takes up to 5 GB. Prints a line for each library as it
-is proved, and what `rt` printed where one isn't: then the status is 1, and those above it aren't tried.
+While `rt` works on a crate it keeps others from all crates below it, so a checkout proves nearly one crate at a time.
+So a few copies of the crates are made, in a temporary folder; in each a library at a time is proved, and what `rt`
+keeps of it in `out/` is brought to the checkout, from where the other copies take it: `rt run` then finds all libraries
+proved. COPIES says how many, by default one a processor, as far as there is memory: each takes up to 5 GB. Prints a
+line for each library as it is proved, and what `rt` printed where one isn't: then the status is 1, and those above it
+aren't tried.
 """
 from __future__ import annotations
 
@@ -22,7 +23,7 @@ import tempfile
 import time
 from typing import NamedTuple
 
-from scratch import TOP, crate_lines, crate_names, libraries
+from scratch import TOP, crate_names, libraries
 
 COPY_MEMORY = 5
 PARTS = ("src", "specs", "proofs")
@@ -91,7 +92,8 @@ def bring(name: str, part: str, source: pathlib.Path, target: pathlib.Path) -> N
 
 
 def prove(top: pathlib.Path, name: str, processors: int) -> Proof:
-    """Proves a library in a copy of the repository, over what the checkout keeps of those below, and brings it there."""
+    """Proves a library in a copy of the repository, over what the checkout keeps of those below, and brings it
+    there."""
     begin = time.monotonic()
     for library in [*libraries(name), name]:
         bring(library, PROVED, TOP, top)

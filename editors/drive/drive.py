@@ -49,7 +49,7 @@ def replay(program: str, from_zero: str) -> bool:
     """Whether the adapter sends what the sessions say, and listen.py changes of it what it says."""
     written = [os.path.join(DRIVE, name) for name in WRITTEN]
     recorded = [os.path.join(RECORDINGS, name) for name in RECORDED]
-    sessions = [session for session in written + recorded if os.path.exists(session)]
+    sessions = written + recorded
     shifted = [session for session in sessions if os.path.basename(session) in FROM_ZERO]
     plain = [session for session in sessions if session not in shifted]
     play = [sys.executable, os.path.join(DRIVE, "replay.py")]

@@ -8,7 +8,6 @@ import subprocess
 import tempfile
 import time
 import zlib
-from collections.abc import Iterator
 
 NEEDED = ("Xvfb", "xdotool")
 START = 30.0  # seconds that a display gets at most to start
