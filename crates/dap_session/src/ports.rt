@@ -37,6 +37,9 @@ pub trait Out {
     /// The frames put, and the frames refused.
     ghost seen: { Self → Written };
 
+    /// None of the frames put is kept.
+    ghost keeps_none: { Self → Type 0 };
+
     /// What underlies the port, which no call changes.
     ghost Origin: { Type 0 };
 
@@ -65,6 +68,7 @@ pub trait Out {
         ensures ok_refused { OnOk result ((seen self.new).refused ≡ (seen self.old).refused) }
         ensures err { OnErr result ((seen self.new).frames ≡ (seen self.old).frames) }
         ensures err_refused { OnErr result ((seen self.new).refused ≡ (seen self.old).refused ++ frame.items ∷ []) }
+        ensures passed { OnOk result (keeps_none self.new) }
         ensures back { IfErr result (λ back. back.items ≡ frame.items) }
         ensures origin { origin self.new ≡ origin self.old };
 }

@@ -101,8 +101,8 @@ impl Session {
     ///
     /// At a framing fault, all was sent that the contents before it cause. At any other fault, what was sent is a prefix of
     /// what the event causes. Either way the session has given up: every later call sends nothing and returns the same
-    /// fault. `NoMemory` is returned only at an event that needs memory: the end of the input, a failed read and a report
-    /// that tells a client nothing need none.
+    /// fault. `NoMemory` is returned only at an event that needs memory: the end of the input and a failed read need none,
+    /// nor, while no launch waits, a file or a report that isn't accepted or tells a client nothing.
     pub fn take<O: Out, D: Orders>(
         &mut self,
         event: Event,
@@ -118,6 +118,8 @@ impl Session {
         ensures quiet { self.old.ending ≢ None →
             ports (O.seen out.new) (D.seen orders.new) ≡ ports (O.seen out.old) (D.seen orders.old) }
         ensures same { self.old.ending ≢ None → self.new ≡ self.old }
+        // Where no frame was kept before, none is while the caller waits for the next event.
+        ensures passed { O.keeps_none out.old → OnOk result (O.keeps_none out.new) }
         ensures out { O.origin out.new ≡ O.origin out.old }
         ensures orders { D.origin orders.new ≡ D.origin orders.old }
     {
@@ -149,6 +151,7 @@ impl Session {
             (ports (O.seen out.old) (D.seen orders.old))
             (ports (O.seen out.new) (D.seen orders.new)) }
         ensures well { OnOk result (IsWell self.new.ending) }
+        ensures passed { O.keeps_none out.old → OnOk result (O.keeps_none out.new) }
         ensures out { O.origin out.new ≡ O.origin out.old }
         ensures orders { D.origin orders.new ≡ D.origin orders.old }
     {

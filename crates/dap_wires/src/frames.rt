@@ -132,8 +132,11 @@ impl<R: Wait + Drop> Out for FrameSender<R> {
     ghost use Rattle.dap_wires.specs.declared.writer_message.WriterMessage.{WriterMessage};
     ghost use Rattle.dap_wires.specs.Ends.{QueueId};
     ghost use Rattle.dap_wires.specs.Outbox.{put_frames, frame_queue};
+    ghost use Rattle.std.specs.Prelude.{◌≡◌, None};
 
     ghost seen = { put_frames };
+
+    ghost keeps_none = { λ s. s.kept ≡ None };
 
     ghost Origin = { QueueId WriterMessage };
 

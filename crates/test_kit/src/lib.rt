@@ -4,9 +4,8 @@
 //! - [`Runner`] obeys orders and reports slices in the thread of its caller, one report for each call.
 //! - [`run_session`] drives a session over ports in memory: events from a source of the caller's ([`Events`]), files from a
 //!   loader ([`Files`] has some in memory), and room for some frames and orders. Orders go to the runner of [`Shared`],
-//! which
-//!   the source of events has too; it takes the reports from there. The [`Outcome`] has each frame and order with the
-//!   number of events given before it.
+//!   which the source of events has too; it takes the reports from there. The [`Outcome`] has each frame and order with
+//!   the number of events given before it.
 //! - [`OneRun`], [`Tray`], [`Last`] and [`Open`] are the ports of `dbg_runner::work`: orders for one run, room for some
 //!   reports, the last report alone, and a gate that is open.
 //! - [`framed`] makes a frame of a content.

@@ -103,6 +103,8 @@ impl Out for Frames<'_> {
           s.refused.entries;
     } };
 
+    ghost keeps_none = { λ _. ⊤ };
+
     ghost Origin = { ⊤ };
 
     ghost origin = { λ _. tt };

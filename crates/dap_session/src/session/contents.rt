@@ -33,6 +33,7 @@ impl Session {
             (ports (O.seen out.old) (D.seen orders.old))
             (ports (O.seen out.new) (D.seen orders.new)) }
         ensures well { OnOk result (IsWell self.new.ending) }
+        ensures passed { O.keeps_none out.old → OnOk result (O.keeps_none out.new) }
         ensures out { O.origin out.new ≡ O.origin out.old }
         ensures orders { D.origin orders.new ≡ D.origin orders.old }
     {
@@ -65,6 +66,7 @@ impl Session {
             (ports (O.seen out.old) (D.seen orders.old))
             (ports (O.seen out.new) (D.seen orders.new)) }
         ensures well { OnOk result (IsWell self.new.ending) }
+        ensures passed { O.keeps_none out.old → OnOk result (O.keeps_none out.new) }
         ensures out { O.origin out.new ≡ O.origin out.old }
         ensures orders { D.origin orders.new ≡ D.origin orders.old }
     {
@@ -116,6 +118,7 @@ impl Session {
             (ports (O.seen out.new) (D.seen orders.new)) }
         ensures stream { self.new.stream ≡ self.old.stream }
         ensures well { OnOk result (IsWell self.new.ending) }
+        ensures passed { O.keeps_none out.old → OnOk result (O.keeps_none out.new) }
         ensures out { O.origin out.new ≡ O.origin out.old }
         ensures orders { D.origin orders.new ≡ D.origin orders.old }
     {

@@ -42,6 +42,7 @@ impl Session {
         ensures no_memory { LacksMemory (File (plain_file file)) (launch_of self.old.phase) → result ≡ Err NoMemory }
         ensures enough { launch_of self.old.phase ≡ None → NeededNoMemory result self.new }
         ensures well { OnOk result (IsWell self.new.ending) }
+        ensures passed { O.keeps_none out.old → OnOk result (O.keeps_none out.new) }
         ensures out { O.origin out.new ≡ O.origin out.old }
         ensures orders { D.origin orders.new ≡ D.origin orders.old }
     {
@@ -86,6 +87,7 @@ impl Session {
             (ports (O.seen out.new) (D.seen orders.new)) }
         ensures stream { self.new.stream ≡ self.old.stream }
         ensures ending { self.new.ending ≡ None }
+        ensures passed { O.keeps_none out.old → OnOk result (O.keeps_none out.new) }
         ensures out { O.origin out.new ≡ O.origin out.old }
         ensures orders { D.origin orders.new ≡ D.origin orders.old }
     {

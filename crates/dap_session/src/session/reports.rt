@@ -38,6 +38,7 @@ impl Session {
             (¬ Expects self.old.phase (plain_report report)) ⊎ IsQuiet (plain_report report) →
             NeededNoMemory result self.new }
         ensures well { OnOk result (IsWell self.new.ending) }
+        ensures passed { O.keeps_none out.old → OnOk result (O.keeps_none out.new) }
         ensures out { O.origin out.new ≡ O.origin out.old }
         ensures orders { D.origin orders.new ≡ D.origin orders.old }
     {
@@ -86,6 +87,7 @@ impl Session {
         ensures enough { IsQuiet (plain_report report) → NeededNoMemory result self.new }
         ensures stream { self.new.stream ≡ self.old.stream }
         ensures ending { self.new.ending ≡ None }
+        ensures passed { O.keeps_none out.old → OnOk result (O.keeps_none out.new) }
         ensures out { O.origin out.new ≡ O.origin out.old }
         ensures orders { D.origin orders.new ≡ D.origin orders.old }
     {

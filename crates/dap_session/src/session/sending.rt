@@ -62,6 +62,7 @@ impl Session {
         ensures enough { answer ≡ None → effect.events ≡ [] → result ≢ Err NoMemory }
         ensures stream { self.new.stream ≡ self.old.stream }
         ensures ending { self.new.ending ≡ self.old.ending }
+        ensures passed { O.keeps_none out.old → OnOk result (O.keeps_none out.new) }
         ensures out { O.origin out.new ≡ O.origin out.old }
         ensures orders { D.origin orders.new ≡ D.origin orders.old }
     {
@@ -92,6 +93,7 @@ impl Session {
         ensures enough { answer ≡ None → events ≡ [] → result ≢ Err NoMemory }
         ensures stream { self.new.stream ≡ self.old.stream }
         ensures ending { self.new.ending ≡ self.old.ending }
+        ensures passed { O.keeps_none out.old → OnOk result (O.keeps_none out.new) }
         ensures out { O.origin out.new ≡ O.origin out.old }
         ensures orders { D.origin orders.new ≡ D.origin orders.old }
     {
@@ -251,6 +253,7 @@ pub(super) fn push<D: Orders>(order: Option<Order>, orders: &mut D) -> Result<()
 fn put<O: Out>(mut frames: Vec<Vec<u8>>, out: &mut O) -> Result<(), SessionFault>
     ensures ok { OnOk result ((O.seen out.new).frames ≡ (O.seen out.old).frames ++ plain_frames frames.items) }
     ensures ok_refused { OnOk result ((O.seen out.new).refused ≡ (O.seen out.old).refused) }
+    ensures passed { O.keeps_none out.old → OnOk result (O.keeps_none out.new) }
     ensures origin { O.origin out.new ≡ O.origin out.old }
     ensures err { IfErr result (λ fault. IsNotPut fault (plain_frames frames.items) (O.seen out.old) (O.seen out.new)) }
 {
