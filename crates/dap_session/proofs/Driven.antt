@@ -357,7 +357,8 @@ ends f events past rest event after old mid later last given loads (faults.Frame
       mid = later;
       serves = serves f (events ++ event ∷ []) comes.new comes.rest (ending.Fault (faults.Frame k)) old later
           comes.first_is comes.history comes.ending_is
-          (ends_at_last f events past rest event first history taking) (sends_both [] past comes.new old mid later sent comes.sends)
+          (ends_at_last f events past rest event first history taking)
+          (sends_both [] past comes.new old mid later sent comes.sends)
           (refuses_both old mid later sure comes.refuses_nothing);
       quit = quit;
     })
