@@ -1,7 +1,7 @@
 //! Sessions over ports in memory.
 
 use crate::rows::{FAULTS, HELLO, INITIALIZE, LAUNCH, ROWS, Row, STARTED, fault_row};
-use crate::transcript::{ANSWERED, frames, input};
+use crate::transcript::{answered_frames, input};
 use dap_session::{Closed, Event, SessionFault};
 use std::alloc::{AllocError, Global};
 use std::collections::VecDeque;
@@ -118,9 +118,9 @@ fn served(row: &Row, piece: usize) -> Driven {
 fn assert_driven<R: Abort + Wait>(rt: &R, alloc: Global, session: &Driven) {
     let name = session.name;
     let piece = session.ports.piece;
-    let input = input(alloc, session.transcript, session.tail).expect(rt, "memory");
+    let input = input(rt, alloc, session.transcript, session.tail);
     let run = run(rt, alloc, input.as_slice(), session.ports).expect(rt, "memory");
-    let answers = frames(alloc, session.answered, ANSWERED).expect(rt, "memory");
+    let answers = answered_frames(rt, alloc, session.answered);
     assert_eq!(rt;
         (run.end, run.orders),
         (session.end, session.orders),

@@ -4,8 +4,10 @@ use crate::fakes::{Cut, Hold, Input, Listener, Output, Progress, SliceGate, Stre
 use crate::programs::{BROKEN, CUT_OFF, Debugging, NOTHING, PAUSED, PROCEDURES};
 use crate::rows::STARTED;
 use crate::serving::{Outcome, run};
-use crate::transcript::{Exchange, SENT, frames, input};
-use adapter::{FirstSeq, serve_counting_from};
+use crate::transcript::{Exchange, input, sent_frames};
+use adapter::{FirstSeq, ServeFault, Served, serve_counting_from};
+use dap_frame::FramingFault;
+use dap_session::SessionFault;
 use std::alloc::Global;
 use std::process::Abort;
 use std::sync::Wait;
@@ -27,7 +29,7 @@ fn assert_served<R: Threads + Wait + Abort + Copy + Drop + Send + Sync>(
     alloc: Global,
     session: &Debugging,
 ) -> usize {
-    let exchange = Exchange::new(alloc, session.transcript).expect(rt, "memory");
+    let exchange = Exchange::new(rt, alloc, session.transcript);
     let streams = Streams {
         cuts: exchange.reads.as_slice(),
         slice_hold: exchange.slice_hold,
@@ -65,7 +67,7 @@ fn sets_breakpoints_while_the_program_runs(rt: HostRuntime) {
 #[test]
 fn quits_a_run_where_the_input_ends(rt: HostRuntime) {
     let alloc = rt.alloc();
-    let mut exchange = Exchange::new(alloc, CUT_OFF.transcript).expect(&rt, "memory");
+    let mut exchange = Exchange::new(&rt, alloc, CUT_OFF.transcript);
     exchange
         .reads
         .push(Cut {
@@ -86,7 +88,7 @@ fn quits_a_run_where_the_input_ends(rt: HostRuntime) {
 #[test]
 fn reads_before_it_has_written(rt: HostRuntime) {
     let alloc = rt.alloc();
-    let exchange = Exchange::new(alloc, NOTHING.transcript).expect(&rt, "memory");
+    let exchange = Exchange::new(&rt, alloc, NOTHING.transcript);
     let streams = Streams {
         cuts: exchange.reads.as_slice(),
         write_hold: Hold::Read(2),
@@ -101,7 +103,7 @@ fn reads_before_it_has_written(rt: HostRuntime) {
 #[test]
 fn writes_before_it_reads_again(rt: HostRuntime) {
     let alloc = rt.alloc();
-    let mut exchange = Exchange::new(alloc, NOTHING.transcript).expect(&rt, "memory");
+    let mut exchange = Exchange::new(&rt, alloc, NOTHING.transcript);
     for (read, answered) in exchange
         .reads
         .iter_mut()
@@ -135,11 +137,11 @@ fn paused_while_printing<R: Threads + Wait + Abort + Copy + Drop + Send + Sync>(
 ) -> Vec<u8> {
     let numbers = "! 1; ".repeat(alloc, 300).expect(rt, "memory");
     let program = format!(in alloc; "while 1 = 1 do begin {numbers} end.").expect(rt, "memory");
-    let mut sent = input(alloc, STARTED, "").expect(rt, "memory");
+    let mut sent = input(rt, alloc, STARTED, "");
     let before_pause = sent.len();
     let pause =
         "> {\"seq\":4,\"type\":\"request\",\"command\":\"pause\",\"arguments\":{\"threadId\":1}}";
-    let pause = frames(alloc, pause, SENT).expect(rt, "memory");
+    let pause = sent_frames(rt, alloc, pause);
     sent.extend_from_slice(pause.as_slice())
         .expect(rt, "memory");
     let cuts = [
@@ -184,7 +186,12 @@ fn tells_how_it_ended_before_the_input_ends(rt: HostRuntime) {
     let alloc = rt.alloc();
     let disconnect =
         b"Content-Length: 49\r\n\r\n{\"seq\":1,\"type\":\"request\",\"command\":\"disconnect\"}";
-    for sent in [b"fault\r\n".as_slice(), disconnect.as_slice()] {
+    let fault = SessionFault::Frame(FramingFault::BadField);
+    let rows = [
+        (b"fault\r\n".as_slice(), Err(ServeFault::Session(fault))),
+        (disconnect.as_slice(), Ok(Served::Disconnected)),
+    ];
+    for (sent, end) in rows {
         let cuts = [Cut {
             at: sent.len(),
             hold: Hold::Told,
@@ -194,7 +201,7 @@ fn tells_how_it_ended_before_the_input_ends(rt: HostRuntime) {
             ..Streams::WELL
         };
         let progress = Progress::new();
-        let _ = serve_counting_from(
+        let came = serve_counting_from(
             &rt,
             alloc,
             FirstSeq::One,
@@ -204,6 +211,6 @@ fn tells_how_it_ended_before_the_input_ends(rt: HostRuntime) {
             &mut SliceGate::new(&rt, streams, &progress),
             &mut Listener::new(&progress),
         );
-        assert!(rt; !progress.has_missed());
+        assert_eq!(rt; (came, progress.has_missed()), (end, false));
     }
 }

@@ -4,7 +4,7 @@ use crate::fakes::{Hold, Streams};
 use crate::programs::{BROKEN, Debugging, NOTHING, OVERFLOW, PAUSED, PROCEDURES};
 use crate::rows::{HELLO, INITIALIZE};
 use crate::serving::run;
-use crate::transcript::{ANSWERED, Exchange, SENT, frames};
+use crate::transcript::{Exchange, answered_frames, sent_frames};
 use adapter::{ServeFault, Served};
 use std::alloc::Global;
 use std::process::Abort;
@@ -28,7 +28,7 @@ fn assert_reads_fail<R: Threads + Wait + Abort + Copy + Drop + Send + Sync>(
     session: &Debugging,
 ) {
     let name = session.name;
-    let exchange = Exchange::new(alloc, session.transcript).expect(rt, "memory");
+    let exchange = Exchange::new(rt, alloc, session.transcript);
     let sent = exchange.sent.as_slice();
     let reads = exchange.reads.as_slice();
     for (read, answered) in reads.iter().zip(exchange.answered_before.iter()) {
@@ -90,7 +90,7 @@ fn assert_writes_fail<R: Threads + Wait + Abort + Copy + Drop + Send + Sync>(
     alloc: Global,
     session: &Debugging,
 ) {
-    let exchange = Exchange::new(alloc, session.transcript).expect(rt, "memory");
+    let exchange = Exchange::new(rt, alloc, session.transcript);
     for (begin, end) in exchange.answers.as_slice() {
         for room in [*begin, begin.saturating_add(1), end.saturating_sub(1)] {
             assert_write_fails(rt, alloc, session, &exchange, room);
@@ -109,9 +109,9 @@ fn ends_where_a_write_fails(rt: HostRuntime) {
 #[test]
 fn ends_where_a_read_fails_within_a_frame(rt: HostRuntime) {
     let alloc = rt.alloc();
-    let input = frames(alloc, HELLO, SENT).expect(&rt, "memory");
-    let first = frames(alloc, INITIALIZE, SENT).expect(&rt, "memory");
-    let answer = frames(alloc, INITIALIZE, ANSWERED).expect(&rt, "memory");
+    let input = sent_frames(&rt, alloc, HELLO);
+    let first = sent_frames(&rt, alloc, INITIALIZE);
+    let answer = answered_frames(&rt, alloc, INITIALIZE);
     for read_step in [1, first.len()] {
         for read_fails_at in 0..input.len() {
             let streams = Streams {
@@ -136,7 +136,7 @@ fn ends_where_a_read_fails_within_a_frame(rt: HostRuntime) {
 #[test]
 fn ends_where_a_write_fails_within_a_frame(rt: HostRuntime) {
     let alloc = rt.alloc();
-    let exchange = Exchange::new(alloc, HELLO).expect(&rt, "memory");
+    let exchange = Exchange::new(&rt, alloc, HELLO);
     for room in 0..exchange.answered.len() {
         assert_write_fails(&rt, alloc, &NOTHING, &exchange, room);
     }

@@ -1,6 +1,6 @@
 //! Worked rows: what an editor sends and must get, and how the session and the program end after it.
 
-use crate::transcript::{ANSWERED, SENT, frames};
+use crate::transcript::{answered_frames, sent_frames};
 use dap_frame::FramingFault;
 use dap_session::{Closed, SessionFault};
 
@@ -201,11 +201,11 @@ pub const fn fault_row(
 /// The frames of the first row, byte for byte: the other rows compare frames that the tests make.
 #[test]
 fn makes_the_frames_of_a_transcript(rt: HostRuntime) {
-    let sent = frames(rt.alloc(), HELLO, SENT).expect(&rt, "memory");
+    let sent = sent_frames(&rt, rt.alloc(), HELLO);
     let expected =
         "Content-Length: 49\r\n\r\n{\"seq\":1,\"type\":\"request\",\"command\":\"initialize\"}Content-Length: 49\r\n\r\n{\"seq\":2,\"type\":\"request\",\"command\":\"disconnect\"}";
     assert_eq!(rt; sent.as_slice(), expected.as_bytes());
-    let answered = frames(rt.alloc(), HELLO, ANSWERED).expect(&rt, "memory");
+    let answered = answered_frames(&rt, rt.alloc(), HELLO);
     let expected =
         "Content-Length: 258\r\n\r\n{\"body\":{\"supportsConditionalBreakpoints\":true,\"supportsConfigurationDoneRequest\":true,\"supportsHitConditionalBreakpoints\":true,\"supportsLogPoints\":true,\"supportsStepBack\":true},\"command\":\"initialize\",\"request_seq\":1,\"seq\":1,\"success\":true,\"type\":\"response\"}Content-Length: 81\r\n\r\n{\"command\":\"disconnect\",\"request_seq\":2,\"seq\":2,\"success\":true,\"type\":\"response\"}";
     assert_eq!(rt; answered.as_slice(), expected.as_bytes());

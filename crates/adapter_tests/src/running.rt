@@ -3,7 +3,7 @@
 use crate::fakes::{Input, Output, Progress, Streams};
 use crate::listings::{LAWFUL, LISTING};
 use crate::rows::{HELLO, INITIALIZE};
-use crate::transcript::{ANSWERED, frames, input};
+use crate::transcript::{answered_frames, input};
 use adapter::arguments::HELP;
 use adapter::{FirstSeq, execute};
 use dap_session::Loader;
@@ -77,8 +77,8 @@ For more information, try '--help'.
 fn serves_with_no_arguments(rt: HostRuntime) {
     let alloc = rt.alloc();
     let files = &mut Files::none(alloc);
-    let sent = input(alloc, HELLO, "").expect(&rt, "memory");
-    let answered = frames(alloc, HELLO, ANSWERED).expect(&rt, "memory");
+    let sent = input(&rt, alloc, HELLO, "");
+    let answered = answered_frames(&rt, alloc, HELLO);
     let expected = Expected {
         output: answered.as_slice(),
         errors: "",
@@ -98,8 +98,8 @@ fn serves_with_no_arguments(rt: HostRuntime) {
 fn says_why_serving_failed(rt: HostRuntime) {
     let alloc = rt.alloc();
     let files = &mut Files::none(alloc);
-    let sent = input(alloc, INITIALIZE, "A b: c\r\n").expect(&rt, "memory");
-    let answered = frames(alloc, INITIALIZE, ANSWERED).expect(&rt, "memory");
+    let sent = input(&rt, alloc, INITIALIZE, "A b: c\r\n");
+    let answered = answered_frames(&rt, alloc, INITIALIZE);
     let expected = Expected {
         output: answered.as_slice(),
         errors: "pl0dap: frame 2\n",

@@ -2,7 +2,7 @@
 
 use crate::fakes::{Cut, Hold, Input, Output, Progress, SliceGate, Streams};
 use crate::rows::{FAULTS, HELLO, INITIALIZE, ROWS, Row, fault_row};
-use crate::transcript::{ANSWERED, SENT, frames, input};
+use crate::transcript::{answered_frames, input, sent_frames};
 use adapter::{
     ExitReason, FirstSeq, NoListener, Reading, ServeFault, Served, Writing, end_of_serve,
     say_reason, serve, serve_counting_from,
@@ -107,8 +107,8 @@ fn assert_served<R: Threads + Wait + Abort + AllocGlobal + Copy + Drop + Send + 
     row: &Row,
 ) {
     let name = row.name;
-    let input = input(alloc, row.transcript, row.tail).expect(rt, "memory");
-    let output = frames(alloc, row.transcript, ANSWERED).expect(rt, "memory");
+    let input = input(rt, alloc, row.transcript, row.tail);
+    let output = answered_frames(rt, alloc, row.transcript);
     let expected = Expected {
         output: output.as_slice(),
         status: row.status,
@@ -148,7 +148,7 @@ fn serves_headers_up_to_the_limit(rt: HostRuntime) {
     let alloc = rt.alloc();
     let front = "Content-Length: 49\r\nX: ";
     let back = "\r\n\r\n{\"seq\":1,\"type\":\"request\",\"command\":\"initialize\"}";
-    let answer = frames(alloc, INITIALIZE, ANSWERED).expect(&rt, "memory");
+    let answer = answered_frames(&rt, alloc, INITIALIZE);
     let rows = [
         (997, answer.as_slice(), 0, ""),
         (998, b"".as_slice(), 2, "pl0dap: frame 1\n"),
@@ -177,7 +177,7 @@ fn serves_the_largest_content(rt: HostRuntime) {
         "Content-Length: 49\r\n\r\n{\"seq\":2,\"type\":\"request\",\"command\":\"disconnect\"}";
     let spaces = " ".repeat(alloc, 1_048_527).expect(&rt, "memory");
     let input = format!(in alloc; "{front}{spaces}{back}").expect(&rt, "memory");
-    let output = frames(alloc, HELLO, ANSWERED).expect(&rt, "memory");
+    let output = answered_frames(&rt, alloc, HELLO);
     let expected = Expected {
         output: output.as_slice(),
         status: 0,
@@ -191,8 +191,8 @@ fn serves_the_largest_content(rt: HostRuntime) {
 #[test]
 fn serves_streams_of_std(rt: HostRuntime) {
     let alloc = rt.alloc();
-    let input = frames(alloc, HELLO, SENT).expect(&rt, "memory");
-    let expected = frames(alloc, HELLO, ANSWERED).expect(&rt, "memory");
+    let input = sent_frames(&rt, alloc, HELLO);
+    let expected = answered_frames(&rt, alloc, HELLO);
     let mut output = Vec::new(alloc);
     let progress = Progress::new();
     let result = serve(
@@ -224,9 +224,9 @@ const FROM_ONE: &str = r#"
 #[test]
 fn serves_clients_that_count_from_zero(rt: HostRuntime) {
     let alloc = rt.alloc();
-    let input = frames(alloc, FROM_ZERO, SENT).expect(&rt, "memory");
+    let input = sent_frames(&rt, alloc, FROM_ZERO);
     for (first, answers) in [(FirstSeq::Zero, FROM_ZERO), (FirstSeq::One, FROM_ONE)] {
-        let expected = frames(alloc, answers, ANSWERED).expect(&rt, "memory");
+        let expected = answered_frames(&rt, alloc, answers);
         let mut output = Vec::new(alloc);
         let progress = Progress::new();
         let result = serve_counting_from(

@@ -2,17 +2,12 @@
 //!
 //! After a line `- read` the next read waits until all that comes back above it was written; after `- slice` the first
 //! slice of the program does. The lines `- initialize`, `- launch` and `- start` stand for the requests, numbered 1, 2
-//! and 3, with which most sessions begin, and for their answers.
+//! and 3, with which most sessions begin, and for their answers. Any other line that isn't empty ends the test.
 
 use crate::fakes::{Cut, Hold};
-use std::alloc::{AllocError, Global};
+use std::alloc::Global;
+use std::process::Abort;
 use test_kit::framed;
-
-/// What the editor sends.
-pub const SENT: &str = ">";
-
-/// What comes back.
-pub const ANSWERED: &str = "<";
 
 const INITIALIZE: &str = r#"> {"seq":1,"type":"request","command":"initialize"}
 < {"body":{"supportsConditionalBreakpoints":true,"supportsConfigurationDoneRequest":true,"supportsHitConditionalBreakpoints":true,"supportsLogPoints":true,"supportsStepBack":true},"command":"initialize","request_seq":1,"seq":1,"success":true,"type":"response"}"#;
@@ -35,29 +30,56 @@ fn lines_of(line: &str) -> &str {
     }
 }
 
-/// A frame of the content that a line has after its mark.
-fn frame(alloc: Global, content: &str) -> Result<Vec<u8>, AllocError> {
-    framed(alloc, content.trim().as_bytes())
+/// What a line says.
+#[derive(Clone, Copy)]
+enum Line<'a> {
+    Sent(&'a str),
+    Answered(&'a str),
+    /// The next read waits.
+    Read,
+    /// The first slice waits.
+    Slice,
 }
 
-/// The frames of the contents in the lines after this mark, one after another.
-pub fn frames(alloc: Global, transcript: &str, mark: &str) -> Result<Vec<u8>, AllocError> {
-    let mut frames = Vec::new(alloc);
-    for line in transcript.lines() {
-        for line in lines_of(line).lines() {
-            if let Some(content) = line.strip_prefix(mark) {
-                frames.extend_from_slice(frame(alloc, content)?.as_slice())?;
-            }
-        }
+fn parse_line<'a>(rt: &impl Abort, line: &'a str) -> Line<'a> {
+    if let Some(content) = line.strip_prefix('>') {
+        return Line::Sent(content.trim());
     }
-    Ok(frames)
+    if let Some(content) = line.strip_prefix('<') {
+        return Line::Answered(content.trim());
+    }
+    match line {
+        "- read" => Line::Read,
+        "- slice" => Line::Slice,
+        other => panic!(rt; "no line of a transcript: {other}"),
+    }
+}
+
+/// Adds a frame of this content.
+fn add_frame(rt: &impl Abort, alloc: Global, frames: &mut Vec<u8>, content: &str) {
+    let frame = framed(alloc, content.as_bytes()).expect(rt, "memory");
+    frames
+        .extend_from_slice(frame.as_slice())
+        .expect(rt, "memory");
+}
+
+/// The frames that are sent, one after another.
+pub fn sent_frames(rt: &impl Abort, alloc: Global, transcript: &str) -> Vec<u8> {
+    Exchange::new(rt, alloc, transcript).sent
+}
+
+/// The frames that come back, one after another.
+pub fn answered_frames(rt: &impl Abort, alloc: Global, transcript: &str) -> Vec<u8> {
+    Exchange::new(rt, alloc, transcript).answered
 }
 
 /// What the editor sends, and these bytes after it.
-pub fn input(alloc: Global, transcript: &str, tail: &str) -> Result<Vec<u8>, AllocError> {
-    let mut bytes = frames(alloc, transcript, SENT)?;
-    bytes.extend_from_slice(tail.as_bytes())?;
-    Ok(bytes)
+pub fn input(rt: &impl Abort, alloc: Global, transcript: &str, tail: &str) -> Vec<u8> {
+    let mut bytes = sent_frames(rt, alloc, transcript);
+    bytes
+        .extend_from_slice(tail.as_bytes())
+        .expect(rt, "memory");
+    bytes
 }
 
 /// A transcript in bytes, each frame that is sent in a read of its own.
@@ -77,7 +99,7 @@ pub struct Exchange {
 }
 
 impl Exchange {
-    pub fn new(alloc: Global, transcript: &str) -> Result<Exchange, AllocError> {
+    pub fn new(rt: &impl Abort, alloc: Global, transcript: &str) -> Exchange {
         let mut exchange = Exchange {
             sent: Vec::new(alloc),
             answered: Vec::new(alloc),
@@ -89,39 +111,42 @@ impl Exchange {
         };
         for line in transcript.lines() {
             for line in lines_of(line).lines() {
-                exchange.add_line(alloc, line)?;
+                exchange.add_line(rt, alloc, parse_line(rt, line));
             }
         }
-        exchange.add_read()?;
-        Ok(exchange)
+        exchange.add_read(rt);
+        exchange
     }
 
-    fn add_line(&mut self, alloc: Global, line: &str) -> Result<(), AllocError> {
-        if let Some(content) = line.strip_prefix(SENT) {
-            self.add_read()?;
-            self.sent
-                .extend_from_slice(frame(alloc, content)?.as_slice())?;
-        } else if let Some(content) = line.strip_prefix(ANSWERED) {
-            let begin = self.answered.len();
-            self.answered
-                .extend_from_slice(frame(alloc, content)?.as_slice())?;
-            self.answers.push((begin, self.answered.len()))?;
-        } else if line == "- read" {
-            self.read_hold = Hold::Written(self.answered.len());
-        } else if line == "- slice" {
-            self.slice_hold = Hold::Written(self.answered.len());
+    fn add_line(&mut self, rt: &impl Abort, alloc: Global, line: Line) {
+        match line {
+            Line::Sent(content) => {
+                self.add_read(rt);
+                add_frame(rt, alloc, &mut self.sent, content);
+            }
+            Line::Answered(content) => {
+                let begin = self.answered.len();
+                add_frame(rt, alloc, &mut self.answered, content);
+                self.answers
+                    .push((begin, self.answered.len()))
+                    .expect(rt, "memory");
+            }
+            Line::Read => self.read_hold = Hold::Written(self.answered.len()),
+            Line::Slice => self.slice_hold = Hold::Written(self.answered.len()),
         }
-        Ok(())
     }
 
     /// A read begins here.
-    fn add_read(&mut self) -> Result<(), AllocError> {
-        self.reads.push(Cut {
-            at: self.sent.len(),
-            hold: self.read_hold,
-        })?;
+    fn add_read(&mut self, rt: &impl Abort) {
+        self.reads
+            .push(Cut {
+                at: self.sent.len(),
+                hold: self.read_hold,
+            })
+            .expect(rt, "memory");
         self.read_hold = Hold::Nothing;
-        self.answered_before.push(self.answered.len())?;
-        Ok(())
+        self.answered_before
+            .push(self.answered.len())
+            .expect(rt, "memory");
     }
 }
