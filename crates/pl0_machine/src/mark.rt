@@ -1,6 +1,6 @@
 //! Where a run of many steps ends.
 
-ghost use Rattle.std.specs.Prelude.{◌≡◌, ◌<◌, ◌+◌, ℕ, None, Some, length, slice_get, slice_index_or, option_map};
+ghost use Rattle.std.specs.Prelude.{◌≡◌, ◌<◌, ◌+◌, ℕ, None, Some, slice_get, slice_index_or, option_map};
 ghost use Rattle.pl0_meaning.specs.Values.{comparison};
 ghost use Rattle.pl0_machine.specs.Room.{BeginsStep};
 ghost use Rattle.pl0_machine.specs.Asking.{IsInFrame, AreInFrame, MayBeInFrame, IsAnswer, IsWithin, IsMark, marked_in, number_there};
