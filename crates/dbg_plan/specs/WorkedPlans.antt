@@ -1,5 +1,5 @@
--- States worked examples of breakpoints: where some of them stop the two programs of `WorkedText`, and what they log.
--- Each was computed from the definitions.
+-- States worked examples of breakpoints: where some of them stop the two programs of `WorkedText`, and what they log;
+-- and which checkpoints are kept. Each was computed from the definitions.
 use Rattle.std.specs.Prelude.{◌≡◌, ℕ, ◌+◌, ◌*◌, Bool, true, false, List, [], ◌∷◌, ◌++◌, Option, Some, None, pos, map, codes, Result, Ok, Err, ℤ}
 use Rattle.std.specs.List.{range_with_len}
 use Rattle.pl0_tree.specs.declared.tree.Operator.TheVariants.{Add, Subtract, Divide}
