@@ -342,8 +342,8 @@ stops_part : (f : FirstSeq) (events : List Incoming) (fault : SessionFault) (old
 stops_part f events fault old later stops =
     let fails = stops.fails in
     broken_part fault fails.mid fails.next old fails.between stops.stopped
-    (mid_next fault stops.past stops.rest stops.last stops.mid stops.stopped fails)
-    (sends_both [] stops.past fails.mid old stops.mid fails.between stops.sent fails.sent) fails.breaks
+    (mid_next fault stops.reaches.past stops.reaches.rest stops.reaches.last stops.mid stops.stopped fails)
+    (sends_both [] stops.reaches.past fails.mid old stops.mid fails.between stops.sent fails.sent) fails.breaks
 
 -- ---- the history that a session reached
 
@@ -378,20 +378,21 @@ module _ (laws : ReadingsGoOn) (once : IsReadOnce) (one : HistoryIsOne) where
       → IsOnTheWay f events reached
       → IsReached f events reached
   reached_toward f events reached lawful way =
-      let parts = lawful_apart way.before (way.last ∷ []) (subst AreLawful way.events_are lawful) in
+      let at = way.reaches in
+      let parts = lawful_apart at.before (at.last ∷ []) (subst AreLawful at.events_are lawful) in
       let there =
-      retaken_toward laws way.past way.rest way.last reached parts.1 way.taking way.toward
-      (retaken laws way.before way.past way.rest parts.0 way.history) in
+      retaken_toward laws at.past at.rest at.last reached parts.1 at.taking way.toward
+      (retaken laws at.before at.past at.rest parts.0 at.history) in
       record {
         way = inr way;
         begins = λ new left first whole.
             let leads =
-            last_leads way.before way.last way.past way.rest new left (first ∙ sym way.first_is) way.history
-            (subst (λ es. IsHistoryOf es new left) way.events_are whole) in
-            event_begins once way.past way.rest way.last reached new left way.taking way.toward leads;
+            last_leads at.before at.last at.past at.rest new left (first ∙ sym at.first_is) at.history
+            (subst (λ es. IsHistoryOf es new left) at.events_are whole) in
+            event_begins once at.past at.rest at.last reached new left at.taking way.toward leads;
         taken = there.1.events;
         rest = there.1.rest;
-        first_is = there.1.first_is ∙ way.first_is;
+        first_is = there.1.first_is ∙ at.first_is;
         lawful = there.1.lawful;
         history = there.1.history;
       }
@@ -416,15 +417,9 @@ module _ (laws : ReadingsGoOn) (once : IsReadOnce) (one : HistoryIsOne) where
   stops_sent f events fault old later lawful stops = record {
     reached = stops.fails.next;
     is_reached = reached_toward f events stops.fails.next lawful (record {
-      before = stops.before;
-      last = stops.last;
-      events_are = stops.events_are;
-      past = stops.past;
-      rest = stops.rest;
-      first_is = stops.first_is;
-      history = stops.history;
-      taking = stops.taking;
-      toward = next_toward fault stops.past stops.rest stops.last stops.mid stops.stopped stops.fails;
+      reaches = stops.reaches;
+      toward =
+          next_toward fault stops.reaches.past stops.reaches.rest stops.reaches.last stops.mid stops.stopped stops.fails;
     });
     part = stops_part f events fault old later stops;
   }

@@ -24,7 +24,7 @@ use Rattle.dap_session.specs.Ports.{Ports, load_of}
 use Rattle.dap_session.specs.Sending.{Sends, RefusesNothing, TriesQuit}
 use Rattle.dap_session.specs.State.{State, Represents, Wants, WantsHere, IsOpenEnded}
 use Rattle.dap_session.specs.Taking.{Expects, NeedsNoMemory, EventGivesUp, Comes, TakesEvent}
-use Rattle.dap_session.specs.Serving.{EndsAtLast, Serves, StopsShort, no_seq_is_left, orders_are_full, runner_is_gone, writer_is_gone, SessionOutcome, closes, ends_at_fault, runs_out_of_memory, gives_up, Driven}
+use Rattle.dap_session.specs.Serving.{ReachesLast, Serves, StopsShort, no_seq_is_left, orders_are_full, runner_is_gone, writer_is_gone, SessionOutcome, closes, ends_at_fault, runs_out_of_memory, gives_up, Driven}
 use Rattle.dap_session.specs.Coming.{Sources, ComesFrom}
 use Rattle.dap_session.proofs.Reports.{accepts_expected}
 use Rattle.dap_session.proofs.Joining.{sends_both, refuses_both, sends_nothing}
@@ -287,9 +287,9 @@ way_goes_on f session after wanted want event begin now next old mid later way f
 
 -- ---- the end
 
-ends_at_last : (f : FirstSeq) (events : List Incoming) (past : History) (rest : Rest) (event : Incoming)
-    → rest.first ≡ f → IsHistoryOf events past rest → IsTaking past → EndsAtLast f (events ++ event ∷ [])
-ends_at_last f events past rest event first history taking = record {
+abbrev reaches_last : (f : FirstSeq) (events : List Incoming) (past : History) (rest : Rest) (event : Incoming)
+    → rest.first ≡ f → IsHistoryOf events past rest → IsTaking past → ReachesLast f (events ++ event ∷ [])
+reaches_last f events past rest event first history taking = record {
   before = events;
   last = event;
   events_are = refl;
@@ -301,16 +301,16 @@ ends_at_last f events past rest event first history taking = record {
 }
 
 serves : (f : FirstSeq) (events : List Incoming) (past : History) (rest : Rest) (by : Ending) (old later : Ports)
-    → rest.first ≡ f → IsHistoryOf events past rest → ending_of past ≡ Some by → EndsAtLast f events
+    → rest.first ≡ f → IsHistoryOf events past rest → ending_of past ≡ Some by → ReachesLast f events
     → Sends [] past old later → RefusesNothing old later
     → Serves f events by old later
-serves f events past rest by old later first history is at_last sent sure = record {
+serves f events past rest by old later first history is reaches sent sure = record {
   past = past;
   rest = rest;
   first_is = first;
   history = history;
   ending_is = is;
-  at_last = at_last;
+  reaches = reaches;
   frames_are = sent.frames_are ∙ ap (λ ms. old.frames ++ frames_from 1 ms) (sym sent.adds.messages_are);
   orders_are = sent.orders_are ∙ ap (λ os. old.orders ++ os) (sym sent.adds.orders_are);
   seqs_fit = sent.seqs_fit (lit≤ tt);
@@ -325,14 +325,7 @@ stops_short : (f : FirstSeq) (events : List Incoming) (past : History) (rest : R
     → RefusesNothing old mid → EventGivesUp fault past rest event mid later → TriesQuit later last
     → StopsShort f (events ++ event ∷ []) fault old last
 stops_short f events past rest event old mid later last fault first history taking needs sent sure fails quit = record {
-  before = events;
-  last = event;
-  events_are = refl;
-  past = past;
-  rest = rest;
-  first_is = first;
-  history = history;
-  taking = taking;
+  reaches = reaches_last f events past rest event first history taking;
   needs = needs;
   mid = mid;
   sent = sent;
@@ -357,7 +350,7 @@ ends f events past rest event after old mid later last given loads (faults.Frame
       mid = later;
       serves = serves f (events ++ event ∷ []) comes.new comes.rest (ending.Fault (faults.Frame k)) old later
           comes.first_is comes.history comes.ending_is
-          (ends_at_last f events past rest event first history taking)
+          (reaches_last f events past rest event first history taking)
           (sends_both [] past comes.new old mid later sent comes.sends)
           (refuses_both old mid later sure comes.refuses_nothing);
       quit = quit;
@@ -417,7 +410,7 @@ way_closes f session after wanted want event begin now next old mid later by way
           adds.one)
           (serves f (way.events ++ event ∷ []) well.new well.stands.rest (ending.Closed by) old later
           well.stands.first_is well.stands.history (sym well.stands.ending_is ∙ is)
-          (ends_at_last f way.events way.past way.stands.rest event way.stands.first_is way.stands.history
+          (reaches_last f way.events way.past way.stands.rest event way.stands.first_is way.stands.history
           (sym way.stands.ending_is ∙ way.open_ended))
           (sends_both [] way.past well.new old mid later way.sent well.sends)
           (refuses_both old mid later way.sure well.refuses_nothing));

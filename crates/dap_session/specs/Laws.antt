@@ -8,25 +8,18 @@ use Rattle.dbg_runner.specs.Plain.{PlainOrder}
 use Rattle.dap_history.specs.declared.ending.Closed.{Closed}
 use Rattle.dap_history.specs.declared.fault.SessionFault.{SessionFault}
 use Rattle.dap_history.specs.History.{History, messages_of, orders_of}
-use Rattle.dap_history.specs.Events.{Incoming, Rest, IsTaking, AreLawful, IsHistoryOf}
+use Rattle.dap_history.specs.Events.{Incoming, Rest, AreLawful, IsHistoryOf}
 use Rattle.dap_history.specs.Interleaving.{Load}
 use Rattle.dap_history.specs.Output.{frames_from}
 use Rattle.dap_session.specs.Ports.{Ports}
 use Rattle.dap_session.specs.Sending.{IsPrefixOf, TriesQuit}
 use Rattle.dap_session.specs.Taking.{Toward}
-use Rattle.dap_session.specs.Serving.{Driven}
+use Rattle.dap_session.specs.Serving.{ReachesLast, Driven}
 
 -- All events but the last were taken, and some items of the last, perhaps none.
 pub record IsOnTheWay (first : FirstSeq) (events : List Incoming) (reached : History) : Type 0 where
-  pub before : List Incoming
-  pub last : Incoming
-  pub events_are : events ≡ before ++ last ∷ []
-  pub past : History
-  pub rest : Rest
-  pub first_is : rest.first ≡ first
-  pub history : IsHistoryOf before past rest
-  pub taking : IsTaking past
-  pub toward : Toward past rest last reached
+  pub reaches : ReachesLast first events
+  pub toward : Toward reaches.past reaches.rest reaches.last reached
 
 -- A session reached this history with the events: it took all of them, or gave up at the last one. The history is a
 -- prefix of any history of all the events. It is itself the history of some lawful events, so the laws of histories

@@ -17,8 +17,8 @@ use Rattle.dap_session.specs.Ports.{Ports}
 use Rattle.dap_session.specs.Sending.{Sends, RefusesNothing, TriesQuit}
 use Rattle.dap_session.specs.Taking.{NeedsNoMemory, EventGivesUp}
 
--- No event was taken after the session had ended: before the last one it took items.
-pub record EndsAtLast (first : FirstSeq) (events : List Incoming) : Type 0 where
+-- The events have a last one. Those before it give this history, after which the session takes items, and this rest.
+pub record ReachesLast (first : FirstSeq) (events : List Incoming) : Type 0 where
   pub before : List Incoming
   pub last : Incoming
   pub events_are : events ≡ before ++ last ∷ []
@@ -28,15 +28,15 @@ pub record EndsAtLast (first : FirstSeq) (events : List Incoming) : Type 0 where
   pub history : IsHistoryOf before past rest
   pub taking : IsTaking past
 
--- The events were taken until the session had this ending, and everything that they cause was sent: the frames of the
--- messages, numbered 1, 2, 3 and so on, none of them 2^53 or more, and the orders.
+-- The events were taken until the session had this ending, none of them after it, and everything that they cause was
+-- sent: the frames of the messages, numbered 1, 2, 3 and so on, none of them 2^53 or more, and the orders.
 pub record Serves (first : FirstSeq) (events : List Incoming) (ending : Ending) (old later : Ports) : Type 0 where
   pub past : History
   pub rest : Rest
   pub first_is : rest.first ≡ first
   pub history : IsHistoryOf events past rest
   pub ending_is : ending_of past ≡ Some ending
-  pub at_last : EndsAtLast first events
+  pub reaches : ReachesLast first events
   pub frames_are : later.frames ≡ old.frames ++ frames_from 1 (messages_of past)
   pub orders_are : later.orders ≡ old.orders ++ orders_of past
   pub seqs_fit : next_seq past ≤ 2 ^ 53
@@ -56,20 +56,13 @@ pub record ServesUntilFault (first : FirstSeq) (events : List Incoming) (fault :
 -- memory.
 pub record StopsShort (first : FirstSeq) (events : List Incoming) (fault : SessionFault)
     (old later : Ports) : Type 0 where
-  pub before : List Incoming
-  pub last : Incoming
-  pub events_are : events ≡ before ++ last ∷ []
-  pub past : History
-  pub rest : Rest
-  pub first_is : rest.first ≡ first
-  pub history : IsHistoryOf before past rest
-  pub taking : IsTaking past
-  pub needs : fault ≡ NoMemory → ¬ NeedsNoMemory rest.launch (Accepts past) last
+  pub reaches : ReachesLast first events
+  pub needs : fault ≡ NoMemory → ¬ NeedsNoMemory reaches.rest.launch (Accepts reaches.past) reaches.last
   pub mid : Ports
-  pub sent : Sends [] past old mid
+  pub sent : Sends [] reaches.past old mid
   pub refuses_nothing : RefusesNothing old mid
   pub stopped : Ports
-  pub fails : EventGivesUp fault past rest last mid stopped
+  pub fails : EventGivesUp fault reaches.past reaches.rest reaches.last mid stopped
   pub quit : TriesQuit stopped later
 
 -- The faults at which what an event causes can't be sent: no seq is left, the queue of orders is full, or nobody takes
