@@ -419,7 +419,8 @@ module _ (laws : ReadingsGoOn) (once : IsReadOnce) (one : HistoryIsOne) where
     is_reached = reached_toward f events stops.fails.next lawful (record {
       reaches = stops.reaches;
       toward =
-          next_toward fault stops.reaches.past stops.reaches.rest stops.reaches.last stops.mid stops.stopped stops.fails;
+          let at = stops.reaches in
+          next_toward fault at.past at.rest at.last stops.mid stops.stopped stops.fails;
     });
     part = stops_part f events fault old later stops;
   }
