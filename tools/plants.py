@@ -8,8 +8,8 @@ crate is given its plants in place of its must-fail edits, and `rt must-fail` tr
 `out/`; N crates are tried side by side. Prints a line for each edit, and at the end one that counts those that were
 refused, those that got through and those that were not judged.
 
-What was found is written to tools/plants.txt: a row for each crate, with a checksum of the kit, of the crate with its
-plants, and of the sources and definitions of the crates below. Where no crate is named, those with plants are tried
+What was found is written to tools/plants.txt: a row for each crate, with a checksum of the kit's logic, of the crate with
+its plants, and of the sources and definitions of the crates below. Where no crate is named, those with plants are tried
 whose row is of another sum, so a run that is broken off goes on where it was, and the last line counts the rows of all.
 The status is 1 where an edit was not refused. With `--outdated` nothing is tried, and those crates are named.
 """
@@ -17,6 +17,7 @@ from __future__ import annotations
 
 import argparse
 import datetime
+import functools
 import hashlib
 import pathlib
 import re
@@ -55,9 +56,16 @@ def files_below(folder: pathlib.Path, *parts: str) -> Iterator[pathlib.Path]:
         yield from sorted(path for path in (folder / part).rglob("*") if path.is_file())
 
 
+@functools.cache
+def logic_of_kit() -> str:
+    """The logic that the kit's line names. Kits that differ in their commands alone name the same one."""
+    line = subprocess.run(["rt", "version"], capture_output=True, text=True, check=True).stdout
+    return line.partition("logic ")[2].strip()
+
+
 def sum_of(name: str) -> str:
     """A checksum of all that decides what becomes of a crate's plants."""
-    found = hashlib.sha256(subprocess.run(["rt", "version"], capture_output=True, check=True).stdout)
+    found = hashlib.sha256(logic_of_kit().encode())
     crates = TOP / "crates"
     files = [*files_below(crates / name, "src", "specs", "proofs", "plants")]
     files += [file for library in libraries(name) for file in files_below(crates / library, "src", "specs")]
