@@ -33,9 +33,9 @@ A debug adapter for PL/0, the program `pl0`, and files for editors.
 
     cp -r bin share ~/.local
 
-That is what `make install` does; `~/.local/bin` has to be in your `PATH`. `docs/EDITORS.md` says what to do in each editor;
-what it calls `out/pl0.vsix` is `editors/pl0.vsix` here. `docs/PL0.md` tells the language. Links that lead to no file here lead
-to pages of the repository. The programs want glibc {glibc} or later, `pl0dap-listen` Python 3.8 or later.
+This is what `make install` does; `~/.local/bin` has to be in your `PATH`. `docs/EDITORS.md` says what to do in each editor;
+what it calls `out/pl0.vsix` is `editors/pl0.vsix` here. `docs/PL0.md` describes the language. Where a link leads to no file
+here, it leads to a page of the repository. The programs need glibc {glibc} or later, `pl0dap-listen` Python 3.8 or later.
 
 To remove it:
 
