@@ -4,10 +4,10 @@
 usage: unproved.py PROGRAM FILE
 
 `rt try` builds the program with checks in it, which stop it at an overflow, an index out of range or a wrong use of
-memory, and make it some 40 times slower than the proved one. It deletes what it has built as soon as that has ended. So
-the program is run to check the text in a pipe, and while it waits for this text its file is copied. Prints how long it
-takes, and, where the program isn't built, what `rt try` said. The status is 1 where it isn't, or where it doesn't check
-the text rightly.
+memory, and make it much slower than the proved one. It deletes what it has built as soon as that has ended. So the
+program is run to check the text in a pipe, and while it waits for this text its file is copied. Prints how long it takes,
+and, where the program isn't built, what `rt try` said. The status is 1 where it isn't, or where it doesn't check the text
+rightly.
 """
 from __future__ import annotations
 

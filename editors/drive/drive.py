@@ -25,7 +25,7 @@ DRIVE = os.path.dirname(os.path.realpath(__file__))
 TOP = os.path.realpath(os.path.join(DRIVE, "..", ".."))
 RECORDINGS = os.path.join(TOP, "docs", "editors")
 PL0 = os.path.join(TOP, "crates", "pl0", "out", "pl0")
-PROGRAMS = (("examples", "factorial.pl0"), ("crates", "mistake_runs", "data", "mistake.pl0"))
+PROGRAMS = (("examples", "factorial.pl0"), ("crates", "check_runs", "data", "mistake.pl0"))
 OUT = os.path.join(TOP, "out")
 MADE_IN = os.path.join(TOP, "docs") if os.environ.get("RECORD") == "1" else OUT
 PICTURES = os.path.join(MADE_IN, "pictures")

@@ -26,7 +26,7 @@ from client import Frames, frame, request  # noqa: E402
 
 LIMIT = 60.0  # seconds for each message, and for the end
 PROGRAM = os.path.join(TOP, "examples", "factorial.pl0")
-MISTAKE = os.path.join(TOP, "crates", "mistake_runs", "data", "mistake.pl0")
+MISTAKE = os.path.join(TOP, "crates", "check_runs", "data", "mistake.pl0")
 WORDS = "FILE:2:9: error: words"
 CHECKER = f"#!/bin/sh\necho '{WORDS}' >&2\nexit 2\n"
 SOURCE = {"path": PROGRAM, "name": "factorial.pl0"}
