@@ -1,6 +1,6 @@
 //! A whole session: the loop over its events.
 
-ghost use Rattle.std.specs.Prelude.{◌≡◌, ◌∷◌, [], option_map, string_bytes};
+ghost use Rattle.std.specs.Prelude.{◌≡◌, ◌∷◌, [], option_map, string_bytes, OnOk};
 ghost use Rattle.dap_history.specs.Events.{AreLawful};
 ghost use Rattle.dap_session.specs.Coming.{Sources, ComesFrom, sources};
 ghost use Rattle.dap_session.specs.Incoming.{incoming_of};
@@ -38,6 +38,9 @@ pub fn drive<I: Inbox, L: Loader, O: Out, D: Orders>(
         (L.loaded loader.old) (L.loaded loader.new) (ports (O.seen out.old) (D.seen orders.old))
         (ports (O.seen out.new) (D.seen orders.new)) }
     ensures inbox { I.origin inbox.new ≡ I.origin inbox.old }
+    // Where no frame was kept before, none is once the session is closed. The input may end at any time, so none is
+    // kept while the session waits for an event either.
+    ensures passed { O.keeps_none out.old → OnOk result (O.keeps_none out.new) }
     ensures out { O.origin out.new ≡ O.origin out.old }
     ensures orders { D.origin orders.new ≡ D.origin orders.old }
 {
@@ -62,6 +65,7 @@ pub fn drive_counting_from<I: Inbox, L: Loader, O: Out, D: Orders>(
         (L.loaded loader.old) (L.loaded loader.new) (ports (O.seen out.old) (D.seen orders.old))
         (ports (O.seen out.new) (D.seen orders.new)) }
     ensures inbox { I.origin inbox.new ≡ I.origin inbox.old }
+    ensures passed { O.keeps_none out.old → OnOk result (O.keeps_none out.new) }
     ensures out { O.origin out.new ≡ O.origin out.old }
     ensures orders { D.origin orders.new ≡ D.origin orders.old }
 {
@@ -83,6 +87,7 @@ fn take_all<I: Inbox, L: Loader, O: Out, D: Orders>(
         (L.loaded loader.old) (L.loaded loader.new) (ports (O.seen out.old) (D.seen orders.old))
         (ports (O.seen out.new) (D.seen orders.new)) }
     ensures inbox { I.origin inbox.new ≡ I.origin inbox.old }
+    ensures passed { O.keeps_none out.old → OnOk result (O.keeps_none out.new) }
     ensures out { O.origin out.new ≡ O.origin out.old }
     ensures orders { D.origin orders.new ≡ D.origin orders.old }
 {

@@ -3,7 +3,8 @@ use Rattle.dap_session.proofs.Driven.{way_made, way_goes_on, way_closes, way_fai
 use Rattle.dap_session.proofs.driving.take_all.Goals as goal
 
 pub loop-init : goal.loop-init
-loop-init g c = (refl, refl, refl, way_made c.args.session.now c.args.session.now.stream.first _ _ c.requires)
+loop-init g c =
+    (refl, refl, refl, way_made c.args.session.now c.args.session.now.stream.first _ _ c.requires, λ none. none)
 
 pub loop-preserved-in-Ok-Event : goal.loop-preserved-in-Ok-Event
 loop-preserved-in-Ok-Event g c = (
@@ -15,6 +16,7 @@ loop-preserved-in-Ok-Event g c = (
       c.loop.invariant.3 c.next_event-event.ensures.from c.next_event-event.ensures.lawful
       (c.in-Ok-Event.ensures.takes c.loop.invariant.3.open_ended)
       (λ e. let f = c.in-Ok-Event.field-0-is in cc)),
+  λ none. c.in-Ok-Event.ensures.passed (c.loop.invariant.4 none),
 )
 
 pub loop-preserved : goal.loop-preserved
@@ -27,6 +29,7 @@ loop-preserved g c = (
       c.loop.invariant.3 c.next_event-event.ensures.from c.next_event-event.ensures.lawful
       (c.in-Ok-File.ensures.takes c.loop.invariant.3.open_ended)
       (λ e. let f = c.in-Ok-File.field-0-is in cc)),
+  λ none. c.in-Ok-File.ensures.passed (c.loop.invariant.4 none),
 )
 
 pub returns-in-Some-closed-clause-driven : goal.returns-in-Some-closed-clause-driven
@@ -36,6 +39,9 @@ returns-in-Some-closed-clause-driven g c =
     c.loop.invariant.3 c.next_event-event.ensures.from c.next_event-event.ensures.lawful
     (c.in-Ok-Closed.ensures.takes c.loop.invariant.3.open_ended)
     c.in-Some-closed.ensures)
+
+pub returns-in-Some-closed-clause-passed : goal.returns-in-Some-closed-clause-passed
+returns-in-Some-closed-clause-passed g c none = c.in-Ok-Closed.ensures.passed (c.loop.invariant.4 none)
 
 pub unreachable-requires : goal.unreachable-requires
 unreachable-requires g c =
