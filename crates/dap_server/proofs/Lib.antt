@@ -6,5 +6,7 @@ mod Once
 mod Asked
 -- The conversation goes on by one content more, or breaks off at it; for the functions of `serving`.
 mod Conversing
+-- Little is left where the client leaves; for `serve`.
+mod Leaving
 -- Items are taken one after another, and what a source gives is read; for `serve_inbox`, `serve` and `Inbox`.
 mod Taking
