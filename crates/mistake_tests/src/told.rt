@@ -46,7 +46,7 @@ const MISTAKES: [(&str, &str); 18] = [
     ("! 1 0012x.", "a.pl0:1:5: error: `0012` can't stand here\n"),
     (
         "! 1\n",
-        "a.pl0:2:1: error: the text ends before the program does\n",
+        "a.pl0:2:1: error: the text ends before the program does; a `.` ends the program\n",
     ),
     (
         "",
@@ -80,7 +80,7 @@ const MISTAKES: [(&str, &str); 18] = [
 ];
 
 /// What is said beside a token that can't stand where it does, and where nothing is.
-const HINTS: [(&str, &str); 72] = [
+const HINTS: [(&str, &str); 91] = [
     (
         "begin ! (1) x := 2 end.",
         "a.pl0:1:13: error: `x` can't stand here; perhaps a `;` is missing before it\n",
@@ -350,6 +350,76 @@ const HINTS: [(&str, &str); 72] = [
     (
         "procedure p; ; if p = 1 then.",
         "a.pl0:1:19: error: `p` is a procedure, which has no value\n",
+    ),
+    (
+        "while 1 < 3 begin end.",
+        "a.pl0:1:13: error: `begin` can't stand here; perhaps `do` is missing before it\n",
+    ),
+    (
+        "var x; begin if x < 3 x := 1 end.",
+        "a.pl0:1:23: error: `x` can't stand here; perhaps `then` is missing before it\n",
+    ),
+    (
+        "if (1) # (2) ! 3.",
+        "a.pl0:1:14: error: `!` can't stand here; perhaps `then` is missing before it\n",
+    ),
+    (
+        "if 1 < (2 ! 3.",
+        "a.pl0:1:11: error: `!` can't stand here\n",
+    ),
+    ("if 1 < ! 3.", "a.pl0:1:8: error: `!` can't stand here\n"),
+    (
+        "if 1 < 2 then while 3 ! 4.",
+        "a.pl0:1:23: error: `!` can't stand here\n",
+    ),
+    (
+        "var x; if x < 3 x.",
+        "a.pl0:1:17: error: `x` can't stand here\n",
+    ),
+    (
+        "if 1 =< 2 then.",
+        "a.pl0:1:7: error: `<` can't stand here; write `<=`\n",
+    ),
+    (
+        "while 1 => 2 do.",
+        "a.pl0:1:10: error: `>` can't stand here; write `>=`\n",
+    ),
+    (
+        "const c =< 2; .",
+        "a.pl0:1:10: error: `<` can't stand here\n",
+    ),
+    (
+        "procedure p; ; begin p() end.",
+        "a.pl0:1:23: error: `(` can't stand here; perhaps `call p` is meant: procedures have no parameters\n",
+    ),
+    (
+        "procedure p; ; if 1 = 1 then p(1).",
+        "a.pl0:1:31: error: `(` can't stand here; perhaps `call p` is meant: procedures have no parameters\n",
+    ),
+    ("! 1 (2).", "a.pl0:1:5: error: `(` can't stand here\n"),
+    (
+        "begin return end.",
+        "a.pl0:1:14: error: `end` can't stand here; PL/0 has no keyword `return`\n",
+    ),
+    (
+        "begin return 1 end.",
+        "a.pl0:1:14: error: `1` can't stand here; PL/0 has no keyword `return`\n",
+    ),
+    (
+        "begin begin end end",
+        "a.pl0:1:20: error: the text ends before the program does; a `.` ends the program\n",
+    ),
+    (
+        "procedure p; ; call p",
+        "a.pl0:1:22: error: the text ends before the program does; a `.` ends the program\n",
+    ),
+    (
+        "begin begin end",
+        "a.pl0:1:16: error: the text ends before the program does\n",
+    ),
+    (
+        "! (1",
+        "a.pl0:1:5: error: the text ends before the program does\n",
     ),
 ];
 

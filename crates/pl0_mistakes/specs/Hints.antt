@@ -4,7 +4,7 @@ use Rattle.std.specs.List.{list_any, starts_with}
 use Rattle.std.specs.Str.{bytes_eq, str_eq_ignore_ascii_case}
 use Rattle.std.specs.Char.{is_ascii_digit, is_ascii_alphabetic}
 use Rattle.pl0_tree.specs.Tokens.{keywords}
-use Rattle.pl0_mistakes.specs.Scenes.{Scene, is_keyword}
+use Rattle.pl0_mistakes.specs.Scenes.{Scene, is_keyword, is_comparison}
 
 -- what is said of a token, which stands in front, between quotes
 abbrev pub quoted : List ℕ → List ℕ → List ℕ
@@ -78,6 +78,10 @@ is_unequal s =
 abbrev pub is_doubled : Scene → Bool
 is_doubled s = bytes_eq s.before (codes "=") && bytes_eq s.found (codes "=")
 
+-- `=<` or `=>` in a condition
+abbrev pub is_reversed : Scene → List ℕ → Bool
+is_reversed s sign = bytes_eq s.before (codes "=") && (bytes_eq s.found sign && in_condition s)
+
 -- `=` where only `:=` can stand, or `:=` in a condition
 abbrev pub is_confused : Scene → Bool
 is_confused s =
@@ -90,11 +94,6 @@ has_value s = one_of s.found (codes "=" ∷ codes ":=" ∷ []) && bytes_eq s.ope
 
 abbrev pub has_becomes : Scene → Bool
 has_becomes s = bytes_eq s.found (codes ":=") && (bytes_eq s.opener (codes "const") && is_name s.before)
-
--- a sign that compares
-abbrev pub is_comparison : List ℕ → Bool
-is_comparison token =
-    one_of token (codes "=" ∷ codes "#" ∷ codes "<" ∷ codes "<=" ∷ codes ">" ∷ codes ">=" ∷ [])
 
 -- a comparison in parentheses
 abbrev pub is_enclosed : Scene → Bool
@@ -138,9 +137,28 @@ begins_part s =
 abbrev pub lacks_semicolon : Scene → Bool
 lacks_semicolon s = begins_part s && ends_part s
 
+-- the text ends with a statement, and no `begin` lacks its `end`: only the period is missing
+abbrev pub lacks_period : Scene → Bool
+lacks_period s = ends_statement s && not s.in_begin
+
+-- a statement begins where a condition may end
+abbrev pub begins_early : Scene → Bool
+begins_early s = begins_statement s && (s.after_comparison && (may_end s.before && not s.in_parentheses))
+
+-- `then` is missing behind the condition of an `if`, and `do` behind that of a `while`
+abbrev pub lacks_then : Scene → Bool
+lacks_then s = bytes_eq s.opener (codes "if") && begins_early s
+
+abbrev pub lacks_do : Scene → Bool
+lacks_do s = bytes_eq s.opener (codes "while") && begins_early s
+
 -- a name alone where a statement begins
 abbrev pub lacks_call : Scene → Bool
 lacks_call s = is_target s && one_of s.found (codes ";" ∷ codes "end" ∷ codes "." ∷ [])
+
+-- a name and parameters where a statement begins
+abbrev pub is_call_elsewhere : Scene → Bool
+is_call_elsewhere s = bytes_eq s.found (codes "(") && is_target s
 
 -- a word that other languages have in this place
 abbrev pub is_foreign : List ℕ → Bool
@@ -149,7 +167,7 @@ is_foreign token =
 
 -- a word that other languages have where a name stands: it is read as one, and what comes after it is refused
 abbrev pub is_foreign_name : List ℕ → Bool
-is_foreign_name token = one_of token (codes "not" ∷ codes "else" ∷ codes "for" ∷ codes "repeat" ∷ [])
+is_foreign_name token = one_of token (codes "not" ∷ codes "else" ∷ codes "for" ∷ codes "repeat" ∷ codes "return" ∷ [])
 
 -- a statement by which other languages write, or read
 abbrev pub is_writing : Scene → Bool
@@ -173,18 +191,31 @@ is_inner_sign s = is_sign s.found && one_of s.before (codes "+" ∷ codes "-" �
 abbrev pub is_compared : Scene → Bool
 is_compared s = is_comparison s.found && one_of s.opener (codes ":=" ∷ codes "!" ∷ [])
 
--- The table, in four parts. The last part is what stands elsewhere in PL/0, or nowhere.
+-- a call that is meant by a name and parameters
+abbrev pub call_meant : List ℕ → List ℕ
+call_meant name = codes "; perhaps `call " ++ (name ++ codes "` is meant: procedures have no parameters")
+
+-- The table, in five parts. The last part is what stands elsewhere in PL/0, or nowhere.
 abbrev pub other_hint : Scene → List ℕ
 other_hint s =
-    if is_foreign s.found then codes "; PL/0 has no keyword " ++ quoted s.found []
-    else (if is_foreign_name s.before then codes "; PL/0 has no keyword " ++ quoted s.before []
-    else (if is_writing s then codes "; `!` writes a number"
+    if is_writing s then codes "; `!` writes a number"
     else (if is_reading s then codes "; a program reads no input"
+    else (if is_call_elsewhere s then call_meant s.before
     else (if bytes_eq s.found (codes "const") then codes "; constants are declared first in a block"
     else (if is_signed s then codes "; a constant is a number without a sign"
     else (if is_inner_sign s then codes "; a sign stands only where an expression begins"
     else (if is_compared s then codes "; only `if` and `while` compare"
-    else [])))))))
+    else []))))))
+
+-- the fourth part: a word that PL/0 hasn't, or one that is missing
+abbrev pub word_hint : Scene → List ℕ
+word_hint s =
+    if is_foreign s.found then codes "; PL/0 has no keyword " ++ quoted s.found []
+    else (if is_foreign_name s.before then codes "; PL/0 has no keyword " ++ quoted s.before []
+    else (if lacks_then s then codes "; perhaps `then` is missing before it"
+    else (if lacks_do s then codes "; perhaps `do` is missing before it"
+    else (if lacks_call s then codes "; perhaps `call` is missing before " ++ quoted s.before []
+    else other_hint s))))
 
 -- the third part: what is missing, and what a `.` and a `;` mean
 abbrev pub missing_hint : Scene → List ℕ
@@ -194,8 +225,7 @@ missing_hint s =
     else (if lacks_begin s then codes "; several statements stand between `begin` and `end`"
     else (if lacks_end s then codes "; perhaps an `end` is missing before it"
     else (if lacks_semicolon s then codes "; perhaps a `;` is missing before it"
-    else (if lacks_call s then codes "; perhaps `call` is missing before " ++ quoted s.before []
-    else other_hint s)))))
+    else word_hint s))))
 
 -- the second part: a keyword in another case, before the place or there
 abbrev pub meant : List ℕ → List ℕ
@@ -213,9 +243,11 @@ hint s =
     else (if bytes_eq s.before (codes ".") then codes "; the program ends at the `.` before it"
     else (if is_unequal s then codes "; write `#` for not equal"
     else (if is_doubled s then codes "; write a single `=`"
+    else (if is_reversed s (codes "<") then codes "; write `<=`"
+    else (if is_reversed s (codes ">") then codes "; write `>=`"
     else (if is_confused s then codes "; `:=` assigns, and `=` compares"
     else (if has_value s then codes "; a variable is declared without a value"
     else (if has_becomes s then codes "; a constant is declared with `=`"
     else (if is_enclosed s then codes "; no comparison stands in parentheses"
     else (if has_parameters s then codes "; procedures have no parameters"
-    else case_hint (keyword_meant s.before) (keyword_meant s.found) s))))))))
+    else case_hint (keyword_meant s.before) (keyword_meant s.found) s))))))))))

@@ -22,6 +22,8 @@ pub record Scene : Type 0 where
   pub in_parentheses : Bool
   -- whether a `procedure` stands before the place
   pub after_procedure : Bool
+  -- whether a sign that compares stands between the opener and the place
+  pub after_comparison : Bool
 
 abbrev pub is_keyword : List ℕ → Bool
 is_keyword word = list_any (λ entry. bytes_eq word entry.0) keywords
@@ -29,6 +31,11 @@ is_keyword word = list_any (λ entry. bytes_eq word entry.0) keywords
 abbrev pub is_opener : List ℕ → Bool
 is_opener token =
     is_keyword token || (bytes_eq token (codes ";") || (bytes_eq token (codes ":=") || bytes_eq token (codes "!")))
+
+-- a sign that compares
+abbrev pub is_comparison : List ℕ → Bool
+is_comparison token = list_any (λ sign. bytes_eq token sign)
+    (codes "=" ∷ codes "#" ∷ codes "<" ∷ codes "<=" ∷ codes ">" ∷ codes ">=" ∷ [])
 
 -- the last token, or else this one
 abbrev pub last_or : List ℕ → List (List ℕ) → List ℕ
@@ -51,6 +58,8 @@ scene_at place text = record {
   in_parentheses = nat_lt (count (codes ")") (cut (before_place place text)))
       (count (codes "(") (cut (before_place place text)));
   after_procedure = nat_lt 0 (count (codes "procedure") (cut (before_place place text)));
+  after_comparison = is_comparison
+      (last_or [] (filter (λ t. is_opener t || is_comparison t) (cut (before_place place text))));
 }
 
 -- what the code sees, without where it lies in memory
@@ -64,4 +73,5 @@ plain s = record {
   in_begin = s.in_begin;
   in_parentheses = s.in_parentheses;
   after_procedure = s.after_procedure;
+  after_comparison = s.after_comparison;
 }

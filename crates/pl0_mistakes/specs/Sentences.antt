@@ -7,14 +7,20 @@ use Rattle.pl0_tree.specs.declared.fault.FaultKind.TheVariants.{TooLong, NotAsci
 use Rattle.pl0_meaning.specs.declared.RunFault.{RunFault}
 use Rattle.pl0_meaning.specs.declared.RunFault.TheVariants.{Overflow, DivideByZero, Depth, StepLimit}
 use Rattle.pl0_mistakes.specs.Scenes.{Scene}
-use Rattle.pl0_mistakes.specs.Hints.{quoted, one_of, at_opening, hint}
+use Rattle.pl0_mistakes.specs.Hints.{quoted, one_of, at_opening, lacks_period, hint}
+
+-- what is said of the end of the text
+abbrev pub ended : Scene → List ℕ
+ended s =
+    if lacks_period s then codes "the text ends before the program does; a `.` ends the program"
+    else codes "the text ends before the program does"
 
 -- what is said of a token that can't stand where it does; of the end of the text, where there is none
 abbrev pub refused : Scene → List ℕ
 refused s = quoted s.found (codes " can't stand here") ++ hint s
 
 abbrev pub unexpected : Scene → List ℕ
-unexpected s = if length s.found == 0 then codes "the text ends before the program does" else refused s
+unexpected s = if length s.found == 0 then ended s else refused s
 
 -- the mark with which some editors begin a text, in UTF-8 and in UTF-16
 abbrev pub has_byte_order_mark : Scene → Bool

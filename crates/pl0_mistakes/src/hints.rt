@@ -2,10 +2,10 @@
 
 ghost use Rattle.std.specs.Prelude.{◌≡◌, ◌++◌, OnOk};
 ghost use Rattle.pl0_mistakes.specs.Scenes.{plain};
-ghost use Rattle.pl0_mistakes.specs.Hints.{is_number, is_name, keyword_meant, meant, is_comparison, opens_statement, is_target, may_end, ends_statement, in_condition, begins_statement, at_opening, is_comment, is_unequal, is_doubled, is_confused, has_value, has_becomes, is_enclosed, has_parameters, has_fraction, is_final, lacks_begin, lacks_end, ends_part, begins_part, lacks_semicolon, lacks_call, is_foreign, is_foreign_name, is_writing, is_reading, is_sign, is_signed, is_inner_sign, is_compared, other_hint, missing_hint, case_hint, hint};
+ghost use Rattle.pl0_mistakes.specs.Hints.{is_number, is_name, keyword_meant, meant, call_meant, opens_statement, is_target, may_end, ends_statement, in_condition, begins_statement, at_opening, is_comment, is_unequal, is_doubled, is_reversed, is_confused, has_value, has_becomes, is_enclosed, has_parameters, has_fraction, is_final, lacks_begin, lacks_end, ends_part, begins_part, lacks_semicolon, lacks_period, begins_early, lacks_then, lacks_do, lacks_call, is_call_elsewhere, is_foreign, is_foreign_name, is_writing, is_reading, is_sign, is_signed, is_inner_sign, is_compared, other_hint, word_hint, missing_hint, case_hint, hint};
 
 use crate::cases::keyword_meant;
-use crate::scene::{Scene, is, is_keyword};
+use crate::scene::{Scene, is, is_comparison, is_keyword};
 use crate::sentences::{write, write_around};
 use std::alloc::AllocError;
 
@@ -21,6 +21,10 @@ pub fn write_hint(line: &mut Vec<u8>, scene: Scene<'_>) -> Result<(), AllocError
         write(line, "; write `#` for not equal")
     } else if is_doubled(scene) {
         write(line, "; write a single `=`")
+    } else if is_reversed(scene, "<") {
+        write(line, "; write `<=`")
+    } else if is_reversed(scene, ">") {
+        write(line, "; write `>=`")
     } else if is_confused(scene) {
         write(line, "; `:=` assigns, and `=` compares")
     } else if has_value(scene) {
@@ -78,6 +82,23 @@ fn write_missing_hint(line: &mut Vec<u8>, scene: Scene<'_>) -> Result<(), AllocE
         write(line, "; perhaps an `end` is missing before it")
     } else if lacks_semicolon(scene) {
         write(line, "; perhaps a `;` is missing before it")
+    } else {
+        write_word_hint(line, scene)
+    }
+}
+
+/// Appends which word PL/0 hasn't, or which is missing; another hint where neither is known.
+fn write_word_hint(line: &mut Vec<u8>, scene: Scene<'_>) -> Result<(), AllocError>
+    ensures { OnOk result (line.new.items ≡ line.old.items ++ word_hint (plain scene.entry)) }
+{
+    if is_foreign(scene.found) {
+        write_around(line, "; PL/0 has no keyword ", scene.found, "")
+    } else if is_foreign_name(scene.before) {
+        write_around(line, "; PL/0 has no keyword ", scene.before, "")
+    } else if lacks_then(scene) {
+        write(line, "; perhaps `then` is missing before it")
+    } else if lacks_do(scene) {
+        write(line, "; perhaps `do` is missing before it")
     } else if lacks_call(scene) {
         write_around(
             line,
@@ -94,14 +115,12 @@ fn write_missing_hint(line: &mut Vec<u8>, scene: Scene<'_>) -> Result<(), AllocE
 fn write_other_hint(line: &mut Vec<u8>, scene: Scene<'_>) -> Result<(), AllocError>
     ensures { OnOk result (line.new.items ≡ line.old.items ++ other_hint (plain scene.entry)) }
 {
-    if is_foreign(scene.found) {
-        write_around(line, "; PL/0 has no keyword ", scene.found, "")
-    } else if is_foreign_name(scene.before) {
-        write_around(line, "; PL/0 has no keyword ", scene.before, "")
-    } else if is_writing(scene) {
+    if is_writing(scene) {
         write(line, "; `!` writes a number")
     } else if is_reading(scene) {
         write(line, "; a program reads no input")
+    } else if is_call_elsewhere(scene) {
+        write_call(line, scene.before)
     } else if is(scene.found, "const") {
         write(line, "; constants are declared first in a block")
     } else if is_signed(scene) {
@@ -113,6 +132,15 @@ fn write_other_hint(line: &mut Vec<u8>, scene: Scene<'_>) -> Result<(), AllocErr
     } else {
         Ok(())
     }
+}
+
+/// Appends the call that is meant by a name and parameters.
+fn write_call(line: &mut Vec<u8>, name: &[u8]) -> Result<(), AllocError>
+    ensures { OnOk result (line.new.items ≡ line.old.items ++ call_meant name.now) }
+{
+    write(line, "; perhaps `call ")?;
+    line.extend_from_slice(name)?;
+    write(line, "` is meant: procedures have no parameters")
 }
 
 /// Whether a word is one that other languages have in this place.
@@ -130,7 +158,11 @@ fn is_foreign(token: &[u8]) -> bool
 fn is_foreign_name(token: &[u8]) -> bool
     ensures { result ≡ is_foreign_name token.now }
 {
-    is(token, "not") || is(token, "else") || is(token, "for") || is(token, "repeat")
+    is(token, "not")
+        || is(token, "else")
+        || is(token, "for")
+        || is(token, "repeat")
+        || is(token, "return")
 }
 
 /// Whether there is a statement by which other languages write.
@@ -204,6 +236,13 @@ fn is_doubled(scene: Scene<'_>) -> bool
     is(scene.before, "=") && is(scene.found, "=")
 }
 
+/// Whether there is `=` and this sign in a condition.
+fn is_reversed(scene: Scene<'_>, sign: &str) -> bool
+    ensures { result ≡ is_reversed (plain scene.entry) sign.now }
+{
+    is(scene.before, "=") && is(scene.found, sign) && in_condition(scene)
+}
+
 /// Whether there is `=` where only `:=` can stand, or `:=` in a condition.
 fn is_confused(scene: Scene<'_>) -> bool
     ensures { result ≡ is_confused (plain scene.entry) }
@@ -231,18 +270,6 @@ fn is_enclosed(scene: Scene<'_>) -> bool
     ensures { result ≡ is_enclosed (plain scene.entry) }
 {
     is_comparison(scene.found) && in_condition(scene) && scene.in_parentheses
-}
-
-/// Whether a token compares.
-fn is_comparison(token: &[u8]) -> bool
-    ensures { result ≡ is_comparison token.now }
-{
-    is(token, "=")
-        || is(token, "#")
-        || is(token, "<")
-        || is(token, "<=")
-        || is(token, ">")
-        || is(token, ">=")
 }
 
 /// Whether there are parameters of a procedure, or of a call.
@@ -306,6 +333,42 @@ fn ends_part(scene: Scene<'_>) -> bool
     ends_statement(scene) && (scene.in_begin || scene.after_procedure)
         || is(scene.opener, "const") && is_number(scene.before)
         || (is(scene.opener, "var") || is(scene.opener, "procedure")) && is_name(scene.before)
+}
+
+/// Whether the text ends with a statement, and no `begin` lacks its `end`.
+pub fn lacks_period(scene: Scene<'_>) -> bool
+    ensures { result ≡ lacks_period (plain scene.entry) }
+{
+    ends_statement(scene) && !scene.in_begin
+}
+
+/// Whether `then` is missing behind the condition of an `if`.
+fn lacks_then(scene: Scene<'_>) -> bool
+    ensures { result ≡ lacks_then (plain scene.entry) }
+{
+    is(scene.opener, "if") && begins_early(scene)
+}
+
+/// Whether `do` is missing behind the condition of a `while`.
+fn lacks_do(scene: Scene<'_>) -> bool
+    ensures { result ≡ lacks_do (plain scene.entry) }
+{
+    is(scene.opener, "while") && begins_early(scene)
+}
+
+/// Whether a statement begins where a condition may end.
+fn begins_early(scene: Scene<'_>) -> bool
+    ensures { result ≡ begins_early (plain scene.entry) }
+{
+    let complete = scene.after_comparison && may_end(scene.before) && !scene.in_parentheses;
+    begins_statement(scene) && complete
+}
+
+/// Whether there is a name and parameters where a statement begins.
+fn is_call_elsewhere(scene: Scene<'_>) -> bool
+    ensures { result ≡ is_call_elsewhere (plain scene.entry) }
+{
+    is(scene.found, "(") && is_target(scene)
 }
 
 /// Whether there is a name alone where a statement begins.

@@ -1,10 +1,10 @@
 //! What stands around a place of a text.
 
-ghost use Rattle.std.specs.Prelude.{◌≡◌, [], filter};
+ghost use Rattle.std.specs.Prelude.{◌≡◌, ◌||◌, [], filter};
 ghost use Rattle.std.specs.List.{slice_index_or};
 ghost use Rattle.std.specs.Str.{bytes_eq};
 ghost use Rattle.pl0_mistakes.specs.Found.{cut};
-ghost use Rattle.pl0_mistakes.specs.Scenes.{scene_at, plain, is_keyword, is_opener, last_or, count};
+ghost use Rattle.pl0_mistakes.specs.Scenes.{scene_at, plain, is_keyword, is_opener, is_comparison, last_or, count};
 
 use crate::found::{before_place, from_place, front_token, next_token};
 use pl0_tree::Place;
@@ -28,6 +28,8 @@ pub struct Scene<'a> {
     pub in_parentheses: bool,
     /// Whether a `procedure` stands before the place.
     pub after_procedure: bool,
+    /// Whether a sign that compares stands between the opener and the place.
+    pub after_comparison: bool,
 }
 
 /// Returns what stands around a place of a text.
@@ -45,6 +47,7 @@ pub fn scene_at(text: &[u8], place: Place) -> Scene<'_>
         in_begin: count(front, "end") < count(front, "begin"),
         in_parentheses: count(front, ")") < count(front, "("),
         after_procedure: count(front, "procedure") > 0,
+        after_comparison: is_comparison(last_sign(front)),
     }
 }
 
@@ -89,6 +92,21 @@ fn last_opener(bytes: &[u8]) -> &[u8]
     last
 }
 
+/// Returns the last opener or sign that compares of bytes; nothing where there is none.
+fn last_sign(bytes: &[u8]) -> &[u8]
+    ensures { result.now ≡ last_or [] (filter (λ t. is_opener t || is_comparison t) (cut bytes.now)) }
+{
+    let mut last: &[u8] = &[];
+    let mut rest = bytes;
+    while let Some((token, after)) = next_token(rest) {
+        if is_opener(token) || is_comparison(token) {
+            last = token;
+        }
+        rest = after;
+    }
+    last
+}
+
 /// Returns how often a token stands in bytes.
 fn count(bytes: &[u8], token: &str) -> usize
     ensures { result ≡ count token.now (cut bytes.now) }
@@ -109,6 +127,18 @@ fn is_opener(token: &[u8]) -> bool
     ensures { result ≡ is_opener token.now }
 {
     is_keyword(token) || is(token, ";") || is(token, ":=") || is(token, "!")
+}
+
+/// Whether a token compares.
+pub fn is_comparison(token: &[u8]) -> bool
+    ensures { result ≡ is_comparison token.now }
+{
+    is(token, "=")
+        || is(token, "#")
+        || is(token, "<")
+        || is(token, "<=")
+        || is(token, ">")
+        || is(token, ">=")
 }
 
 /// Whether a word is a keyword.

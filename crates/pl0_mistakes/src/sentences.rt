@@ -3,9 +3,9 @@
 ghost use Rattle.std.specs.Prelude.{◌≡◌, ◌++◌, OnOk};
 ghost use Rattle.pl0_mistakes.specs.Scenes.{plain};
 ghost use Rattle.pl0_mistakes.specs.Hints.{quoted};
-ghost use Rattle.pl0_mistakes.specs.Sentences.{refused, unexpected, foreign, unreadable, misused, has_byte_order_mark, mistake_sentence, fault_sentence};
+ghost use Rattle.pl0_mistakes.specs.Sentences.{ended, refused, unexpected, foreign, unreadable, misused, has_byte_order_mark, mistake_sentence, fault_sentence};
 
-use crate::hints::{at_opening, write_hint};
+use crate::hints::{at_opening, lacks_period, write_hint};
 use crate::scene::{Scene, is};
 use pl0_meaning::RunFault;
 use pl0_tree::FaultKind;
@@ -79,9 +79,23 @@ fn write_unexpected(line: &mut Vec<u8>, scene: Scene<'_>) -> Result<(), AllocErr
     ensures { OnOk result (line.new.items ≡ line.old.items ++ unexpected (plain scene.entry)) }
 {
     if scene.found.is_empty() {
-        write(line, "the text ends before the program does")
+        write_ended(line, scene)
     } else {
         write_refused(line, scene)
+    }
+}
+
+/// Appends what is said of the end of the text.
+fn write_ended(line: &mut Vec<u8>, scene: Scene<'_>) -> Result<(), AllocError>
+    ensures { OnOk result (line.new.items ≡ line.old.items ++ ended (plain scene.entry)) }
+{
+    if lacks_period(scene) {
+        write(
+            line,
+            "the text ends before the program does; a `.` ends the program",
+        )
+    } else {
+        write(line, "the text ends before the program does")
     }
 }
 

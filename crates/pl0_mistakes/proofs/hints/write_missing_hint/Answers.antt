@@ -50,18 +50,3 @@ returns-then-lacks_semicolon c =
     ∙ (cond-false _ _ _ final
     ∙ (cond-false _ _ _ lacks_begin ∙ (cond-false _ _ _ lacks_end ∙ cond-true _ _ _ lacks_semicolon))))
     c.write-then-lacks_semicolon.ensures
-
-pub returns-then-lacks_call : goal.returns-then-lacks_call
-returns-then-lacks_call c =
-    let fraction = sym c.has_fraction.ensures ∙ c.if-has_fraction.false in
-    let final = sym c.is_final.ensures ∙ c.if-is_final.false in
-    let lacks_begin = sym c.lacks_begin.ensures ∙ c.if-lacks_begin.false in
-    let lacks_end = sym c.lacks_end.ensures ∙ c.if-lacks_end.false in
-    let lacks_semicolon = sym c.lacks_semicolon.ensures ∙ c.if-lacks_semicolon.false in
-    let lacks_call = sym c.lacks_call.ensures ∙ c.if-lacks_call.true in
-    written c.write_around.result _ c.args.line.now.items (missing_hint (plain c.args.scene)) _
-    (cond-false _ _ _ fraction
-    ∙ (cond-false _ _ _ final
-    ∙ (cond-false _ _ _ lacks_begin
-    ∙ (cond-false _ _ _ lacks_end ∙ (cond-false _ _ _ lacks_semicolon ∙ cond-true _ _ _ lacks_call)))))
-    c.write_around.ensures

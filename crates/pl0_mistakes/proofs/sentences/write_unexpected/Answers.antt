@@ -9,5 +9,5 @@ use Rattle.pl0_mistakes.proofs.sentences.write_unexpected.Goals as goal
 pub returns-then-is_empty : goal.returns-then-is_empty
 returns-then-is_empty c =
     let empty : (length c.args.scene.found.now == 0) ≡ true = search rules in
-    written c.write.result _ c.args.line.now.items (unexpected (plain c.args.scene)) _ (cond-true _ _ _ empty)
-    c.write.ensures
+    written c.write_ended.result _ c.args.line.now.items (unexpected (plain c.args.scene)) _ (cond-true _ _ _ empty)
+    c.write_ended.ensures
