@@ -3,15 +3,17 @@
 
 usage: plants.py [--jobs N] [--outdated] [CRATE..]
 
-The edits of `crates/CRATE/plants/` have the form of those of `must-fail/`. For each crate that is named, a copy of the
-crate is given its plants in place of its must-fail edits, and `rt must-fail` tries them over the work that is kept in
-`out/`; N crates are tried side by side. Prints a line for each edit, and at the end one that counts those that were
-refused, those that got through and those that were not judged.
+The edits of `crates/CRATE/plants/` have the form of those of `must-fail/`. For each crate that is named they are tried
+in a copy of it, over the work that is kept in `out/`; N crates are tried side by side. A function's proof rests on its
+own body, and on no other. So those that change bodies alone are tried many at once, no two in one function: each that
+has a function which isn't proved any more is refused. All others are given to a copy of the crate in place of its
+must-fail edits, and `rt must-fail` tries them one by one. Prints a line for each edit, and at the end one that counts
+those that were refused, those that got through and those that were not judged.
 
-What was found is written to tools/plants.txt: a row for each crate, with a checksum of the kit's logic, of the crate with
-its plants, and of the sources and definitions of the crates below. Where no crate is named, those with plants are tried
-whose row is of another sum, so a run that is broken off goes on where it was, and the last line counts the rows of all.
-The status is 1 where an edit was not refused. With `--outdated` nothing is tried, and those crates are named.
+What was found is written to tools/plants.txt: a row for each crate, with a checksum of the kit's logic, of the crate
+with its plants, and of the sources and definitions of the crates below. Where no crate is named, those with plants are
+tried whose row is of another sum, so a run that is broken off goes on where it was, and the last line counts the rows
+of all. The status is 1 where an edit was not refused. With `--outdated` nothing is tried, and those crates are named.
 """
 from __future__ import annotations
 
@@ -30,9 +32,17 @@ from concurrent.futures import ThreadPoolExecutor
 from subprocess import PIPE, STDOUT
 from typing import NamedTuple
 
+from bodies import Edit, apart, apply, edit_of_bodies
 from scratch import TOP, crate_lines, crate_names, libraries, scratch_copy
 
 ANSWER = re.compile(r"rt: must-fail \S+/(\S+)\.edit: (refused|NOT REFUSED|BAD EDIT)(.*)")
+# What the prover says of a function, and where a proof file names what an edit took away, which says little.
+CALLS_AN_OPEN_ONE = "no proof: it calls"
+JUDGED = re.compile(r"^(?:fn|impl|struct|enum) (\S+): (.*)$", re.MULTILINE)
+AT_A_PROOF = re.compile(r"^(?:note: )?(?:\./)?proofs/(\S+?):\d+:\d+: (.*)$", re.MULTILINE)
+TAKEN_AWAY = re.compile(r"has no field|is not in scope|has no `|was not admitted")
+# How many edits are tried at once.
+AT_ONCE = 12
 RECORD = TOP / "tools" / "plants.txt"
 HEAD = """# What the plants of each crate came to, as `make plants` wrote it: the crate, a checksum of what was tried,
 # how many plants were refused, let through and not judged, and the day.
@@ -100,15 +110,71 @@ def plants_of(name: str) -> list[pathlib.Path]:
     return sorted((TOP / "crates" / name / "plants").glob("*.edit"))
 
 
-def tried(name: str, plants: list[pathlib.Path]) -> str:
+def says_little(edit: Edit, printed: str) -> bool:
+    """Whether all that is said of the edit's functions is that their proofs name something that it took away."""
+    of_edit = [text for file, text in AT_A_PROOF.findall(printed)
+               if any(f"/{one.name}/" in file for one in edit.functions)]
+    return bool(of_edit) and all(TAKEN_AWAY.search(text) for text in of_edit)
+
+
+def refused_at_once(edits: list[Edit], crate: pathlib.Path) -> set[pathlib.Path]:
+    """Those of the edits that are refused in a check of the crate with all of them; none where that judges nothing, or
+    where a function isn't proved that none of them changes."""
+    work, before = crate / "out" / "incremental", apply(edits, crate)
+    kept = crate / "out" / "kept"
+    subprocess.run(["cp", "-a", "--reflink=auto", work, kept], check=True)
+    run = subprocess.run(["rt", "check", "--jobs", "1"], cwd=crate, stdout=PIPE, stderr=STDOUT, text=True)
+    for path, text in before.items():
+        path.write_text(text, encoding="utf-8")
+    shutil.rmtree(work, ignore_errors=True)
+    kept.rename(work)
+    open_paths = [path for path, said in JUDGED.findall(run.stdout)
+                  if said != "proved" and not said.startswith(CALLS_AN_OPEN_ONE)]
+    by_edit = {edit: [path for path in open_paths if any(one.is_named_by(path, crate.name) for one in edit.functions)]
+               for edit in edits}
+    changed = {path for paths in by_edit.values() for path in paths}
+    if "logic=not-proved" not in run.stdout or changed != set(open_paths):
+        return set()
+    return {edit.path for edit, paths in by_edit.items() if paths and not says_little(edit, run.stdout)}
+
+
+def refused_together(plants: list[pathlib.Path], crate: pathlib.Path) -> set[pathlib.Path]:
+    """Those of the plants that are refused with others, in a copy of the crate that is proved as it is."""
+    edits = [edit for edit in (edit_of_bodies(plant, crate) for plant in plants) if edit]
+    check = ["rt", "check", "--jobs", "1"]
+    if not edits or subprocess.run(check, cwd=crate, stdout=PIPE, stderr=STDOUT).returncode != 0:
+        return set()
+    found: set[pathlib.Path] = set()
+    groups = apart(edits, AT_ONCE)
+    while groups:
+        group = groups.pop()
+        refused = refused_at_once(group, crate)
+        found |= refused
+        left = [edit for edit in group if edit.path not in refused]
+        if len(left) > 1:
+            groups += [left] if refused else [left[::2], left[1::2]]
+    return found
+
+
+def tried_alone(plants: list[pathlib.Path], crate: pathlib.Path) -> str:
     """What `rt must-fail` prints of a copy of the crate that has these plants alone."""
+    edits = crate / "must-fail"
+    shutil.rmtree(edits, ignore_errors=True)
+    edits.mkdir()
+    for plant in plants:
+        shutil.copy(plant, edits)
+    return subprocess.run(["rt", "must-fail", crate.name], cwd=crate.parent.parent, stdout=PIPE, stderr=STDOUT,
+                          text=True).stdout
+
+
+def tried(name: str, plants: list[pathlib.Path]) -> str:
+    """A line for each plant, as `rt must-fail` prints it."""
     with scratch_copy(name) as top:
-        edits = top / "crates" / name / "must-fail"
-        shutil.rmtree(edits, ignore_errors=True)
-        edits.mkdir()
-        for plant in plants:
-            shutil.copy(plant, edits)
-        return subprocess.run(["rt", "must-fail", name], cwd=top, stdout=PIPE, stderr=STDOUT, text=True).stdout
+        crate = top / "crates" / name
+        refused = refused_together(plants, crate)
+        lines = [f"rt: must-fail {name}/{plant.name}: refused, with others" for plant in plants if plant in refused]
+        rest = [plant for plant in plants if plant not in refused]
+        return "\n".join([*lines, tried_alone(rest, crate) if rest else ""])
 
 
 def try_plants(name: str) -> Row:
