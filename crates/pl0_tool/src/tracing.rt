@@ -1,6 +1,6 @@
 //! Telling a run position by position.
 
-ghost use Rattle.std.specs.Prelude.{◌≡◌, ◌<◌, ◌≤◌, ℕ, IfOk, MatchOption, MatchResult};
+ghost use Rattle.std.specs.Prelude.{◌≡◌, ◌<◌, ◌≤◌, ◌⊎◌, ℕ, length, IfOk, MatchOption, MatchResult};
 ghost use Rattle.byte_streams.specs.Streams.{output as output_at};
 ghost use Rattle.pl0_machine.specs.Machine.{program, frame_of, depth_of, variables_of, outcome_of, Stepped};
 ghost use Rattle.pl0_tool.specs.Traced.{HasPart, HasTraced, PutsRow, StopsBefore};
@@ -59,10 +59,10 @@ pub enum TraceEnd {
     WriteFailed,
 }
 
-/// Tells up to `count` positions of a run, from `from` on, in order, in a table of which `page` has the head. There are
-/// fewer only where the run ends or faults. Where more than `room` bytes of the table are pending in `page` they are
-/// written. The machine goes to `from` without telling anything, and then stands at the end, at the step that faults,
-/// or behind what was told.
+/// Tells up to `count` positions of a run, from `from` on, in order, in a table of which `page` has the head. There
+/// are fewer only where the run ends or faults. Where more than `room` bytes of the table are pending in `page` after
+/// a position, they are written. The machine goes to `from` without telling anything, and then stands at the end, at
+/// the step that faults, or behind what was told.
 ///
 /// # Errors
 ///
@@ -81,13 +81,14 @@ pub fn trace<O: Sink>(
     requires alive { 0 < depth_of machine.old }
     requires within { machine.old.position ≤ from }
     requires head { page.old.items ≡ head drawn }
-    ensures { MatchResult result
+    ensures told { MatchResult result
         (λ end. HasTraced end drawn machine.old from count machine.new
         (output_at (O.written output.old) (O.failures output.old))
         (output_at (O.written output.new) (O.failures output.new)) page.new.items)
         (λ _. HasPart drawn machine.old from count
         (output_at (O.written output.old) (O.failures output.old))
         (output_at (O.written output.new) (O.failures output.new))) }
+    ensures few { IfOk result (λ _. (length page.new.items ≤ room) ⊎ (page.new.items ≡ page.old.items)) }
 {
     if let Some(end) = go_to(rt, machine, from) {
         return Ok(end);
@@ -116,12 +117,13 @@ fn tell_row<O: Sink>(
     room: usize,
 ) -> Result<Option<StepOutcome>, AllocError>
     requires { 0 < depth_of machine.old }
-    ensures { MatchResult result
+    ensures told { MatchResult result
         (λ told. PutsRow told drawn machine.old machine.new page.old.items page.new.items
         (output_at (O.written output.old) (O.failures output.old))
         (output_at (O.written output.new) (O.failures output.new)))
         (λ _. output_at (O.written output.new) (O.failures output.new)
         ≡ output_at (O.written output.old) (O.failures output.old)) }
+    ensures few { IfOk result (λ _. length page.new.items ≤ room) }
 {
     let row = next_row(alloc, machine, drawn)?;
     let unit: &Unit = machine.unit();

@@ -3,8 +3,8 @@ use Rattle.pl0_tool.specs.Table.{row_text}
 use Rattle.pl0_tool.proofs.TracedRows.{row_held}
 use Rattle.pl0_tool.proofs.tracing.tell_row.Goals as goal
 
-pub returns-in-Ok : goal.returns-in-Ok
-returns-in-Ok g c =
+pub returns-in-Ok-clause-told : goal.returns-in-Ok-clause-told
+returns-in-Ok-clause-told g c =
     let m = c.args.machine.now in
     let row = c.in_ok-row.row in (
       row,
@@ -15,8 +15,8 @@ returns-in-Ok g c =
           c.in_ok-row.ensures.1 (c.deref-unit.ensures ∙ c.unit.ensures) c.in_ok-put_row.ensures held),
     )
 
-pub returns : goal.returns
-returns g c =
+pub returns-clause-told : goal.returns-clause-told
+returns-clause-told g c =
     let m = c.args.machine.now in
     let row = c.in_ok-row.row in (
       row,

@@ -1,11 +1,12 @@
-use Rattle.pl0_tool.proofs.Common.{arith, ap, Done, Fault, length, None, output, Some, subst, Went, ◌+◌, ◌∙◌, ◌≡◌}
+use Rattle.std.proofs.Common.{inl}
+use Rattle.pl0_tool.proofs.Common.{arith, ap, Done, Fault, inr, length, None, output, refl, Some, subst, Went, ◌+◌, ◌∙◌, ◌≡◌}
 use Rattle.pl0_machine.specs.declared.outcome.StepOutcome.{StepOutcome}
 use Rattle.pl0_tool.specs.Traced.{PutsRow}
 use Rattle.pl0_tool.proofs.TracedRows.{part_there, position_there, stands, table_there, tells_none, told_all, told_failed, told_last, told_on, told_part, traced_end, traced_fault, traced_nowhere}
 use Rattle.pl0_tool.proofs.tracing.trace.Goals as goal
 
-pub returns-in-Some : goal.returns-in-Some
-returns-in-Some g c =
+pub returns-in-Some-clause-told : goal.returns-in-Some-clause-told
+returns-in-Some-clause-told g c =
     traced_nowhere c.in-Some.end c.args.drawn c.args.machine.now c.go_to.new.machine c.args.from c.args.count _ _
     c.requires.head c.in-Some.ensures
 
@@ -15,17 +16,18 @@ loop-index-init g c =
       there.0,
       stands c.args.machine.now c.go_to.new.machine c.args.from there.1,
       tells_none c.args.drawn c.go_to.new.machine c.args.from _ _ c.requires.head,
+      inr refl,
     )
 
-pub returns-in-Err : goal.returns-in-Err
-returns-in-Err g c =
+pub returns-in-Err-clause-told : goal.returns-in-Err-clause-told
+returns-in-Err-clause-told g c =
     let mid = c.go_to.new.machine in
     part_there c.args.drawn c.args.machine.now mid c.args.from c.args.count _ _ c.in_default.ensures.1
     (told_part c.args.drawn mid c.args.from c.loop-index.index c.args.count _ _ _ _ c.loop-index-test.true
-    c.in-Err.ensures c.loop-index.invariant.2)
+    c.in-Err.ensures.told c.loop-index.invariant.2)
 
-pub returns-in-Ok-None : goal.returns-in-Ok-None
-returns-in-Ok-None g c =
+pub returns-in-Ok-None-clause-told : goal.returns-in-Ok-None-clause-told
+returns-in-Ok-None-clause-told g c =
     let start = c.args.machine.now in
     let mid = c.go_to.new.machine in
     let now = c.loop-index.machine in
@@ -36,7 +38,7 @@ returns-in-Ok-None g c =
     let at = output (g.O.Sink.written c.loop-index.output) (g.O.Sink.failures c.loop-index.output) in
     let after = output (g.O.Sink.written c.tell_row.new.output) (g.O.Sink.failures c.tell_row.new.output) in
     let given : PutsRow c.in-Ok-None.field-0 c.args.drawn now new pending left at after =
-    c.in-Ok-None.ensures in
+    c.in-Ok-None.ensures.told in
     let is : c.in-Ok-None.field-0 ≡ None = c.in-Ok-None.field-0-is in
     let puts : PutsRow None c.args.drawn now new pending left at after =
     subst (λ told. PutsRow told c.args.drawn now new pending left at after) is given in
@@ -47,8 +49,8 @@ returns-in-Ok-None g c =
       failed.1,
     )
 
-pub returns-in-Ok-Some-Done : goal.returns-in-Ok-Some-Done
-returns-in-Ok-Some-Done g c =
+pub returns-in-Ok-Some-Done-clause-told : goal.returns-in-Ok-Some-Done-clause-told
+returns-in-Ok-Some-Done-clause-told g c =
     let start = c.args.machine.now in
     let mid = c.go_to.new.machine in
     let now = c.loop-index.machine in
@@ -59,7 +61,7 @@ returns-in-Ok-Some-Done g c =
     let at = output (g.O.Sink.written c.loop-index.output) (g.O.Sink.failures c.loop-index.output) in
     let after = output (g.O.Sink.written c.tell_row.new.output) (g.O.Sink.failures c.tell_row.new.output) in
     let given : PutsRow c.in-Ok-Some-Done.field-0 c.args.drawn now new pending left at after =
-    c.in-Ok-Some-Done.ensures in
+    c.in-Ok-Some-Done.ensures.told in
     let is : c.in-Ok-Some-Done.field-0 ≡ Some Done =
     c.in-Ok-Some-Done.field-0-is ∙ ap (λ (o : StepOutcome). Some o) c.in-Ok-Some-Done.field-0-0-is in
     let puts : PutsRow (Some Done) c.args.drawn now new pending left at after =
@@ -71,8 +73,8 @@ returns-in-Ok-Some-Done g c =
     traced_end c.args.drawn start mid now new c.args.from c.loop-index.index c.args.count before after left
     c.in_default.ensures.1 c.loop-index.invariant.1 puts.2 last
 
-pub returns-in-Ok-Some-Fault : goal.returns-in-Ok-Some-Fault
-returns-in-Ok-Some-Fault g c =
+pub returns-in-Ok-Some-Fault-clause-told : goal.returns-in-Ok-Some-Fault-clause-told
+returns-in-Ok-Some-Fault-clause-told g c =
     let start = c.args.machine.now in
     let mid = c.go_to.new.machine in
     let now = c.loop-index.machine in
@@ -83,7 +85,7 @@ returns-in-Ok-Some-Fault g c =
     let at = output (g.O.Sink.written c.loop-index.output) (g.O.Sink.failures c.loop-index.output) in
     let after = output (g.O.Sink.written c.tell_row.new.output) (g.O.Sink.failures c.tell_row.new.output) in
     let given : PutsRow c.in-Ok-Some-Fault.field-0 c.args.drawn now new pending left at after =
-    c.in-Ok-Some-Fault.ensures in
+    c.in-Ok-Some-Fault.ensures.told in
     let is : c.in-Ok-Some-Fault.field-0 ≡ Some (Fault c.in-Ok-Some-Fault.fault) =
     c.in-Ok-Some-Fault.field-0-is ∙ ap (λ (o : StepOutcome). Some o) c.in-Ok-Some-Fault.field-0-0-is in
     let puts : PutsRow (Some (Fault c.in-Ok-Some-Fault.fault)) c.args.drawn now new pending left at after =
@@ -107,16 +109,17 @@ loop-index-preserved g c =
     let at = output (g.O.Sink.written c.loop-index.output) (g.O.Sink.failures c.loop-index.output) in
     let after = output (g.O.Sink.written c.tell_row.new.output) (g.O.Sink.failures c.tell_row.new.output) in
     let given : PutsRow c.in-Ok-Some-Went.field-0 c.args.drawn now new pending left at after =
-    c.in-Ok-Some-Went.ensures in
+    c.in-Ok-Some-Went.ensures.told in
     let is : c.in-Ok-Some-Went.field-0 ≡ Some (Went c.in-Ok-Some-Went.field-0-0-0) =
     c.in-Ok-Some-Went.field-0-is ∙ ap (λ (o : StepOutcome). Some o) c.in-Ok-Some-Went.field-0-0-is in
     let puts : PutsRow (Some (Went c.in-Ok-Some-Went.field-0-0-0)) c.args.drawn now new pending left at after =
     subst (λ told. PutsRow told c.args.drawn now new pending left at after) is given in
-    told_on c.args.drawn mid now new c.args.from c.loop-index.index before at after pending left
-    c.in-Ok-Some-Went.field-0-0-0 c.loop-index.invariant.1 c.loop-index.invariant.2 puts
+    let told = told_on c.args.drawn mid now new c.args.from c.loop-index.index before at after pending left
+    c.in-Ok-Some-Went.field-0-0-0 c.loop-index.invariant.1 c.loop-index.invariant.2 puts in
+    (told.0, told.1, told.2, inl c.in-Ok-Some-Went.ensures.few)
 
-pub returns : goal.returns
-returns g c =
+pub returns-clause-told : goal.returns-clause-told
+returns-clause-told g c =
     let start = c.args.machine.now in
     let mid = c.go_to.new.machine in
     let end : c.loop-index.index ≡ c.args.count = omega (arith, c.loop-index.auto.index-end, c.loop-index-test.false) in

@@ -1,4 +1,5 @@
-use Rattle.pl0_tool.proofs.Common.{at_position, depth_of, output, ◌+◌, ◌<◌, ◌≡◌}
+use Rattle.std.specs.Prelude.{◌⊎◌}
+use Rattle.pl0_tool.proofs.Common.{at_position, depth_of, length, output, ◌+◌, ◌<◌, ◌≡◌, ◌≤◌}
 use Rattle.pl0_tool.proofs.TracedRows.{Tells}
 use Rattle.pl0_tool.proofs.tracing.trace.Given as goal
 
@@ -9,3 +10,4 @@ invariant-loop-index g l =
     × Tells l.drawn l.initial.machine l.from l.index
     (output (g.O.Sink.written l.initial.output) (g.O.Sink.failures l.initial.output))
     (output (g.O.Sink.written l.output) (g.O.Sink.failures l.output)) l.page.items
+    × ((length l.page.items ≤ l.room) ⊎ (l.page.items ≡ l.initial.page.items))
