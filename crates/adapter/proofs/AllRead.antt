@@ -20,11 +20,12 @@ use Rattle.dap_history.specs.Laws.{stream_of, HistoryIsOne, ContentsAreOfTheStre
 use Rattle.dap_history.specs.Taken.{EventsAreTaken, EachItemEndsOrNot, ends_by}
 use Rattle.dap_history.proofs.FirstKept.{first_by_event, first_kept}
 use Rattle.dap_session.proofs.Standing.{history_one_more}
-use Rattle.dap_session.specs.Serving.{SessionOutcome, closes}
+use Rattle.dap_session.specs.Serving.{ReachesLast, SessionOutcome, closes}
 use Rattle.dap_wires.specs.Senders.{from_client}
 use Rattle.dap_wires.specs.Transfer.{IsRead, AreRead}
 use Rattle.byte_streams.specs.Streams.{Supply, WritesAll}
 use Rattle.adapter.specs.AllRead.{asked, AnswersAll, ClosesBy, AnswersAllRead, AllReadIsAnswered}
+use Rattle.adapter.specs.Laws.{TakesWholeInput, InputIsTakenWhole}
 use Rattle.adapter.specs.Serving.{World, input_of, output_of, nothing_sent, TasksEnd}
 use Rattle.adapter.proofs.InputTaken.{first_event, later_events, IsLast, no_last_loads, takes_all, read_to_end}
 use Rattle.adapter.proofs.SessionFaults.{outcome_is_of_session}
@@ -142,6 +143,42 @@ parted past rest (e ∷ front) own back new left all =
       later = more.later;
     }
 
+-- the same of a history from its beginning
+record IsHistoryParted (front : List Incoming) (own : Incoming) (back : List Incoming) (new : History) (left : Rest)
+    : Type 0 where
+  pub mid : History
+  pub between : Rest
+  pub next : History
+  pub after : Rest
+  pub first_is : between.first ≡ left.first
+  pub before : IsHistoryOf front mid between
+  pub at : LeadsByEvent mid between own next after
+  pub up_to : IsHistoryOf (front ++ own ∷ []) next after
+  pub later : LeadsByEvents next after back new left
+
+history_parted : (front : List Incoming) (own : Incoming) (back : List Incoming) (new : History) (left : Rest)
+    → IsHistoryOf (front ++ own ∷ back) new left → IsHistoryParted front own back new left
+history_parted front own back new left history = record {
+  mid = parts.mid;
+  between = parts.between;
+  next = parts.next;
+  after = parts.after;
+  first_is = first_is;
+  before = before;
+  at = parts.at;
+  up_to = history_one_more front parts.mid parts.between own parts.next parts.after before parts.at;
+  later = parts.later;
+}
+  where
+    parts : IsParted [] (only_bytes left.first []) front own back new left
+    parts = parted [] (only_bytes left.first []) front own back new left history
+
+    first_is : parts.between.first ≡ left.first
+    first_is = first_kept [] (only_bytes left.first []) front parts.mid parts.between parts.before
+
+    before : IsHistoryOf front parts.mid parts.between
+    before = subst (λ n. LeadsByEvents [] (only_bytes n []) front parts.mid parts.between) (sym first_is) parts.before
+
 -- a session that is over takes nothing more
 stays : EventsAreTaken → (events back : List Incoming) (mid : History) (between : Rest) (new : History) (left : Rest)
     → IsHistoryOf events mid between → ¬ IsTaking mid → LeadsByEvents mid between back new left → new ≡ mid
@@ -194,6 +231,17 @@ pub record Closing (by : Closed) (own : Incoming) (item : Item) : Type 0 where
   pub among : (events : List Incoming) (past : History) (rest : Rest) → IsHistoryOf events past rest
       → ending_of past ≡ Some (ending.Closed by) → IsAmong own events
 
+-- a session that took it is over
+closes_there : EachItemEndsOrNot → {by : Closed} {own : Incoming} {item : Item} → Closing by own item
+    → {front back : List Incoming} {new : History} {left : Rest} → (parts : IsHistoryParted front own back new left)
+    → IsAfter parts.mid item parts.next → ¬ IsTaking parts.next
+closes_there ends_or_not {by} {own} {item} closing {front} {back} {new} {left} parts after still =
+    let ends = (ends_or_not (front ++ own ∷ []) parts.next parts.after parts.up_to parts.mid after.step []
+    after.new_is).1 in
+    let e : None ≡ Some (ending.Closed by) =
+    sym still ∙ ap ending_of after.new_is ∙ ends ∙ ap ends_by after.item_is ∙ closing.ends in
+    absurd cc
+
 pub record AnswersUpTo (own : Incoming) (f : FirstSeq) (events : List Incoming) (past : History) : Type 0 where
   pub front : List Incoming
   pub back : List Incoming
@@ -213,9 +261,9 @@ module _ (laws : HistoryLaws) (f : FirstSeq) (events given : List Incoming) (loa
       contents = told.0;
       rest = parts.between.bytes;
       frames = told.1;
-      unfinished = (laws.unread such.front parts.mid parts.between before way.0).0 none_waits;
+      unfinished = (laws.unread such.front parts.mid parts.between parts.before way.0).0 none_waits;
       requests = requests;
-      read = subst (λ n. AreReadAs n told.0 requests) (first_same ∙ first_is)
+      read = subst (λ n. AreReadAs n told.0 requests) (parts.first_is ∙ first_is)
           (subst (λ l. AreReadAs parts.between.first told.0 l)
           (ap (λ o. requests ++ waiting o) none_waits ∙ append-nil requests) told.2);
       answers = laws.answered events past rest history
@@ -231,28 +279,18 @@ module _ (laws : HistoryLaws) (f : FirstSeq) (events given : List Incoming) (loa
       such : FirstSuch own events
       such = first_such own closing.known events there.0 there.1 there.2
 
-      parts : IsParted [] (only_bytes rest.first []) such.front own such.back past rest
-      parts = parted [] (only_bytes rest.first []) such.front own such.back past rest
-          (subst (λ l. LeadsByEvents [] (only_bytes rest.first []) l past rest) such.are history)
-
-      first_same : parts.between.first ≡ rest.first
-      first_same = first_kept [] (only_bytes rest.first []) such.front parts.mid parts.between parts.before
-
-      before : IsHistoryOf such.front parts.mid parts.between
-      before = subst (λ n. LeadsByEvents [] (only_bytes n []) such.front parts.mid parts.between) (sym first_same)
-          parts.before
-
-      up_to : IsHistoryOf (such.front ++ own ∷ []) parts.next parts.after
-      up_to = history_one_more such.front parts.mid parts.between own parts.next parts.after before parts.at
+      parts : IsHistoryParted such.front own such.back past rest
+      parts = history_parted such.front own such.back past rest
+          (subst (λ l. IsHistoryOf l past rest) such.are history)
 
       -- it was not over before
       was_taken : MayTake parts.mid item parts.next → IsTaking parts.mid × IsAfter parts.mid item parts.next
       was_taken (inr is) = is
       was_taken (inl is) =
           let same : past ≡ parts.mid =
-          stays laws.taken such.front (own ∷ such.back) parts.mid parts.between past rest before is.0
+          stays laws.taken such.front (own ∷ such.back) parts.mid parts.between past rest parts.before is.0
           (parts.next, parts.after, parts.at, parts.later) in
-          absurd (such.first (closing.among such.front parts.mid parts.between before
+          absurd (such.first (closing.among such.front parts.mid parts.between parts.before
           (ap ending_of (sym same) ∙ ending_is)))
 
       way : IsTaking parts.mid × IsAfter parts.mid item parts.next
@@ -261,25 +299,18 @@ module _ (laws : HistoryLaws) (f : FirstSeq) (events given : List Incoming) (loa
       step : Step
       step = way.1.step
 
-      over : ¬ IsTaking parts.next
-      over still =
-          let ends = (laws.ends (such.front ++ own ∷ []) parts.next parts.after up_to parts.mid step []
-          way.1.new_is).1 in
-          let e : None ≡ Some (ending.Closed by) =
-          sym still ∙ ap ending_of way.1.new_is ∙ ends ∙ ap ends_by way.1.item_is ∙ closing.ends in
-          absurd cc
-
       past_is : past ≡ parts.mid ++ step ∷ []
       past_is =
-          stays laws.taken (such.front ++ own ∷ []) such.back parts.next parts.after past rest up_to over parts.later
+          stays laws.taken (such.front ++ own ∷ []) such.back parts.next parts.after past rest parts.up_to
+          (closes_there laws.ends closing parts way.1) parts.later
           ∙ way.1.new_is
 
       awaits : AwaitsNone f such.front
       awaits = awaits_none f own closing.last [] events given loads from such.front such.back such.are
 
       same_there : (parts.mid ≡ awaits.past) × (parts.between ≡ awaits.rest)
-      same_there = laws.one such.front parts.mid awaits.past parts.between awaits.rest before awaits.history
-          (first_same ∙ first_is ∙ sym awaits.first_is)
+      same_there = laws.one such.front parts.mid awaits.past parts.between awaits.rest parts.before awaits.history
+          (parts.first_is ∙ first_is ∙ sym awaits.first_is)
 
       by_waits : (¬ IsTaking awaits.past) ⊎ (awaits.rest.launch ≡ None) → parts.between.launch ≡ None
       by_waits (inl over) = absurd (over (subst (λ h. IsTaking h) same_there.0 way.0))
@@ -293,7 +324,51 @@ module _ (laws : HistoryLaws) (f : FirstSeq) (events given : List Incoming) (loa
 
       told : (contents : List (List ℕ)) × Frames (stream_of such.front) contents parts.between.bytes
           × AreReadAs parts.between.first contents (contents_read parts.mid parts.between.launch)
-      told = laws.contents such.front parts.mid parts.between before
+      told = laws.contents such.front parts.mid parts.between parts.before
+
+-- ---- no event comes after one that closes a session
+
+-- of events of which it isn't the last it is among those before the last
+among_earlier : (own last other : Incoming) (front back earlier : List Incoming)
+    → front ++ own ∷ (other ∷ back) ≡ earlier ++ last ∷ [] → IsAmong own earlier
+among_earlier own last other [] back [] is = let e = ap later_events is in absurd cc
+among_earlier own last other [] back (x ∷ earlier) is =
+    ([], earlier, ap (λ e. e ∷ earlier) (sym (ap (first_event own) is)))
+among_earlier own last other (x ∷ []) back [] is = let e = ap later_events is in absurd cc
+among_earlier own last other (x ∷ y ∷ front) back [] is = let e = ap later_events is in absurd cc
+among_earlier own last other (x ∷ front) back (y ∷ earlier) is =
+    let there = among_earlier own last other front back earlier (ap later_events is) in
+    (y ∷ there.0, there.1, ap (λ l. y ∷ l) there.2)
+
+-- a session that takes items has taken none
+none_taken : EventsAreTaken → EachItemEndsOrNot → {by : Closed} {own : Incoming} {item : Item} → Closing by own item
+    → (events : List Incoming) (past : History) (rest : Rest) → IsHistoryOf events past rest → IsTaking past
+    → ¬ IsAmong own events
+none_taken taken ends {by} {own} {item} closing events past rest history taking (front, back, is) =
+    over (closing.takes parts.mid parts.between parts.next parts.after parts.at)
+  where
+    parts : IsHistoryParted front own back past rest
+    parts = history_parted front own back past rest (subst (λ l. IsHistoryOf l past rest) is history)
+
+    over : MayTake parts.mid item parts.next → ⊥
+    over (inl before) =
+        before.0 (subst IsTaking
+        (stays taken front (own ∷ back) parts.mid parts.between past rest parts.before before.0
+        (parts.next, parts.after, parts.at, parts.later))
+        taking)
+    over (inr there) =
+        let closed_there = closes_there ends closing parts there.1 in
+        closed_there (subst IsTaking
+        (stays taken (front ++ own ∷ []) back parts.next parts.after past rest parts.up_to closed_there parts.later)
+        taking)
+
+nothing_after : EventsAreTaken → EachItemEndsOrNot → {by : Closed} {own : Incoming} {item : Item} → Closing by own item
+    → {f : FirstSeq} {events : List Incoming} → ReachesLast f events
+    → (front back : List Incoming) → events ≡ front ++ own ∷ back → back ≡ []
+nothing_after taken ends closing reaches front [] is = refl
+nothing_after taken ends {by} {own} closing reaches front (other ∷ back) is =
+    absurd (none_taken taken ends closing reaches.before reaches.past reaches.rest reaches.history reaches.taking
+    (among_earlier own reaches.last other front back reaches.before (sym is ∙ reaches.events_are)))
 
 -- ---- all together
 
@@ -305,24 +380,24 @@ known_failure : (e : Incoming) → (ReadFailed ≡ e) ⊎ ¬ (ReadFailed ≡ e)
 known_failure ReadFailed = inl refl
 known_failure _ = inr (λ same. absurd cc)
 
-by_end : HistoryLaws → Closing closed.InputEnded End InputEnd
-by_end laws = record {
+by_end : ClosedByItsEvent → Closing closed.InputEnded End InputEnd
+by_end closed_by = record {
   last = tt;
   known = known_end;
   takes = λ past rest new left leads. leads.0;
   unasked = refl;
   ends = refl;
-  among = λ events past rest history is. (laws.closed_by events past rest history).0 is;
+  among = λ events past rest history is. (closed_by events past rest history).0 is;
 }
 
-by_failure : HistoryLaws → Closing closed.ReadFailed ReadFailed ReadFailure
-by_failure laws = record {
+by_failure : ClosedByItsEvent → Closing closed.ReadFailed ReadFailed ReadFailure
+by_failure closed_by = record {
   last = tt;
   known = known_failure;
   takes = λ past rest new left leads. leads.0;
   unasked = refl;
   ends = refl;
-  among = λ events past rest history is. (laws.closed_by events past rest history).1 is;
+  among = λ events past rest history is. (closed_by events past rest history).1 is;
 }
 
 failures_grow : (e : Incoming) (old later : Supply) → IsRead e old later → old.failures ≤ later.failures
@@ -371,10 +446,33 @@ pub all_read_is_answered : HistoryLaws → AllReadIsAnswered
 all_read_is_answered laws f outcome closed.Disconnected before after served is other = absurd (other refl)
 all_read_is_answered laws f outcome closed.InputEnded before after served is other =
     let driven = outcome_is_of_session f outcome closed.InputEnded before after served is in
-    answers_all_read laws f before after closed.InputEnded End InputEnd (by_end laws) driven driven.reader.client_taken
+    answers_all_read laws f before after closed.InputEnded End InputEnd (by_end laws.closed_by) driven
+    driven.reader.client_taken
     (λ pieces read. read_to_end pieces (input_of before.streams) (input_of after.streams) read) driven.session.drives
 all_read_is_answered laws f outcome closed.ReadFailed before after served is other =
     let driven = outcome_is_of_session f outcome closed.ReadFailed before after served is in
-    answers_all_read laws f before after closed.ReadFailed ReadFailed ReadFailure (by_failure laws) driven
+    answers_all_read laws f before after closed.ReadFailed ReadFailed ReadFailure (by_failure laws.closed_by) driven
     driven.reader.client_taken
     (λ pieces read. read_fails pieces (input_of before.streams) (input_of after.streams) read) driven.session.drives
+
+pub input_taken_whole : EventsAreTaken → EachItemEndsOrNot → ClosedByItsEvent → InputIsTakenWhole
+input_taken_whole taken ends closed_by f wrote before after driven = by_drives driven.session.drives
+  where
+    by_drives : SessionOutcome f driven.session.events driven.given driven.session.loaded nothing_sent driven.sent
+        (Ok closed.InputEnded)
+        → TakesWholeInput driven.session.events (input_of before.streams) (input_of after.streams)
+    by_drives (closes from serves) =
+        let there : IsAmong End driven.session.events =
+        (by_end closed_by).among driven.session.events serves.past serves.rest serves.history serves.ending_is in
+        let all =
+        takes_all f driven.session.events driven.given driven.reader.client driven.session.loaded driven.reader.end
+        (input_of before.streams) (input_of after.streams) from driven.reader.read driven.reader.client_taken End tt
+        there.0 there.1 there.2 in
+        record {
+          front = there.0;
+          events_are = there.2
+              ∙ ap (λ back. there.0 ++ End ∷ back)
+              (nothing_after taken ends (by_end closed_by) serves.reaches there.0 there.1 there.2);
+          whole = all.whole;
+          at_end = read_to_end all.pieces (input_of before.streams) (input_of after.streams) all.read;
+        }

@@ -17,7 +17,7 @@ use Rattle.dap_history.specs.Events.{Incoming, Piece, End, ReadFailed, File, Rep
 use Rattle.dap_history.specs.Events.{NoMemory as NoMemoryCame}
 use Rattle.dap_history.specs.Interleaving.{Load, IsLoad, Interleaves}
 use Rattle.dap_history.specs.Laws.{stream_of, DisconnectIsLast}
-use Rattle.dap_history.proofs.Closings.{IsFile, closed_by_end}
+use Rattle.dap_history.proofs.Closings.{IsFile}
 use Rattle.dap_session.specs.Sending.{IsPrefixOf}
 use Rattle.dap_session.specs.Serving.{SessionOutcome, closes}
 use Rattle.dap_wires.specs.declared.reading.ReadEnd.{ReadEnd}
@@ -27,7 +27,7 @@ use Rattle.dap_wires.specs.Senders.{from_client}
 use Rattle.dap_wires.specs.Transfer.{IsRead, AreRead}
 use Rattle.dap_wires.proofs.Sending.{client_append}
 use Rattle.byte_streams.specs.Streams.{Supply}
-use Rattle.adapter.specs.Laws.{TakesWholeInput, InputIsTakenWhole, AsksToDisconnect, TakesFirstDisconnect, FirstDisconnectCloses}
+use Rattle.adapter.specs.Laws.{AsksToDisconnect, TakesFirstDisconnect, FirstDisconnectCloses}
 use Rattle.adapter.specs.Serving.{nothing_sent, input_of, SessionSends}
 use Rattle.adapter.proofs.Gathered.{IsPiece, last_one, last_sent}
 
@@ -178,13 +178,12 @@ inbox_stream f before (e ∷ events) given loads (inl from) =
 inbox_stream f before (e ∷ events) given loads (inr from) =
     ap stream_of from.1 ∙ stream_more e from.0 events (inbox_stream f (before ++ e ∷ []) events from.0 loads from.3)
 
--- such an event is among those that the inbox gave, with the same pieces before it and after it
+-- such an event is among those that the inbox gave, with the same pieces before it
 record IsSplit (own : Incoming) (front back given : List Incoming) : Type 0 where
   pub first : List Incoming
   pub last : List Incoming
   pub given_are : given ≡ first ++ own ∷ last
   pub before : stream_of first ≡ stream_of front
-  pub after : stream_of last ≡ stream_of back
 
 split : (f : FirstSeq) (own : Incoming) → IsLast own → (so_far events given : List Incoming) (loads : List Load)
     → Interleaves f so_far events given loads
@@ -205,14 +204,12 @@ split f own ends so_far (e ∷ events) given loads (inl from) (x ∷ front) back
       given_are = there.given_are;
       before = there.before
           ∙ sym kept;
-      after = there.after;
     }
 split f own ends so_far (e ∷ events) given loads (inr from) [] back is = record {
   first = [];
   last = from.0;
   given_are = from.1 ∙ ap (λ x. x ∷ from.0) (ap (first_event own) is);
   before = refl;
-  after = inbox_stream f (so_far ++ e ∷ []) events from.0 loads from.3 ∙ ap stream_of (ap later_events is);
 }
 split f own ends so_far (e ∷ events) given loads (inr from) (x ∷ front) back is =
     let there = split f own ends (so_far ++ e ∷ []) events from.0 loads from.3 front back (ap later_events is) in
@@ -221,27 +218,24 @@ split f own ends so_far (e ∷ events) given loads (inr from) (x ∷ front) back
       last = there.last;
       given_are = from.1 ∙ ap (λ l. e ∷ l) there.given_are;
       before = stream_more e there.first front there.before ∙ ap (λ y. stream_of (y ∷ front)) (ap (first_event own) is);
-      after = there.after;
     }
 
 -- ---- closed by the input's end or a failed read
 
 -- All that was read of the input stands before the event that closed the session: pieces were read, and then that.
-pub record TakesAll (own : Incoming) (front back : List Incoming) (old later : Supply) : Type 0 where
+pub record TakesAll (own : Incoming) (front : List Incoming) (old later : Supply) : Type 0 where
   pub whole : Consumes old.left later.left (stream_of front)
-  pub nothing_after : stream_of back ≡ []
   pub pieces : List Incoming
   pub read : AreRead (pieces ++ own ∷ []) old later
 
 module _ (f : FirstSeq) (events given client : List Incoming) (loads : List Load) (end : ReadEnd) (old later : Supply)
     (from : Interleaves f [] events given loads) (read : IsReadUntil end client old later)
     (taken : from_client given ≡ client) (own : Incoming) (last : IsLast own) where
-  pub takes_all : (front back : List Incoming) → events ≡ front ++ own ∷ back → TakesAll own front back old later
+  pub takes_all : (front back : List Incoming) → events ≡ front ++ own ∷ back → TakesAll own front old later
   takes_all front back is = record {
     whole = subst (λ l. Consumes old.left later.left l) all
         (subst (λ (s : Supply). Consumes old.left s.left (stream_of client)) (sym same)
         (read_stream client old read.mid read.read));
-    nothing_after = sym parts.after ∙ none_after;
     pieces = from_client parts.first;
     read = subst (λ s. AreRead (from_client parts.first ++ own ∷ []) old s) (sym same)
         (subst (λ l. AreRead l old read.mid) last_is read.read);
@@ -262,9 +256,6 @@ module _ (f : FirstSeq) (events given client : List Incoming) (loads : List Load
       none = last_sent read.pieces (last_of end) (from_client parts.first) (from_client parts.last) own (last_one end)
           (no_piece own last) sent
 
-      none_after : stream_of parts.last ≡ []
-      none_after = sym (client_stream parts.last) ∙ ap stream_of none
-
       last_is : client ≡ from_client parts.first ++ own ∷ []
       last_is = client_is ∙ ap (λ l. from_client parts.first ++ own ∷ l) none
 
@@ -277,30 +268,6 @@ module _ (f : FirstSeq) (events given client : List Incoming) (loads : List Load
           ∙ ap (λ l. stream_of (from_client parts.first) ++ l) (stream_last own last)
           ∙ append-nil (stream_of (from_client parts.first))
           ∙ client_stream parts.first ∙ parts.before
-
-pub input_taken_whole : InputIsTakenWhole
-input_taken_whole f wrote before after driven = by_drives session.drives
-  where
-    session : SessionSends f (Ok closed.InputEnded) driven.given driven.sent before.loads after.loads
-    session = driven.session
-
-    by_drives : SessionOutcome f session.events driven.given session.loaded nothing_sent driven.sent
-        (Ok closed.InputEnded)
-        → TakesWholeInput session.events (input_of before.streams) (input_of after.streams)
-    by_drives (closes from serves) =
-        let by = closed_by_end session.events serves.past serves.rest serves.history serves.ending_is in
-        let all =
-        takes_all f session.events driven.given driven.reader.client session.loaded driven.reader.end
-        (input_of before.streams) (input_of after.streams) from driven.reader.read driven.reader.client_taken End tt
-        by.0 by.1 by.2 in
-        record {
-          front = by.0;
-          back = by.1;
-          events_are = by.2;
-          whole = all.whole;
-          at_end = read_to_end all.pieces (input_of before.streams) (input_of after.streams) all.read;
-          nothing_after = all.nothing_after;
-        }
 
 -- ---- a prefix of what was read
 

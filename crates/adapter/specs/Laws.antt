@@ -40,14 +40,12 @@ OutcomeIsOfSession =
 
 -- ---- The input
 
--- The pieces before the input's end, joined, are all the bytes that were left of the input. No bytes come after it.
+-- The pieces before the input's end, joined, are all the bytes that were left of the input. No event comes after it.
 pub record TakesWholeInput (events : List Incoming) (old later : Supply) : Type 0 where
   pub front : List Incoming
-  pub back : List Incoming
-  pub events_are : events ≡ front ++ End ∷ back
+  pub events_are : events ≡ front ++ End ∷ []
   pub whole : Consumes old.left later.left (stream_of front)
   pub at_end : IsAtEnd later.left
-  pub nothing_after : stream_of back ≡ []
 
 -- A session that the input's end closed has taken the whole input.
 abbrev pub InputIsTakenWhole : Type 0

@@ -80,6 +80,7 @@ fn open_regular<R: Files>(rt: &R, path: &str) -> io::Result<R::File> {
 }
 
 ghost use Rattle.std.specs.Prelude.{◌≤◌, length, IfOk};
+ghost use Rattle.byte_streams.specs.Beginning.{beginning_limit};
 ghost use Rattle.adapter.specs.Loading.{IsOfFile};
 
 /// Returns the first 65,537 bytes of a file, or all where it has fewer.
@@ -93,7 +94,7 @@ fn read_file<R: Wait + Clock, I: Read + Drop>(
     opened: io::Result<I>,
 ) -> Result<Vec<u8>, LoadFault>
     ensures bytes { IfOk result (λ bytes. IsOfFile I.remaining opened bytes.items) }
-    ensures short { IfOk result (λ bytes. length bytes.items ≤ 65537) }
+    ensures short { IfOk result (λ bytes. length bytes.items ≤ beginning_limit) }
 {
     match opened {
         Ok(file) => match read_beginning(rt, alloc, &mut Reading::new(rt, file)) {

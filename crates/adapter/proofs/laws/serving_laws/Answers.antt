@@ -1,5 +1,5 @@
-use Rattle.adapter.proofs.AllRead.{all_read_is_answered}
-use Rattle.adapter.proofs.InputTaken.{input_taken_whole, first_disconnect_closes}
+use Rattle.adapter.proofs.AllRead.{all_read_is_answered, input_taken_whole}
+use Rattle.adapter.proofs.InputTaken.{first_disconnect_closes}
 use Rattle.adapter.proofs.RunsEnd.{runs_end_once}
 use Rattle.adapter.proofs.SessionFaults.{outcome_is_of_session, nobody_is_gone, full_after_enough}
 use Rattle.adapter.proofs.UpTo.{disconnect_is_answered, all_before_fault_is_answered}
@@ -9,7 +9,8 @@ pub returns-clause-outcome : goal.returns-clause-outcome
 returns-clause-outcome c = outcome_is_of_session
 
 pub returns-clause-input : goal.returns-clause-input
-returns-clause-input c = input_taken_whole
+returns-clause-input c =
+    input_taken_whole c.command_laws.ensures.taken c.command_laws.ensures.ends c.history_laws.ensures.closed_by
 
 pub returns-clause-answered : goal.returns-clause-answered
 returns-clause-answered c = all_read_is_answered (record {
