@@ -1,5 +1,9 @@
 //! Reading the program that a launch names.
 
+ghost use Rattle.std.specs.Prelude.{◌≡◌, IfOk, option_map};
+ghost use Rattle.serde_json.specs.View.{view};
+ghost use Rattle.stack_adapter.specs.Promises.{BeginsIfLoaded, text_at};
+
 use crate::machine::Machine;
 use crate::parsing::{Parsed, parse};
 use byte_streams::{BEGINNING_LIMIT, ReadFault, Reading, read_beginning};
@@ -34,7 +38,9 @@ pub fn load<R: Wait + Files + Clock>(
     rt: &R,
     alloc: Global,
     arguments: Option<&Value>,
-) -> Result<Launched, AllocError> {
+) -> Result<Launched, AllocError>
+    ensures { IfOk result BeginsIfLoaded }
+{
     let Some(path) = text(arguments, "program") else {
         return refused(alloc, "`program` is missing");
     };
@@ -55,7 +61,9 @@ pub fn load<R: Wait + Files + Clock>(
 }
 
 /// Returns a refusal.
-fn refused(alloc: Global, message: &str) -> Result<Launched, AllocError> {
+fn refused(alloc: Global, message: &str) -> Result<Launched, AllocError>
+    ensures { IfOk result BeginsIfLoaded }
+{
     Ok(Launched::Refused(String::from_str(alloc, message)?))
 }
 
@@ -76,7 +84,9 @@ fn bytes_of<R: Wait + Files + Clock>(
 }
 
 /// Returns a text among the arguments.
-pub fn text<'v>(arguments: Option<&'v Value>, key: &str) -> Option<&'v str> {
+pub fn text<'v>(arguments: Option<&'v Value>, key: &str) -> Option<&'v str>
+    ensures { option_map (λ s. s.now) result ≡ text_at key.now (option_map (λ v. view v.now) arguments.entry) }
+{
     arguments?.get(key)?.as_str()
 }
 

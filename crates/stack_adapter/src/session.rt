@@ -2,9 +2,10 @@
 
 mod requests;
 
-ghost use Rattle.std.specs.Prelude.{IfOk};
+ghost use Rattle.std.specs.Prelude.{◌≡◌, IfOk, option_map};
+ghost use Rattle.serde_json.specs.View.{view};
 ghost use Rattle.dap_server.specs.Messages.{plain_reply};
-ghost use Rattle.stack_adapter.specs.Promises.{standing, Replies};
+ghost use Rattle.stack_adapter.specs.Promises.{standing, Replies, Rests};
 
 use crate::command::{Command, command_of};
 use crate::link::Link;
@@ -31,8 +32,8 @@ impl<R: Wait + Files + Clock> Responder for Session<'_, R> {
     ghost use Rattle.stack_adapter.specs.Commands.{command_of};
     ghost use Rattle.stack_adapter.specs.Promises.{standing, Answers};
 
-    ghost replies = { λ before command _ reply after.
-        Answers (command_of command) (standing before.phase) reply (standing after.phase) };
+    ghost replies = { λ before command arguments reply after.
+        Answers (command_of command) arguments (standing before.phase) reply (standing after.phase) };
 
     fn respond(
         &mut self,
@@ -47,7 +48,9 @@ impl<R: Wait + Files + Clock> Responder for Session<'_, R> {
 
 impl<'a, R: Wait + Files + Clock> Session<'a, R> {
     /// Returns a session in which no program is loaded.
-    pub fn new(rt: &'a R, alloc: Global, link: Link) -> Session<'a, R> {
+    pub fn new(rt: &'a R, alloc: Global, link: Link) -> Session<'a, R>
+        ensures { standing result.phase ≡ Rests }
+    {
         Session {
             rt,
             phase: Phase::Fresh,
@@ -65,7 +68,8 @@ impl<'a, R: Wait + Files + Clock> Session<'a, R> {
         arguments: Option<&Value>,
     ) -> Result<Reply, AllocError>
         ensures { IfOk result (λ reply.
-            Replies command (standing self.old.phase) (plain_reply reply) (standing self.new.phase)) }
+            Replies command (option_map (λ v. view v.now) arguments.entry) (standing self.old.phase) (plain_reply reply)
+            (standing self.new.phase)) }
     {
         match command {
             Command::Initialize => Ok(Reply::with_body(

@@ -1,6 +1,7 @@
 //! What is done at the requests that need the program.
 
-ghost use Rattle.std.specs.Prelude.{◌≡◌, [], IfOk};
+ghost use Rattle.std.specs.Prelude.{◌≡◌, [], IfOk, option_map};
+ghost use Rattle.serde_json.specs.View.{view};
 ghost use Rattle.dap_server.specs.Messages.{plain_reply};
 ghost use Rattle.stack_adapter.specs.Promises.{standing, standing_of, resumed, success, Settles, Loads, Sets, Starts, Resumes, Pauses, Inspects};
 
@@ -66,7 +67,8 @@ impl<R: Wait + Files + Clock> Session<'_, R> {
         arguments: Option<&Value>,
     ) -> Result<Reply, AllocError>
         ensures { IfOk result (λ reply.
-            Sets (standing self.old.phase) (plain_reply reply) (standing self.new.phase)) }
+            Sets (option_map (λ v. view v.now) arguments.entry) (standing self.old.phase) (plain_reply reply)
+            (standing self.new.phase)) }
     {
         let machine = match &self.phase {
             Phase::Configuring(machine, _) | Phase::Stopped(machine) => machine,
@@ -161,7 +163,8 @@ impl<R: Wait + Files + Clock> Session<'_, R> {
         arguments: Option<&Value>,
     ) -> Result<Reply, AllocError>
         ensures { IfOk result (λ reply.
-            Inspects question (standing self.now.phase) (plain_reply reply) (standing self.now.phase)) }
+            Inspects question (option_map (λ v. view v.now) arguments.entry) (standing self.now.phase)
+            (plain_reply reply) (standing self.now.phase)) }
     {
         match &self.phase {
             Phase::Stopped(machine) => ask(alloc, machine, self.path.as_str(), question, arguments),
