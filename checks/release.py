@@ -67,7 +67,7 @@ CHECKS = [
     Check("sessions", "2,000 random sessions beside a plain model", ("SESSIONS=2000",), is_long=True),
     Check("refusals", "each allocation, thread, read and write refused or hindered, all programs", is_long=True),
     Check("soak", "sessions that leave nothing over, for an hour", ("SOAK=3600",), is_long=True, beside="pages"),
-    Check("plants", "planted bugs, whole", is_long=True),
+    Check("plants", "planted bugs, whole", ("JOBS=2",), is_long=True),
     Check("gate-times", "the merge gate from nothing, within its budget", is_long=True, beside="test"),
     Check("bench", "times and instructions", is_long=True),
 ]
