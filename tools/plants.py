@@ -129,7 +129,7 @@ def refused_at_once(edits: list[Edit], crate: pathlib.Path) -> set[pathlib.Path]
     shutil.rmtree(work, ignore_errors=True)
     kept.rename(work)
     open_paths = [path for path, said in JUDGED.findall(run.stdout)
-                  if said != "proved" and not said.startswith(CALLS_AN_OPEN_ONE)]
+                  if not said.startswith(("proved", CALLS_AN_OPEN_ONE))]
     by_edit = {edit: [path for path in open_paths if any(one.is_named_by(path, crate.name) for one in edit.functions)]
                for edit in edits}
     changed = {path for paths in by_edit.values() for path in paths}
