@@ -3,9 +3,10 @@
 
 usage: release.py [CHECK]
 
-Each check is a target of the Makefile. They are run one after the other, the short ones first, and all of them also
-where one fails. The soak, which takes an hour, is run beside those that stand before it. Where there are four cores,
-the merge gate has two of them from the beginning on, in a clone, and what stands before it the others; the benchmarks
+Each check is a target of the Makefile. They are run one after the other, and all of them also where one fails. Tests
+and programs come first, and have all cores, so that in a fresh clone their minutes are those of a beginner. Where there
+are four cores, the merge gate then has two of them, in a clone, and what stands before it the others, the tests once
+more among it, in a clone too. The soak, which takes an hour, is run beside those that stand before it. The benchmarks
 come last, alone. It says which commit, which kit and which computer, and refuses a tree that differs from its commit;
 the transcripts and pictures that `make editors` writes and the record of `make plants` aren't looked at. With CHECK it
 goes on from that check, and keeps what was found of those before it, which must be of the same commit and kit. A check
@@ -40,14 +41,16 @@ RUNNING: set[subprocess.Popen] = set()
 
 
 class Check(NamedTuple):
-    """A target, its variables, what it is, whether it is one to go on with another day, and with which check it begins
-    where it is run beside others."""
+    """A target, or the name of a check of it, what it is, its variables, whether it is one to go on with another day,
+    with which check it begins where it is run beside others, and whether it is run in a clone."""
 
     name: str
     what: str
     variables: tuple[str, ...] = ()
     is_long: bool = False
     beside: str = ""
+    target: str = ""
+    in_clone: bool = False
     # Statuses of its last command that mean that something it needs is missing.
     partly: tuple[int, ...] = ()
 
@@ -68,10 +71,13 @@ CHECKS = [
     Check("refusals", "each allocation, thread, read and write refused or hindered, all programs", is_long=True),
     Check("soak", "sessions that leave nothing over, for an hour", ("SOAK=3600",), is_long=True, beside="pages"),
     Check("plants", "planted bugs, whole", ("JOBS=2",), is_long=True),
-    Check("gate-times", "the merge gate from nothing, within its budget", is_long=True, beside="test"),
+    Check("test-again", "all tests in a fresh clone, on two cores", target="test", in_clone=True),
+    Check("gate-times", "the merge gate from nothing, within its budget", is_long=True, beside="pages", in_clone=True),
     Check("bench", "times and instructions", is_long=True),
 ]
 NAMES = [check.name for check in CHECKS]
+# Those that have all cores.
+ALONE = ("test", "build", "bench")
 
 
 def output(*command: str) -> str:
@@ -123,16 +129,16 @@ def is_shared() -> bool:
 
 def cores_of(check: Check) -> list[int]:
     """The cores on which a check is run."""
-    if not is_shared() or check.name == "bench":
+    if not is_shared() or check.name in ALONE:
         return CORES
     return CORES[:GATE_CORES] if check.name == "gate-times" else CORES[GATE_CORES:]
 
 
 def folder_of(check: Check) -> pathlib.Path:
-    """Where a check is run: the gate, which sets aside what was built, in a clone."""
-    if check.name != "gate-times":
+    """Where a check is run: the gate, which sets aside what was built, and what measures a beginning, in a clone."""
+    if not check.in_clone:
         return TOP
-    clone = OUT / "gate"
+    clone = OUT / check.name
     shutil.rmtree(clone, ignore_errors=True)
     subprocess.run(["git", "clone", "--quiet", TOP, clone], check=True)
     return clone
@@ -140,10 +146,11 @@ def folder_of(check: Check) -> pathlib.Path:
 
 def run(check: Check) -> dict[str, object]:
     """Runs a check, and returns how it went. What it prints goes to its log."""
-    if not has_target(check.name):
+    target = check.target or check.name
+    if not has_target(target):
         return {"result": MISSING, "minutes": 0.0, "last": "the Makefile has no such target"}
     LOGS.mkdir(parents=True, exist_ok=True)
-    command = ["make", "--no-print-directory", check.name, *check.variables]
+    command = ["make", "--no-print-directory", target, *check.variables]
     commands = set(output(*command, "--dry-run").splitlines())
     log, folder, begin = LOGS / f"{check.name}.log", folder_of(check), time.monotonic()
     # A process has the cores of the thread that begins it.
@@ -167,7 +174,8 @@ def line(name: str, found: dict) -> str:
 
 def page(who: dict[str, str], results: dict[str, dict]) -> str:
     rows = [
-        f"| `make {' '.join([check.name, *check.variables])}` | {check.what} | {results[check.name]['result']} | "
+        f"| `{' '.join(['make', check.target or check.name, *check.variables])}` | {check.what} | "
+        f"{results[check.name]['result']} | "
         f"{results[check.name]['minutes']:.1f} | {str(results[check.name]['last']).replace('|', '/')} |"
         for check in CHECKS if check.name in results
     ]
