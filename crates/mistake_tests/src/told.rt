@@ -80,7 +80,7 @@ const MISTAKES: [(&str, &str); 18] = [
 ];
 
 /// What is said beside a token that can't stand where it does, and where nothing is.
-const HINTS: [(&str, &str); 91] = [
+const HINTS: [(&str, &str); 72] = [
     (
         "begin ! (1) x := 2 end.",
         "a.pl0:1:13: error: `x` can't stand here; perhaps a `;` is missing before it\n",
@@ -351,6 +351,10 @@ const HINTS: [(&str, &str); 91] = [
         "procedure p; ; if p = 1 then.",
         "a.pl0:1:19: error: `p` is a procedure, which has no value\n",
     ),
+];
+
+/// The same, of a word or a sign that is missing, turned round, or another language's.
+const MISSING: [(&str, &str); 19] = [
     (
         "while 1 < 3 begin end.",
         "a.pl0:1:13: error: `begin` can't stand here; perhaps `do` is missing before it\n",
@@ -462,6 +466,14 @@ fn mistakes(rt: HostRuntime) -> Result<(), Fail> {
 #[test]
 fn hints(rt: HostRuntime) -> Result<(), Fail> {
     for (text, line) in HINTS {
+        assert_told(&rt, rt.alloc(), text, line)?;
+    }
+    Ok(())
+}
+
+#[test]
+fn what_is_missing(rt: HostRuntime) -> Result<(), Fail> {
+    for (text, line) in MISSING {
         assert_told(&rt, rt.alloc(), text, line)?;
     }
     Ok(())
