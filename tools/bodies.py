@@ -24,11 +24,12 @@ class Function(NamedTuple):
     name: str
 
     def is_named_by(self, path: str, crate: str) -> bool:
-        """Whether the prover calls the function so, or a closure in it."""
+        """Whether the prover calls the function so, or a closure in it. A method bears the name of its type, which may
+        stand in a module around that of the file."""
         module = [part for part in pathlib.PurePath(self.file).with_suffix("").parts[1:] if part not in ("lib", "main")]
-        front = "::".join([crate, *module])
-        of_type = r"(?:[^:]+::)?"
-        return re.fullmatch(rf"{front}::(?:{of_type}{self.name}|(?:{of_type})fn::{self.name}::.*)", path) is not None
+        around = ["::".join([crate, *module[:depth]]) for depth in range(len(module) + 1)]
+        name = rf"(?:{'|'.join(around)})::(?:[^:]+::)?(?:{self.name}|fn::{self.name}::.*)"
+        return re.fullmatch(name, path) is not None
 
 
 class Edit(NamedTuple):

@@ -37,7 +37,7 @@ from scratch import TOP, crate_lines, crate_names, libraries, scratch_copy
 
 ANSWER = re.compile(r"rt: must-fail \S+/(\S+)\.edit: (refused|NOT REFUSED|BAD EDIT)(.*)")
 # What the prover says of a function, and where a proof file names what an edit took away, which says little.
-CALLS_AN_OPEN_ONE = "no proof: it calls"
+RESTS_ON_ANOTHER = re.compile(r"no proof: it (?:calls|passes)|not proved; it waits for")
 JUDGED = re.compile(r"^(?:fn|impl|struct|enum) (\S+): (.*)$", re.MULTILINE)
 AT_A_PROOF = re.compile(r"^(?:note: )?(?:\./)?proofs/(\S+?):\d+:\d+: (.*)$", re.MULTILINE)
 TAKEN_AWAY = re.compile(r"has no field|is not in scope|has no `|was not admitted")
@@ -128,14 +128,14 @@ def refused_at_once(edits: list[Edit], crate: pathlib.Path) -> set[pathlib.Path]
         path.write_text(text, encoding="utf-8")
     shutil.rmtree(work, ignore_errors=True)
     kept.rename(work)
-    open_paths = [path for path, said in JUDGED.findall(run.stdout)
-                  if not said.startswith(("proved", CALLS_AN_OPEN_ONE))]
-    by_edit = {edit: [path for path in open_paths if any(one.is_named_by(path, crate.name) for one in edit.functions)]
+    judged = JUDGED.findall(run.stdout)
+    by_edit = {edit: {path for path, _ in judged if any(one.is_named_by(path, crate.name) for one in edit.functions)}
                for edit in edits}
-    changed = {path for paths in by_edit.values() for path in paths}
-    if "logic=not-proved" not in run.stdout or changed != set(open_paths):
+    named = [path for paths in by_edit.values() for path in paths]
+    is_open = {path for path, said in judged if not said.startswith("proved") and not RESTS_ON_ANOTHER.match(said)}
+    if "logic=not-proved" not in run.stdout or len(set(named)) < len(named) or not is_open <= set(named):
         return set()
-    return {edit.path for edit, paths in by_edit.items() if paths and not says_little(edit, run.stdout)}
+    return {edit.path for edit, paths in by_edit.items() if paths & is_open and not says_little(edit, run.stdout)}
 
 
 def refused_together(plants: list[pathlib.Path], crate: pathlib.Path) -> set[pathlib.Path]:
