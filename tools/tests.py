@@ -85,6 +85,8 @@ PARTS = [
     program("pl0dap"),
     tests("adapter_tests"),
     tests("program_tests"),
+    tests("plan_tests"),
+    tests("runner_tests"),
     tests("session_tests"),
     program("pl0"),
     tests("message_tests"),

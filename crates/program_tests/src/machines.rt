@@ -1,18 +1,9 @@
-//! Machines of texts, and what they show.
+//! What a machine shows of its program and its frames.
 
 use pl0_machine::Machine;
 use pl0_names::block;
 use pl0_syntax::Step;
 use pl0_unit::Unit;
-use sample_programs::compiled;
-use std::alloc::Global;
-use std::process::Abort;
-
-/// A new machine of a lawful text.
-pub fn machine_of(rt: &impl Abort, alloc: Global, text: &str) -> Machine {
-    let unit = compiled(alloc, text).expect(rt, "a lawful text");
-    Machine::new(alloc, unit).expect(rt, "memory")
-}
 
 /// A step of the machine's program.
 pub fn step_of(machine: &Machine, step: usize) -> Option<Step> {

@@ -1,11 +1,12 @@
 //! Runs of programs on the machine: their steps, how they end, and their frames.
 
-use crate::machines::{machine_of, number};
+use crate::machines::number;
 use crate::shown::View;
 use crate::table::{assert_rows, assert_shown};
 use pl0_machine::{FrameView, Machine, StepOutcome};
 use sample_programs::RECURSIVE;
 use std::process::Abort;
+use test_kit::machine_of;
 
 const OF_RECURSIVE: &str = "9/1 10/1 2/2 3/2 4/2 5/2 2/3 3/3 4/3 6/3 \
     0/4 1/4 7/3 ! 1 8/3 6/2 0/3 1/3 7/2 ! 2 8/2 11/1 Done";
@@ -63,7 +64,7 @@ fn assert_frames(rt: &impl Abort, machine: &Machine) {
 
 #[test]
 fn links_follow_the_text_and_not_the_calls(rt: HostRuntime) {
-    let mut machine = machine_of(&rt, rt.alloc(), RECURSIVE);
+    let mut machine = machine_of(rt.alloc(), RECURSIVE).expect(&rt, "a lawful text");
     for _ in 0..10u32 {
         assert!(rt; 0 < machine.depth());
         assert_eq!(rt; machine.step(), StepOutcome::Went(None));

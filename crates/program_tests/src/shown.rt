@@ -1,6 +1,6 @@
 //! What a text shows to each stage that reads, compiles or runs it.
 
-use crate::machines::{machine_of, number, step_of};
+use crate::machines::{number, step_of};
 use pl0_machine::{Machine, StepOutcome};
 use pl0_parser::tokenize;
 use pl0_syntax::{Place, Step, SyntaxFault, Tree, blocks, frame_name, parse, steps};
@@ -9,6 +9,7 @@ use pl0_unit::Instruction;
 use sample_programs::compiled;
 use std::alloc::Global;
 use std::process::Abort;
+use test_kit::machine_of;
 
 /// What is shown of a text.
 #[derive(Clone, Copy)]
@@ -39,10 +40,15 @@ pub fn show(rt: &impl Abort, alloc: Global, view: View, text: &str) -> String {
         View::Fault => write_fault(rt, &mut out, parse(alloc, text.as_bytes()).err()),
         View::Steps => write_steps(rt, alloc, &mut out, text),
         View::Code => write_code(rt, alloc, &mut out, text),
-        View::Run => write_run(rt, &mut out, &mut machine_of(rt, alloc, text)),
-        View::End => write_end(rt, &mut out, &mut machine_of(rt, alloc, text)),
+        View::Run => write_run(rt, &mut out, &mut begun(rt, alloc, text)),
+        View::End => write_end(rt, &mut out, &mut begun(rt, alloc, text)),
     }
     out
+}
+
+/// A machine at the beginning of a lawful text.
+fn begun(rt: &impl Abort, alloc: Global, text: &str) -> Machine {
+    machine_of(alloc, text).expect(rt, "a lawful text")
 }
 
 fn write_token(rt: &impl Abort, out: &mut String, token: &Token) {

@@ -11,5 +11,5 @@ mod writer;
 
 pub use compiling::compiled;
 pub use random::Random;
-pub use worked::{NESTED, POWER, RECURSIVE};
+pub use worked::{LONG_LOOP, LOOP, NESTED, POWER, RECURSIVE};
 pub use writer::random_program;

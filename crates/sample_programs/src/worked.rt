@@ -1,5 +1,13 @@
 //! Worked programs.
 
+/// A loop of 14 positions: its assignment, on line 3, is next at 1, 3, 5, 7, 9 and 11.
+pub const LOOP: &str = "var x;
+while x < 6 do
+x := x + 1.";
+
+/// A loop of 400,000 steps and a return.
+pub const LONG_LOOP: &str = "var x; while x < 200000 do x := x + 1.";
+
 /// A procedure that calls itself, and one in it that is called from two frames of the outer one.
 pub const RECURSIVE: &str = "var n;
 procedure p;

@@ -1,7 +1,6 @@
 //! Slices beside single steps, on random programs.
 
-use crate::debugged::{begin, onward};
-use crate::machines::machine_of;
+use crate::begun::{begin, onward};
 use dbg_plan::Mode;
 use dbg_runner::SliceOutcome;
 use pl0_machine::StepOutcome;
@@ -9,6 +8,7 @@ use pl0_meaning::RunFault;
 use sample_programs::random_program;
 use std::alloc::Global;
 use std::process::Abort;
+use test_kit::machine_of;
 
 /// How many programs are run.
 const PROGRAMS: u64 = 200;
@@ -54,7 +54,7 @@ fn in_slices(rt: &impl Abort, alloc: Global, text: &str) -> Run {
 
 /// Runs a program by single steps of a bare machine.
 fn by_steps(rt: &impl Abort, alloc: Global, text: &str) -> Run {
-    let mut machine = machine_of(rt, alloc, text);
+    let mut machine = machine_of(alloc, text).expect(rt, "a lawful text");
     let mut numbers = Vec::new(alloc);
     let mut outcome = SliceOutcome::More;
     for _ in 0..STEPS {

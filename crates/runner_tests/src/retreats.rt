@@ -1,17 +1,15 @@
 //! Slices that end at logs, and runs that go back.
 
-use crate::debugged::{
-    BREAKPOINT, ENTRY, LONG_LOOP, LOOP, Line, STEP, begin, begun, log_points_at, onward,
-};
+use crate::begun::{BREAKPOINT, ENTRY, STEP, begin, onward};
 use dbg_plan::{Log, Mode, Plan, log_text};
 use dbg_runner::{
     Buffers, Joined, Report, Retreat, SliceOutcome, StoppedDebuggee, Summary, goes_back, work,
 };
-use sample_programs::RECURSIVE;
+use sample_programs::{LONG_LOOP, LOOP, RECURSIVE};
 use std::alloc::Global;
 use std::process::Abort;
 use std::sync::{Arc, Wait};
-use test_kit::{Last, OneRun, Open};
+use test_kit::{Asked, Last, OneRun, Open};
 
 /// The text of the logs of a report, one after the other.
 fn text_of(rt: &impl Abort, alloc: Global, plan: &Option<Arc<Plan>>, logs: &[Log]) -> String {
@@ -42,8 +40,7 @@ fn assert_report(
 /// The slices of the loop under a log point: where each ends, how, and what it logs.
 fn assert_logs(rt: &impl Abort, alloc: Global, hit: &str, wanted: &[(u64, SliceOutcome, &str)]) {
     let point = (3, "", hit, "x is {x}, {10 / (x - 2)}");
-    let breakpoints = log_points_at(rt, alloc, [point].as_slice());
-    let (debuggee, reason) = begun(rt, alloc, LOOP, &breakpoints, Mode::Continue);
+    let (debuggee, reason) = begin(rt, alloc, LOOP, [point].as_slice(), Mode::Continue);
     assert_eq!(rt; reason, None);
     let mut next = Some(debuggee);
     for here in wanted {
@@ -157,16 +154,16 @@ const BACK_BY_STEPS: [Run; 8] = [
 #[test]
 fn goes_back_and_forth(rt: HostRuntime) {
     for runs in [BACK_TO_STOPS.as_slice(), BACK_BY_STEPS.as_slice()] {
-        let lines = [(5, "", "")];
-        let (debuggee, _) = begin(&rt, rt.alloc(), RECURSIVE, lines.as_slice(), Mode::Continue);
+        let asked = [(5, "", "", "")];
+        let (debuggee, _) = begin(&rt, rt.alloc(), RECURSIVE, asked.as_slice(), Mode::Continue);
         assert_runs(&rt, rt.alloc(), debuggee, runs);
     }
 }
 
 #[test]
 fn counts_begin_anew_after_a_stop(rt: HostRuntime) {
-    let lines = [(3u32, "", "%2")];
-    let (debuggee, _) = begin(&rt, rt.alloc(), LOOP, lines.as_slice(), Mode::Continue);
+    let asked = [(3u32, "", "%2", "")];
+    let (debuggee, _) = begin(&rt, rt.alloc(), LOOP, asked.as_slice(), Mode::Continue);
     let runs: [Run; 6] = [
         (Mode::Continue, 3, BREAKPOINT, 0, [].as_slice(), 0),
         (Mode::Continue, 7, BREAKPOINT, 0, [].as_slice(), 0),
@@ -203,7 +200,7 @@ fn ordered<R: Abort + Wait>(
 type Turn = (Mode, u64, u64, u64);
 
 /// Gives a runner one order after the other to run the long loop, which stops at the conditions of `stops`.
-fn assert_counts<R: Abort + Wait>(rt: &R, alloc: Global, stops: &[Line], turns: &[Turn]) {
+fn assert_counts<R: Abort + Wait>(rt: &R, alloc: Global, stops: &[Asked], turns: &[Turn]) {
     let (debuggee, _) = begin(rt, alloc, LONG_LOOP, stops, Mode::Continue);
     let mut next = Some(debuggee);
     for (mode, end, again, reports) in turns {
@@ -224,7 +221,7 @@ fn assert_counts<R: Abort + Wait>(rt: &R, alloc: Global, stops: &[Line], turns: 
 /// the slices from there come to.
 #[test]
 fn counts_steps_from_checkpoints(rt: HostRuntime) {
-    let stops = [(1u32, "x = 2500", ""), (1, "x = 4500", "")];
+    let stops = [(1u32, "x = 2500", "", ""), (1, "x = 4500", "", "")];
     let turns = [
         (Mode::Continue, 5_000u64, 0u64, 20u64),
         (Mode::Continue, 9_000, 0, 16),
@@ -241,7 +238,7 @@ fn counts_steps_from_checkpoints(rt: HostRuntime) {
 /// A checkpoint at position 4,096: back to it none is run again, and back to the one before, all are.
 #[test]
 fn goes_back_to_a_checkpoint(rt: HostRuntime) {
-    let stops = [(1u32, "x = 2049", "")];
+    let stops = [(1u32, "x = 2049", "", "")];
     let turns = [
         (Mode::Continue, 4_098u64, 0u64, 17u64),
         (Mode::StepBack, 4_097, 1, 1),
@@ -255,7 +252,7 @@ fn goes_back_to_a_checkpoint(rt: HostRuntime) {
 /// last one is 274,432.
 #[test]
 fn goes_back_from_one_of_many_checkpoints(rt: HostRuntime) {
-    let stops = [(1u32, "x = 138000", "")];
+    let stops = [(1u32, "x = 138000", "", "")];
     let turns = [
         (Mode::Continue, 276_000u64, 0u64, 1_079u64),
         (Mode::StepBack, 275_999, 1_567, 7),
@@ -266,8 +263,8 @@ fn goes_back_from_one_of_many_checkpoints(rt: HostRuntime) {
 /// Without checkpoints, as slices alone run the program, all is run again.
 #[test]
 fn steps_back_without_checkpoints(rt: HostRuntime) {
-    let lines = [(1u32, "x = 5000", "")];
-    let (debuggee, _) = begin(&rt, rt.alloc(), LONG_LOOP, lines.as_slice(), Mode::Continue);
+    let asked = [(1u32, "x = 5000", "", "")];
+    let (debuggee, _) = begin(&rt, rt.alloc(), LONG_LOOP, asked.as_slice(), Mode::Continue);
     let runs: [Run; 2] = [
         (Mode::Continue, 10_000, BREAKPOINT, 0, [].as_slice(), 0),
         (Mode::StepBack, 9_999, STEP, 0, [].as_slice(), 9_999),

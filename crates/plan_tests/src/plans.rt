@@ -2,37 +2,37 @@
 
 ghost use Rattle.dbg_plan.specs.Plans.{IsPlanOf};
 
-use crate::debugged::{LOOP, Line, breakpoints_at};
 use dbg_plan::{Plan, Resolution, resolve};
 use pl0_unit::Unit;
-use sample_programs::compiled;
+use sample_programs::{LOOP, compiled};
 use std::alloc::Global;
 use std::process::Abort;
+use test_kit::{Asked, breakpoints_at};
 
 const TWO_STEPS: &str = "var x;\n\nbegin x := 1;\n! x end.";
 
-fn ask(rt: &impl Abort, alloc: Global, unit: &Unit, lines: &[Line]) -> (Plan, Vec<Resolution>)
+fn ask(rt: &impl Abort, alloc: Global, unit: &Unit, asked: &[Asked]) -> (Plan, Vec<Resolution>)
     ensures { IsPlanOf unit.now result.0 }
 {
-    let asked = breakpoints_at(rt, alloc, lines);
+    let asked = breakpoints_at(alloc, asked).expect(rt, "memory");
     assert!(rt; asked.len() <= 256);
     resolve(alloc, unit, &asked).expect(rt, "memory")
 }
 
-/// Asserts that breakpoints at these lines of a text are answered so.
+/// Asserts that these breakpoints in a text are answered so.
 fn assert_answers(
     rt: &impl Abort,
     alloc: Global,
     text: &str,
-    lines: &[Line],
+    asked: &[Asked],
     wanted: &[Resolution],
 ) {
     let unit = compiled(alloc, text).expect(rt, "a lawful text");
-    let (_, answers) = ask(rt, alloc, &unit, lines);
-    assert_eq!(rt; answers.as_slice(), wanted, "{lines:?}");
+    let (_, answers) = ask(rt, alloc, &unit, asked);
+    assert_eq!(rt; answers.as_slice(), wanted, "{asked:?}");
 }
 
-const LINES: [Line; 3] = [(2, "", ""), (4, "", ""), (5, "", "")];
+const LINES: [Asked; 3] = [(2, "", "", ""), (4, "", "", ""), (5, "", "", "")];
 
 const ANSWERS: [Resolution; 3] = [Resolution::At(0), Resolution::At(1), Resolution::NoStep];
 
@@ -70,12 +70,12 @@ const TEXTS: [(u32, &str, &str, Resolution); 16] = [
 #[test]
 fn answers_texts(rt: HostRuntime) {
     for (line, condition, hit, wanted) in TEXTS.as_slice() {
-        let lines = [(*line, *condition, *hit)];
+        let asked = [(*line, *condition, *hit, "")];
         assert_answers(
             &rt,
             rt.alloc(),
             LOOP,
-            lines.as_slice(),
+            asked.as_slice(),
             [*wanted].as_slice(),
         );
     }
@@ -94,8 +94,8 @@ fn assert_entry(rt: &impl Abort, unit: &Unit, plan: &Plan, step: usize, wanted: 
 }
 
 fn assert_entries(rt: &impl Abort, alloc: Global, unit: &Unit) {
-    let lines = [(3, "", ""), (2, "", ""), (3, "", "")];
-    let (plan, _) = ask(rt, alloc, unit, lines.as_slice());
+    let asked = [(3, "", "", ""), (2, "", "", ""), (3, "", "", "")];
+    let (plan, _) = ask(rt, alloc, unit, asked.as_slice());
     assert_entry(rt, unit, &plan, 0, [1usize].as_slice());
     assert_entry(rt, unit, &plan, 1, [0usize, 2].as_slice());
     assert_entry(rt, unit, &plan, 2, [].as_slice());
@@ -113,13 +113,13 @@ fn most_breakpoints_of_the_longest_text(rt: HostRuntime) {
     let steps = "x:=1;".repeat(rt.alloc(), 13_103).expect(&rt, "memory");
     let text = format!(in rt.alloc(); "var x;\nbegin {steps}end.    ").expect(&rt, "memory");
     assert_eq!(rt; text.len(), 65_536);
-    let lines = [(2, "x > 1", "%2"); 256];
+    let asked = [(2, "x > 1", "%2", ""); 256];
     let wanted = [Resolution::At(0); 256];
     assert_answers(
         &rt,
         rt.alloc(),
         text.as_str(),
-        lines.as_slice(),
+        asked.as_slice(),
         wanted.as_slice(),
     );
 }

@@ -2,10 +2,12 @@
 
 ghost use Rattle.std.specs.Prelude.{◌≡◌};
 
-use crate::debugged::{LOOP, LogPoint, debuggee_of, goes, log_points_at, logged, put_in};
-use dbg_plan::{Debuggee, Logs, Mode, Reason, Resolution};
+use crate::steps::{goes, logged};
+use dbg_plan::{Debuggee, Log, Logs, Mode, Reason, Resolution};
+use sample_programs::LOOP;
 use std::alloc::Global;
 use std::process::Abort;
+use test_kit::{Asked, breakpoints_at, debuggee_of, put_in};
 
 /// How many positions are considered, at most.
 const POSITIONS: u64 = 100;
@@ -15,13 +17,13 @@ fn asked(
     rt: &impl Abort,
     alloc: Global,
     text: &str,
-    points: &[LogPoint],
+    points: &[Asked],
 ) -> (Debuggee, Vec<Resolution>)
     ensures { result.0.next ≡ result.0.position }
 {
-    let mut debuggee = debuggee_of(rt, alloc, text);
-    let breakpoints = log_points_at(rt, alloc, points);
-    let answers = put_in(rt, alloc, &mut debuggee, &breakpoints);
+    let mut debuggee = debuggee_of(alloc, text).expect(rt, "a lawful text");
+    let breakpoints = breakpoints_at(alloc, points).expect(rt, "memory");
+    let answers = put_in(alloc, &mut debuggee, &breakpoints).expect(rt, "a plan");
     (debuggee, answers)
 }
 
@@ -33,7 +35,7 @@ fn note(rt: &impl Abort, alloc: Global, notes: &mut String, position: u64, what:
 
 /// Returns what a text does in the mode `Continue` under log points: for each position that logs or is due, its number,
 /// the logs with their breakpoints' numbers, and `stop`.
-fn notes_of(rt: &impl Abort, alloc: Global, text: &str, points: &[LogPoint]) -> String {
+fn notes_of(rt: &impl Abort, alloc: Global, text: &str, points: &[Asked]) -> String {
     let (mut debuggee, _) = asked(rt, alloc, text, points);
     let mut logs = Logs::new(alloc).expect(rt, "memory");
     let mut notes = String::new(alloc);
@@ -58,7 +60,7 @@ fn notes_of(rt: &impl Abort, alloc: Global, text: &str, points: &[LogPoint]) -> 
 
 const MESSAGE: &str = "x is {x}, {10 / (x - 2)}";
 
-const POINTS: [LogPoint; 4] = [
+const POINTS: [Asked; 4] = [
     (3, "", "", "first {x}"),
     (3, "x = 4", "", ""),
     (2, "x > 4", "", "test {x}"),
@@ -66,7 +68,7 @@ const POINTS: [LogPoint; 4] = [
 ];
 
 /// Log points in the loop, and the logs expected.
-const NOTED: [(&[LogPoint], &str); 6] = [
+const NOTED: [(&[Asked], &str); 6] = [
     (
         &[(3, "", "", MESSAGE)],
         "1: 0 x is 0, -5\n3: 0 x is 1, -10\n5: 0 x is 2, divideByZero\n7: 0 x is 3, 10\n9: 0 x is 4, 5\n11: 0 x is 5, 3\n",
@@ -94,9 +96,9 @@ const NOTED: [(&[LogPoint], &str); 6] = [
 
 #[test]
 fn logs_as_asked(rt: HostRuntime) {
-    for (points, wanted) in NOTED {
+    for (points, wanted) in NOTED.as_slice() {
         let notes = notes_of(&rt, rt.alloc(), LOOP, points);
-        assert_eq!(rt; notes.as_str(), wanted);
+        assert_eq!(rt; notes.as_str(), *wanted);
     }
 }
 
@@ -142,12 +144,28 @@ const ANSWERS: [(u32, &str, &str, &str, Resolution); 20] = [
     (3, "x > 1", "1", "{x}", Resolution::At(1)),
 ];
 
+fn assert_answer(rt: &impl Abort, alloc: Global, point: Asked, wanted: Resolution) {
+    let (_, answers) = asked(rt, alloc, LOOP, [point].as_slice());
+    assert_eq!(rt; answers.as_slice(), [wanted].as_slice(), "{point:?}");
+}
+
 #[test]
 fn answers_messages(rt: HostRuntime) {
-    for (line, condition, hit, message, wanted) in ANSWERS {
-        let points = [(line, condition, hit, message)];
-        let (_, answers) = asked(&rt, rt.alloc(), LOOP, points.as_slice());
-        assert_eq!(rt; answers.as_slice(), [wanted].as_slice(), "{message}");
+    for (line, condition, hit, message, wanted) in ANSWERS.as_slice() {
+        assert_answer(
+            &rt,
+            rt.alloc(),
+            (*line, *condition, *hit, *message),
+            *wanted,
+        );
+    }
+}
+
+/// Asserts that each of 256 breakpoints logs eight values.
+fn assert_all_log(rt: &impl Abort, logs: &[Log]) {
+    assert_eq!(rt; logs.len(), 256);
+    for (number, log) in logs.iter().enumerate() {
+        assert_eq!(rt; (log.number(), log.values().len()), (number, 8));
     }
 }
 
@@ -159,9 +177,5 @@ fn fills_the_room(rt: HostRuntime) {
     let mut logs = Logs::new(rt.alloc()).expect(&rt, "memory");
     assert!(rt; debuggee.machine().depth() > 0);
     let _ = debuggee.consider(Mode::Continue, &mut logs);
-    assert_eq!(rt; logs.as_slice().len(), 256);
-    for (number, log) in logs.as_slice().iter().enumerate() {
-        assert_eq!(rt; log.number(), number);
-        assert_eq!(rt; log.values().len(), 8);
-    }
+    assert_all_log(&rt, logs.as_slice());
 }

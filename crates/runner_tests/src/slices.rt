@@ -3,13 +3,14 @@
 ghost use Rattle.std.specs.Prelude.{◌≡◌, false};
 ghost use Rattle.dbg_runner.specs.Plain.{goes_back};
 
-use crate::debugged::{BREAKPOINT, FOREVER, LOOP, Line, STEP, begin, begun};
+use crate::begun::{BREAKPOINT, FOREVER, STEP, begin, begun};
 use dbg_plan::{Mode, Reason, SourceBreakpoint};
 use dbg_runner::{Buffers, Outputs, SliceOutcome, StoppedDebuggee, goes_back, slice};
 use pl0_meaning::RunFault;
-use sample_programs::RECURSIVE;
+use sample_programs::{LOOP, RECURSIVE};
 use std::alloc::Global;
 use std::process::Abort;
+use test_kit::Asked;
 
 /// What the slices of a run gave: where each ended and how, and what they wrote.
 #[derive(Drop)]
@@ -91,11 +92,11 @@ fn assert_ends(
     rt: &impl Abort,
     alloc: Global,
     text: &str,
-    lines: &[Line],
+    asked: &[Asked],
     wanted: &[(u64, SliceOutcome)],
 ) {
     let mut seen = nothing_seen(alloc);
-    let (debuggee, _) = begin(rt, alloc, text, lines, Mode::Continue);
+    let (debuggee, _) = begin(rt, alloc, text, asked, Mode::Continue);
     run_on(rt, alloc, debuggee, &mut seen);
     assert_eq!(rt; seen.ends.as_slice(), wanted, "{text}");
 }
@@ -154,8 +155,8 @@ const STOPS: [(&str, &str, &[(u64, SliceOutcome)]); 5] = [
 #[test]
 fn stops_at_breakpoints(rt: HostRuntime) {
     for (condition, hit, wanted) in STOPS.as_slice() {
-        let line = (3, *condition, *hit);
-        assert_ends(&rt, rt.alloc(), LOOP, [line].as_slice(), wanted);
+        let asked = [(3, *condition, *hit, "")];
+        assert_ends(&rt, rt.alloc(), LOOP, asked.as_slice(), wanted);
     }
 }
 
@@ -211,8 +212,8 @@ const MODES: [(u32, &[Step]); 3] = [
 #[test]
 fn steps_by_mode(rt: HostRuntime) {
     for (line, wanted) in MODES.as_slice() {
-        let lines = [(*line, "", "")];
-        let (debuggee, reason) = begin(&rt, rt.alloc(), RECURSIVE, lines.as_slice(), Mode::Entry);
+        let asked = [(*line, "", "", "")];
+        let (debuggee, reason) = begin(&rt, rt.alloc(), RECURSIVE, asked.as_slice(), Mode::Entry);
         assert_eq!(rt; reason, Some(Reason::Entry));
         assert_runs(&rt, rt.alloc(), debuggee, wanted);
     }

@@ -1,6 +1,6 @@
 //! What a runner makes of orders: where its reports end and how, and which slices pass its gate.
 
-use crate::debugged::{FOREVER, begin};
+use crate::begun::{FOREVER, begin};
 use dbg_plan::Mode;
 use dbg_runner::{Joined, Report, SliceOutcome, work};
 use std::alloc::Global;

@@ -3,14 +3,14 @@
 
 ghost use Rattle.std.specs.Prelude.{◌≡◌};
 
-use crate::debugged::{add_log, debuggee_of, goes, logged, put_in};
-use crate::machines::{machine_of, step_of};
+use crate::steps::{add_log, goes, logged};
 use dbg_plan::{Debuggee, EvalFault, Logs, Mode, Reason, Resolution, Rule, SourceBreakpoint};
 use pl0_machine::Machine;
 use pl0_syntax::{Condition, Expression, Place, Relation, Statement, parse};
 use sample_programs::{Random, random_program};
 use std::alloc::Global;
 use std::process::Abort;
+use test_kit::{debuggee_of, machine_of, put_in};
 
 /// How many programs are tried.
 const PROGRAMS: u64 = 600;
@@ -165,17 +165,23 @@ fn truth(debuggee: &Debuggee, condition: &Condition) -> Result<bool, EvalFault> 
     }
 }
 
+/// The statement of a program that declares the names of random programs.
+fn body_of(rt: &impl Abort, alloc: Global, statement: &str) -> Statement {
+    let text = format!(in alloc; "const most = 1, six = 1; var a, b, c, d; {statement}.").expect(
+        rt, "memory",
+    );
+    let tree = parse(alloc, text.as_bytes()).expect(rt, "a lawful text");
+    let program = tree.program;
+    program.body
+}
+
 /// The condition of a text, none where it is empty. It is read as that of a program's `if`.
 fn condition_of(rt: &impl Abort, alloc: Global, text: &str) -> Option<Condition> {
     if text.is_empty() {
         return None;
     }
-    let text = format!(in alloc;
-        "const most = 1, six = 1; var a, b, c, d; if {text} then a := 0."
-    ).expect(rt, "memory");
-    let tree = parse(alloc, text.as_bytes()).expect(rt, "a lawful text");
-    let program = tree.program;
-    let body = program.body;
+    let statement = format!(in alloc; "if {text} then a := 0").expect(rt, "memory");
+    let body = body_of(rt, alloc, statement.as_str());
     match body {
         Statement::If { condition, .. } => Some(condition),
         _ => None,
@@ -187,12 +193,8 @@ fn expression_of(rt: &impl Abort, alloc: Global, text: &str) -> Option<Expressio
     if text.is_empty() {
         return None;
     }
-    let text = format!(in alloc; "const most = 1, six = 1; var a, b, c, d; a := {text}.").expect(
-        rt, "memory",
-    );
-    let tree = parse(alloc, text.as_bytes()).expect(rt, "a lawful text");
-    let program = tree.program;
-    let body = program.body;
+    let statement = format!(in alloc; "a := {text}").expect(rt, "memory");
+    let body = body_of(rt, alloc, statement.as_str());
     match body {
         Statement::Assign { value, .. } => Some(value),
         _ => None,
@@ -283,7 +285,7 @@ fn put_in_wishes(
     ensures next { debuggee.new.next ≡ debuggee.old.next }
 {
     let breakpoints = breakpoints_of(rt, alloc, wishes);
-    let answers = put_in(rt, alloc, debuggee, &breakpoints);
+    let answers = put_in(alloc, debuggee, &breakpoints).expect(rt, "a plan");
     all_watched(rt, alloc, debuggee.machine(), wishes, &answers)
 }
 
@@ -302,8 +304,8 @@ impl Counted {
         if self.machine.depth() == 0 {
             return None;
         }
-        let step = step_of(&self.machine, self.machine.next_step())?;
-        Some(step.place)
+        let steps = &self.machine.unit().steps;
+        Some(steps.get(self.machine.next_step())?.place)
     }
 
     /// Why the position where the machine stands is due, if it is, and what it logs. All arrivals from the first counted
@@ -471,8 +473,8 @@ fn run_program(
 }
 
 fn run_text(rt: &impl Abort, alloc: Global, text: &str, random: Random) -> Vec<Seen> {
-    let mut debuggee = debuggee_of(rt, alloc, text);
-    let machine = machine_of(rt, alloc, text);
+    let mut debuggee = debuggee_of(alloc, text).expect(rt, "a lawful text");
+    let machine = machine_of(alloc, text).expect(rt, "a lawful text");
     let lines = text.lines().count();
     run_program(rt, alloc, &mut debuggee, machine, random, lines)
 }
