@@ -3,7 +3,7 @@
 use crate::fakes::{Hold, Streams};
 use crate::programs::{BROKEN, Debugging, NOTHING, OVERFLOW, PAUSED, PROCEDURES};
 use crate::rows::{HELLO, INITIALIZE};
-use crate::serving::run;
+use crate::serving::{Outcome, run};
 use crate::transcript::{Exchange, answered_frames, sent_frames};
 use adapter::{ServeFault, Served};
 use std::alloc::Global;
@@ -21,13 +21,26 @@ fn in_reach(hold: Hold, answered: usize) -> Hold {
     }
 }
 
+/// Asserts how a session ended, and what it had written by then.
+fn assert_came(
+    rt: &impl Abort,
+    run: &Outcome,
+    end: Result<Served, ServeFault>,
+    wanted: &[u8],
+    name: &str,
+    at: usize,
+) {
+    assert_eq!(rt; run.end, end, "{name}, at {at}");
+    let came = std::str::from_utf8(run.output.as_slice());
+    assert_eq!(rt; came, std::str::from_utf8(wanted), "{name}, at {at}");
+}
+
 /// Each read of a session fails in turn: what came before it is answered, and after a disconnect nothing changes.
 fn assert_reads_fail<R: Threads + Wait + Abort + Copy + Drop + Send + Sync>(
     rt: &R,
     alloc: Global,
     session: &Debugging,
 ) {
-    let name = session.name;
     let exchange = Exchange::new(rt, alloc, session.transcript);
     let sent = exchange.sent.as_slice();
     let reads = exchange.reads.as_slice();
@@ -44,10 +57,8 @@ fn assert_reads_fail<R: Threads + Wait + Abort + Copy + Drop + Send + Sync>(
             _ => Err(ServeFault::ReadFailed),
         };
         let run = run(rt, alloc, session.program, sent, streams);
-        assert_eq!(rt; run.end, end, "{name}, at {at}");
-        let came = std::str::from_utf8(run.output.as_slice());
         let wanted = exchange.answered.get(..*answered).expect(rt, "answers");
-        assert_eq!(rt; came, std::str::from_utf8(wanted), "{name}, at {at}");
+        assert_came(rt, &run, end, wanted, session.name, at);
     }
 }
 
@@ -66,7 +77,6 @@ fn assert_write_fails<R: Threads + Wait + Abort + Copy + Drop + Send + Sync>(
     exchange: &Exchange,
     room: usize,
 ) {
-    let name = session.name;
     for takes_nothing in [false, true] {
         let streams = Streams {
             cuts: exchange.reads.as_slice(),
@@ -77,10 +87,9 @@ fn assert_write_fails<R: Threads + Wait + Abort + Copy + Drop + Send + Sync>(
         };
         let sent = exchange.sent.as_slice();
         let run = run(rt, alloc, session.program, sent, streams);
-        assert_eq!(rt; run.end, Err(ServeFault::WriteFailed), "{name}, at {room}");
-        let came = std::str::from_utf8(run.output.as_slice());
         let wanted = exchange.answered.get(..room).expect(rt, "answers");
-        assert_eq!(rt; came, std::str::from_utf8(wanted), "{name}, at {room}");
+        let end = Err(ServeFault::WriteFailed);
+        assert_came(rt, &run, end, wanted, session.name, room);
     }
 }
 
@@ -125,9 +134,8 @@ fn ends_where_a_read_fails_within_a_frame(rt: HostRuntime) {
                 answer.as_slice()
             };
             let run = run(&rt, alloc, "", input.as_slice(), streams);
-            assert_eq!(rt; run.end, Err(ServeFault::ReadFailed), "at {read_fails_at}");
-            let came = std::str::from_utf8(run.output.as_slice());
-            assert_eq!(rt; came, std::str::from_utf8(expected), "at {read_fails_at}");
+            let end = Err(ServeFault::ReadFailed);
+            assert_came(&rt, &run, end, expected, "hello", read_fails_at);
         }
     }
 }
