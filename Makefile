@@ -137,10 +137,11 @@ plants:
 	@$(NEEDS_KIT)
 	python3 tools/plants.py --jobs $(JOBS) $(CRATE)
 
-# What CRATE costs the gate, in processor seconds, or the gate from nothing where none is named, and whether it is within its budget.
+# What CRATE costs the gate, in processor seconds, or the gate from nothing where none is named, and whether it is within its
+# budget: BESIDE=1 says that the other cores are busy too.
 gate-times:
 	@$(NEEDS_KIT)
-	python3 tools/$(if $(CRATE),gate_times.py $(CRATE),gate_watch.py)
+	python3 tools/$(if $(CRATE),gate_times.py $(CRATE),gate_watch.py $(if $(BESIDE),--beside))
 
 # The model of the four threads, explored in every interleaving, with Debian's spin and gcc: status 2 where one is missing.
 threads:

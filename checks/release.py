@@ -73,7 +73,8 @@ CHECKS = [
     Check("soak", "sessions that leave nothing over, for an hour", ("SOAK=3600",), is_long=True, beside="pages"),
     Check("plants", "planted bugs, whole", ("JOBS=2",), is_long=True),
     Check("test-again", "all tests in a fresh clone, on two cores", target="test", in_clone=True),
-    Check("gate-times", "the merge gate from nothing, within its budget", is_long=True, beside="build", in_clone=True),
+    Check("gate-times", "the merge gate from nothing, within its budget", ("BESIDE=1",), is_long=True, beside="build",
+          in_clone=True),
     Check("bench", "times and instructions", is_long=True),
 ]
 NAMES = [check.name for check in CHECKS]

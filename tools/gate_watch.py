@@ -1,13 +1,14 @@
 #!/usr/bin/env python3
 """Runs the merge gate, measures the processor time that each crate costs it, and holds that to a budget.
 
-usage: gate_watch.py [COMMAND..]
+usage: gate_watch.py [--beside] [COMMAND..]
 
 Runs `rt ci` with nothing kept, or COMMAND, and looks once a second at the processes below it. At its end it prints a
 row for each crate, the processor seconds of the prover and the compilers that worked for it, and those that its
 must-fail edits took, the dearest first, then the sums, the wall time, and the most memory that all had together. What a
 process takes after the last look at it is missed. The status is that of the command, or 1 where that is 0 and the
-budget isn't kept: what is above it stands on standard error.
+budget isn't kept: what is above it stands on standard error. With `--beside` the other cores are busy too, and a
+quarter more is allowed.
 """
 from __future__ import annotations
 
@@ -23,8 +24,10 @@ CRATE = re.compile(rb"--crate-name\0([a-z0-9_]+)\0")
 TICKS, PAGE = os.sysconf("SC_CLK_TCK"), os.sysconf("SC_PAGE_SIZE")
 # How the kit names the folder in which it tries an edit.
 EDIT_FOLDER = "rt-edit-"
-# The processor minutes that the whole may take, and each crate without its edits.
+# The processor minutes that the whole may take, and each crate without its edits, where the computer does nothing else.
 WHOLE_MINUTES, CRATE_MINUTES = 190, 10
+# How many times as many where all cores are busy: cores share the way to memory, and a proof of 58 seconds took 73 then.
+BESIDE = 1.25
 
 
 class Process(NamedTuple):
@@ -122,19 +125,20 @@ def gate_anew() -> list[str]:
     return ["rt", "ci", *(["--anew"] if "--anew" in said.stdout + said.stderr else [])]
 
 
-def above_budget(spent: dict[str, Spent]) -> list[str]:
-    """What takes more than it may."""
-    found = [f"{name} takes over {CRATE_MINUTES} minutes without its edits" for name, one in spent.items()
-             if one.itself > 60 * CRATE_MINUTES]
+def above_budget(spent: dict[str, Spent], allowed: float) -> list[str]:
+    """What takes more than so many times what it may."""
+    crate_minutes, whole_minutes = allowed * CRATE_MINUTES, allowed * WHOLE_MINUTES
+    found = [f"{name} takes over {crate_minutes:.1f} minutes without its edits" for name, one in spent.items()
+             if one.itself > 60 * crate_minutes]
     whole = sum(sum(one) for one in spent.values()) / 60
-    if whole > WHOLE_MINUTES:
-        found.append(f"the whole takes {whole:.0f} minutes, and may take {WHOLE_MINUTES}")
+    if whole > whole_minutes:
+        found.append(f"the whole takes {whole:.0f} minutes, and may take {whole_minutes:.0f}")
     return found
 
 
 def main() -> int:
-    begin = time.monotonic()
-    watched = watch(sys.argv[1:] or gate_anew())
+    begin, is_beside = time.monotonic(), sys.argv[1:2] == ["--beside"]
+    watched = watch(sys.argv[2 if is_beside else 1:] or gate_anew())
     print("| Crate | Processor seconds | Those of its edits |\n|---|---|---|")
     for name, one in sorted(watched.spent.items(), key=lambda row: -sum(row[1])):
         print(f"| `{name}` | {one.itself:,.0f} | {one.edits:,.0f} |")
@@ -142,7 +146,7 @@ def main() -> int:
     print(f"| minutes of all | {itself:.0f} | {edits:.0f} |")
     print(f"{itself + edits:.0f} processor minutes, in {(time.monotonic() - begin) / 60:.0f} minutes of wall time and "
           f"{watched.memory / 2**30:.1f} GB")
-    above = above_budget(watched.spent)
+    above = above_budget(watched.spent, BESIDE if is_beside else 1)
     print("\n".join(above), file=sys.stderr)
     return watched.status or (1 if above else 0)
 
