@@ -1,10 +1,7 @@
 -- Defines what a full queue of orders tells of the whole run.
-use Rattle.std.specs.Prelude.{◌≤◌, ℕ, List, length}
+use Rattle.std.specs.Prelude.{◌≤◌, List, length}
 use Rattle.dbg_runner.specs.Plain.{PlainOrder}
-
--- how many orders the queue has room for
-abbrev pub orders_room : ℕ
-orders_room = 4
+use Rattle.dap_wires.specs.Rooms.{orders_room}
 
 -- At least as many orders were pushed as the queue has room for. A Quit that was pushed after the queue was full counts
 -- too, and some of them may have been taken meanwhile.

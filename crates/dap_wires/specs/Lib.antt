@@ -5,6 +5,8 @@ pub mod Transfer
 pub mod Delivery
 -- The ends of a queue: the log, the queue, and its room.
 pub mod Ends
+-- How much each queue has room for.
+pub mod Rooms
 -- What stands in an inbox, and who sends it.
 pub mod Senders
 -- What went through an inbox.

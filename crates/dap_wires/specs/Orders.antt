@@ -8,7 +8,8 @@ use Rattle.dbg_runner.specs.Plain.{PlainOrder}
 use Rattle.dap_session.specs.Ports.{PushedOrders}
 use Rattle.dap_wires.specs.declared.order_ends.OrderSender.{OrderSender}
 use Rattle.dap_wires.specs.declared.order_ends.OrderReceiver.{OrderReceiver}
-pub use Rattle.dap_wires.specs.Full.{orders_room, EnoughWerePushed}
+use Rattle.dap_wires.specs.Rooms.{orders_room}
+pub use Rattle.dap_wires.specs.Full.{EnoughWerePushed}
 
 module _ {R : Type 0} where
   -- the orders that the session pushed, and how often it found the queue full; the runner is never gone

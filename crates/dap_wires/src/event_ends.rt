@@ -6,8 +6,8 @@ ghost use Rattle.std.specs.VecDeque.{deque_len, deque_capacity};
 ghost use Rattle.std.specs.Coded.{Coded-set, coded_list};
 ghost use Rattle.dap_session.specs.contracts.ports.Event as event_row;
 ghost use Rattle.dap_session.specs.declared.ports.Event.TheVariants as event;
-ghost use Rattle.dap_wires.specs.declared.events.TheConstants.{INBOX_CAPACITY, QUIET_LIMIT};
 ghost use Rattle.dap_wires.specs.Ends.{sender_log, receiver_log, receive_log, sender_room, receiver_room};
+ghost use Rattle.dap_wires.specs.Rooms.{inbox_room, quiet_room};
 ghost use Rattle.dap_wires.specs.Senders.{events_in, are_quiet};
 
 use crate::arrival::Arrival;
@@ -26,7 +26,7 @@ pub struct ClientSender<R: Wait + Drop> {
     // What was returned as an error.
     pub(crate) handed_back: GhostList<Event>,
     ghost puts: { (sender_log end).first ≡ true },
-    ghost room: { sender_room end ≡ INBOX_CAPACITY },
+    ghost room: { sender_room end ≡ inbox_room },
 }
 
 /// The end of the runner, which sends reports.
@@ -41,10 +41,10 @@ pub struct ReportSender<R: Wait + Drop> {
     // What was returned as an error.
     pub(crate) handed_back: GhostList<Report>,
     ghost puts: { (sender_log end).second ≡ true },
-    ghost room: { sender_room end ≡ INBOX_CAPACITY },
+    ghost room: { sender_room end ≡ inbox_room },
     ghost quiet: { are_quiet kept.items ≡ true },
-    ghost few: { deque_len kept ≤ QUIET_LIMIT },
-    ghost reserved: { QUIET_LIMIT ≤ deque_capacity kept },
+    ghost few: { deque_len kept ≤ quiet_room },
+    ghost reserved: { quiet_room ≤ deque_capacity kept },
 }
 
 /// The end of the session, which receives events.
@@ -58,7 +58,7 @@ pub struct EventReceiver<R: Wait + Drop> {
     // What was returned to the session.
     pub(crate) given: GhostList<Event>,
     ghost takes: { (receiver_log end).takes ≡ true },
-    ghost room: { receiver_room end ≡ INBOX_CAPACITY },
+    ghost room: { receiver_room end ≡ inbox_room },
     ghost in_order: { flat_map events_in (receiver_log end).taken ≡ given.entries
         ++ map event.Report rest.items } by { Coded-set (coded_list event_row.the_row.coded) _ _ },
 }

@@ -5,6 +5,7 @@ ghost use Rattle.dap_session.specs.Incoming.{incoming_of};
 ghost use Rattle.dap_session.specs.Sending.{IsPrefixOf};
 ghost use Rattle.dbg_runner.specs.Reported.{plain_report};
 ghost use Rattle.dap_wires.specs.Inbox.{client_events, returned_events, put_reports, sent_reports, kept_count, refused_reports, taken_events, client_queue, report_queue, event_queue, left_queue, received};
+ghost use Rattle.dap_wires.specs.Rooms.{quiet_room};
 ghost use Rattle.dap_wires.specs.Senders.{is_report, is_quiet, from_client, reports_among};
 
 use crate::arrival::{Arrival, is_quiet, outputs_of};
@@ -124,7 +125,7 @@ impl<R: Wait + Drop> Reports for ReportSender<R> {
             (refused_reports self.new ≡ refused_reports self.old ++ plain_report report ∷ []) }
         ensures keeps_sent { OnErr result (sent_reports self.new ≡ sent_reports self.old) }
         ensures back { IfErr result (λ back. back ≡ report) }
-        ensures quiet { is_quiet report ≡ true → kept_count self.old < QUIET_LIMIT
+        ensures quiet { is_quiet report ≡ true → kept_count self.old < quiet_room
             → (result ≡ Ok tt) × (put_reports self.new ≡ put_reports self.old) }
         ensures origin { report_queue self.new ≡ report_queue self.old }
     {
@@ -144,7 +145,7 @@ impl<R: Wait + Drop> ReportSender<R> {
     #[tactic(auto, using(crate::proofs::Sending::report_kept, crate::proofs::Sending::quiet_kept))]
     fn keep(&mut self, report: Report)
         requires quiet { is_quiet report ≡ true }
-        requires few { kept_count self.old < QUIET_LIMIT }
+        requires few { kept_count self.old < quiet_room }
         ensures sent { sent_reports self.new ≡ sent_reports self.old ++ plain_report report ∷ [] }
         ensures put { put_reports self.new ≡ put_reports self.old }
         ensures refused { self.new.handed_back ≡ self.old.handed_back }

@@ -1,8 +1,8 @@
 //! The ends of an outbox.
 
 ghost use Rattle.std.specs.Prelude.{◌≡◌, true, false, []};
-ghost use Rattle.dap_wires.specs.declared.frames.TheConstants.{OUTBOX_CAPACITY};
 ghost use Rattle.dap_wires.specs.Ends.{sender_log, receiver_log, receive_log, sender_room, receiver_room};
+ghost use Rattle.dap_wires.specs.Rooms.{outbox_room};
 ghost use Rattle.dap_wires.specs.WriterMessages.{has_end};
 
 use crate::bundle::Bundle;
@@ -22,7 +22,7 @@ pub struct FrameSender<R: Wait + Drop> {
     // Whether a frame was refused.
     pub(crate) is_gone: bool,
     ghost puts: { (sender_log end).first ≡ true },
-    ghost room: { sender_room end ≡ OUTBOX_CAPACITY },
+    ghost room: { sender_room end ≡ outbox_room },
     ghost open: { has_end (sender_log end).put_first ≡ false },
     ghost gone: { is_gone ≡ false → refused.entries ≡ [] },
 }
@@ -42,7 +42,7 @@ pub struct FrameReceiver<R: Wait + Drop> {
     pub(crate) end: ReceiveEnd<WriterMessage, R>,
     ghost takes: { (receiver_log end).takes ≡ true },
     ghost joins: { (receiver_log end).second ≡ true },
-    ghost room: { receiver_room end ≡ OUTBOX_CAPACITY },
+    ghost room: { receiver_room end ≡ outbox_room },
 }
 
 /// The log of what a writer received from an outbox that it has left.

@@ -4,7 +4,7 @@ ghost use Rattle.std.specs.Prelude.{◌≡◌, ◌≢◌, ◌≤◌, length, map
 ghost use Rattle.std.specs.Arc.{arc_value};
 ghost use Rattle.crossbeam_queue.specs.Passes.{view, IsPassOf, ruled_capacity};
 ghost use Rattle.dbg_runner.specs.Orders.{plain_order};
-ghost use Rattle.dap_wires.specs.declared.order_queue.TheConstants.{ORDERS_CAPACITY};
+ghost use Rattle.dap_wires.specs.Rooms.{orders_room};
 
 use crate::end_log::EndLog;
 use crate::rule::{InOrder, Sent};
@@ -34,10 +34,10 @@ pub struct OrderSender<R: Wait + Drop> {
     // An entry for each time that the queue was full.
     pub(crate) fulls: GhostList<()>,
     ghost seated: { IsPassOf (arc_value queue) pass },
-    ghost room: { ruled_capacity (arc_value queue) ≡ ORDERS_CAPACITY },
+    ghost room: { ruled_capacity (arc_value queue) ≡ orders_room },
     ghost pushes: { (view pass).first ≡ true },
     ghost full: { length fulls.entries ≢ 0
-        → ORDERS_CAPACITY ≤ length (map plain_order (view pass).put_first) },
+        → orders_room ≤ length (map plain_order (view pass).put_first) },
 }
 
 /// The end of the runner, which takes orders.

@@ -8,6 +8,7 @@ ghost use Rattle.dap_session.specs.Sending.{IsPrefixOf};
 ghost use Rattle.dbg_runner.specs.Orders.{plain_order};
 ghost use Rattle.dbg_runner.specs.declared.order.Order.{Order};
 ghost use Rattle.dap_wires.specs.Orders.{EnoughWerePushed, pushed_orders, taken_orders, push_queue, pop_queue};
+ghost use Rattle.dap_wires.specs.Rooms.{orders_room};
 
 use crate::end_log::EndLog;
 use crate::order_ends::{OrderQueue, OrderReceiver, OrderSender};
@@ -151,7 +152,7 @@ fn offer<R: Wait>(
     order: Order,
 ) -> Result<(), Order>
     requires seated { IsPassOf (arc_value queue.now) pass.old }
-    requires room { ruled_capacity (arc_value queue.now) ≡ ORDERS_CAPACITY }
+    requires room { ruled_capacity (arc_value queue.now) ≡ orders_room }
     requires pushes { (view pass.old).first ≡ true }
     ensures seated { IsPassOf (arc_value queue.now) pass.new }
     ensures queue { pass.new.table_id ≡ pass.old.table_id }
@@ -160,10 +161,10 @@ fn offer<R: Wait>(
         ++ plain_order order ∷ []) }
     ensures refused { OnErr result (view pass.new ≡ view pass.old) }
     ensures full { OnErr result ((taken inside : List Order) × ((view pass.old).put_first ≡ taken ++ inside)
-        × (length inside ≡ ORDERS_CAPACITY)) }
-    ensures many { OnErr result (ORDERS_CAPACITY ≤ length (map plain_order (view pass.new).put_first)) }
-    ensures grows { ORDERS_CAPACITY ≤ length (map plain_order (view pass.old).put_first)
-        → ORDERS_CAPACITY ≤ length (map plain_order (view pass.new).put_first) }
+        × (length inside ≡ orders_room)) }
+    ensures many { OnErr result (orders_room ≤ length (map plain_order (view pass.new).put_first)) }
+    ensures grows { orders_room ≤ length (map plain_order (view pass.old).put_first)
+        → orders_room ≤ length (map plain_order (view pass.new).put_first) }
 {
     match queue.push_as::<Puts, R>(rt, pass, order) {
         Ok(()) => Ok(()),
