@@ -6,13 +6,13 @@ usage: release.py [CHECK]
 Each check is a target of the Makefile. They are run one after the other, and all of them also where one fails. The
 tests come first, and have all cores, so that in a fresh clone their minutes are those of a beginner. Where there are
 four cores, the merge gate then has two of them, in a clone, and what stands before it the others: the programs, whose
-minutes are those of two cores, and the tests once more, in a clone too. The soak, which takes an hour, is run beside
-those that stand before it. The benchmarks come last, alone. It says which commit, which kit and which computer, and
-refuses a tree that differs from its commit; the transcripts and pictures that `make editors` writes and the record of
-`make plants` aren't looked at. With CHECK it goes on from that check, and keeps what was found of those before it,
-which must be of the same commit and kit. A check that the Makefile doesn't have counts as not run. What each one
-printed is in out/release/. The status is 0 where every check passed, 1 where one failed, and 2 where none did, but one
-was not run or not whole.
+minutes are those of two cores, and the tests once more, in a clone too. The soak, which takes an hour, and the random
+sessions, which take one core, are run beside those that stand before them. The benchmarks come last, alone. It says
+which commit, which kit and which computer, and refuses a tree that differs from its commit; the transcripts and
+pictures that `make editors` writes and the record of `make plants` aren't looked at. With CHECK it goes on from that
+check, and keeps what was found of those before it, which must be of the same commit and kit. A check that the Makefile
+doesn't have counts as not run. What each one printed is in out/release/. The status is 0 where every check passed, 1
+where one failed, and 2 where none did, but one was not run or not whole.
 """
 from __future__ import annotations
 
@@ -68,7 +68,7 @@ CHECKS = [
     Check("last-position", "the last position, in a copy of the crates"),
     Check("editors", "editors and their sessions", partly=(2,)),
     Check("beside", "random sessions beside the session over memory"),
-    Check("sessions", "2,000 random sessions beside a plain model", ("SESSIONS=2000",), is_long=True),
+    Check("sessions", "2,000 random sessions beside a plain model", ("SESSIONS=2000",), is_long=True, beside="rows"),
     Check("refusals", "each allocation, thread, read and write refused or hindered, all programs", is_long=True),
     Check("soak", "sessions that leave nothing over, for an hour", ("SOAK=3600",), is_long=True, beside="pages"),
     Check("plants", "planted bugs, whole", ("JOBS=2",), is_long=True),
