@@ -317,7 +317,8 @@ def main() -> int:
     if sys.argv[1:] == ["--size"]:
         print(size())
         return 0
-    files = [file for file in TOP.rglob("*") if file.is_file() and not {"out", ".git", "__pycache__"} & set(file.parts)]
+    files = [file for file in TOP.rglob("*")
+             if file.is_file() and not {"out", ".git", "__pycache__"} & set(file.relative_to(TOP).parts)]
     found = [one for page in pages() for one in (*wrong(page, files), *misplaced(page, files))]
     found += [*wrong_laws(), *long_logic(), *long_functions(), *long_contracts(), *wrong_versions(), *wrong_model()]
     for (file, name), why in LONG_FUNCTIONS.items():
