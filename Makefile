@@ -165,7 +165,7 @@ misuse:
 refusals: $(PROGRAM) $(FROM_ZERO) $(SPEED) $(PL0)
 	python3 checks/refusals.py --speed $(SPEED) --pl0 $(PL0) $(PROGRAM) $(FROM_ZERO)
 
-# A program without end, up to the last position, which is 1,001 in a copy of the crates. That copy is not proved.
+# A program without end, up to the last position, which is 1,001 in a copy of the crates; the copy is not proved.
 last-position:
 	@$(NEEDS_KIT)
 	python3 checks/last_position.py

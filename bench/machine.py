@@ -23,8 +23,8 @@ PROGRAMS = ("count", "links", "divide", "primes", "nested")
 
 
 def interpreter(room: str) -> str:
-    """Builds the C interpreter into a folder. Of gcc 12 and clang 14 at -O2, clang's runs six of seven programs of
-    bench/programs faster, by up to 28 per cent; gcc's runs `fib` faster, by 8."""
+    """Builds the C interpreter into a folder. At -O2, clang 14's runs six of the seven programs of bench/programs
+    faster than gcc 12's, by up to 28 per cent; gcc's runs `fib` faster, by 8."""
     path = os.path.join(room, "interpreter")
     subprocess.run(["clang", "-O2", "-o", path, os.path.join(HERE, "interpreter.c")], check=True)
     return path

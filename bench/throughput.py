@@ -27,7 +27,7 @@ def requests(count: int) -> bytes:
 
 
 def large(count: int) -> bytes:
-    """That many contents of 1,048,576 bytes each: a request after spaces."""
+    """So many contents of 1,048,576 bytes each: a request after spaces."""
     return frame(request(1, "initialize").rjust(1 << 20)) * count
 
 

@@ -500,7 +500,7 @@ class Watched(Play):
 
 
 def play_mute(play: Watched, case: Mute) -> None:
-    """Plays a case. Of the four threads the writer ends where a write fails, and the reader at its next read."""
+    """Plays a case. Two of the four threads end: the writer where a write fails, the reader at its next read."""
     play.enter(case.situation)
     play.must("four threads must run", lambda: play.threads() == 4)
     play.fill(case.output)

@@ -127,7 +127,7 @@ class Run:
     exchanges: list[notation.Exchange] | None = None
     # Whether it runs for as long as the client likes.
     is_endless: bool = False
-    # Of which kind one refusal must make it write other pieces, with status 0, which these are, and what that is
+    # The kind of which one refusal must make it write other pieces, with status 0; these pieces; and what that is
     # called.
     instead: tuple[str, list[bytes], str] = ("", [], "")
     # Whether calls are also refused from one on, and hindered.

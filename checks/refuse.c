@@ -18,7 +18,7 @@
 #include <sys/syscall.h>
 #include <unistd.h>
 
-// Of so many calls that are hindered so many are interrupted, and so many would block.
+// How many of so many hindered calls are interrupted, and how many would block.
 enum { CHOICES = 10, INTERRUPTED = 3, BLOCKED = 1, MOST_BYTES = 9 };
 
 extern void *__libc_malloc(size_t size);

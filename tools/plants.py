@@ -11,9 +11,10 @@ must-fail edits, and `rt must-fail` tries them one by one. Prints a line for eac
 those that were refused, those that got through and those that were not judged.
 
 What was found is written to tools/plants.txt: a row for each crate, with a checksum of the kit's logic, of the crate
-with its plants, and of the sources and definitions of the crates below. Where no crate is named, those with plants are
-tried whose row is of another sum, so a run that is broken off goes on where it was, and the last line counts the rows
-of all. The status is 1 where an edit was not refused. With `--outdated` nothing is tried, and those crates are named.
+with its plants, and of the sources and definitions of the crates below, all without lines of comments. Where no crate
+is named, those with plants are tried whose row is of another sum, so a run that is broken off goes on where it was, and
+the last line counts the rows of all. The status is 1 where an edit was not refused. With `--outdated` nothing is tried,
+and those crates are named.
 """
 from __future__ import annotations
 
@@ -41,6 +42,8 @@ RESTS_ON_ANOTHER = re.compile(r"no proof: it (?:calls|passes)|not proved; it wai
 JUDGED = re.compile(r"^(?:fn|impl|struct|enum) (\S+): (.*)$", re.MULTILINE)
 AT_A_PROOF = re.compile(r"^(?:note: )?(?:\./)?proofs/(\S+?):\d+:\d+: (.*)$", re.MULTILINE)
 TAKEN_AWAY = re.compile(r"has no field|is not in scope|has no `|was not admitted")
+# What a line of comments begins with, by the ending of the file's name.
+COMMENTS = {".rt": b"//", ".antt": b"--"}
 # How many edits are tried at once.
 AT_ONCE = 12
 RECORD = TOP / "tools" / "plants.txt"
@@ -73,6 +76,13 @@ def logic_of_kit() -> str:
     return line.partition("logic ")[2].strip()
 
 
+def content(file: pathlib.Path) -> bytes:
+    """A file without its lines of comments, which decide nothing."""
+    if (mark := COMMENTS.get(file.suffix)) is None:
+        return file.read_bytes()
+    return b"".join(line for line in file.read_bytes().splitlines(keepends=True) if not line.lstrip().startswith(mark))
+
+
 def sum_of(name: str) -> str:
     """A checksum of all that decides what becomes of a crate's plants."""
     found = hashlib.sha256(logic_of_kit().encode())
@@ -81,7 +91,7 @@ def sum_of(name: str) -> str:
     files += [file for library in libraries(name) for file in files_below(crates / library, "src", "specs")]
     for file in files:
         found.update(f"{file.relative_to(crates)}\0".encode())
-        found.update(hashlib.sha256(file.read_bytes()).digest())
+        found.update(hashlib.sha256(content(file)).digest())
     return found.hexdigest()[:16]
 
 

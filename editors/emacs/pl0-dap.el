@@ -91,7 +91,7 @@ It is an error, and its place is that of the next one."
 
 (defun pl0-dap-configuration (configuration)
   "CONFIGURATION with what it leaves out: the adapter and the program.
-That is the current buffer's file.  A text with a mistake is an error."
+The program is the current buffer's file.  A text with a mistake is an error."
   (let ((whole (-> configuration
                    (dap--put-if-absent :dap-server-path pl0-dap-command)
                    (dap--put-if-absent :request "launch")

@@ -35,7 +35,7 @@
 #ifndef MOST
 #define MOST 1
 #endif
-/* How many slices a run that goes back has before its last. That it has a bound is proved. */
+/* How many slices a run that goes back has before its last. There is a bound, which is proved. */
 #ifndef BACK
 #define BACK 1
 #endif
@@ -354,8 +354,8 @@ over:
     }
 }
 
-/* ---- The session. First what it does at an event: it changes its phase, and decides on an order and on frames. Of
- * frames only those count that may find no room among the frames that are kept.
+/* ---- The session. First what it does at an event: it changes its phase, and decides on an order and on frames.
+ * Only those frames count that may find no room among the frames that are kept.
  */
 
 /* @ dap_phase/src/run.rt: Run::begin */

@@ -74,7 +74,7 @@ QuotientsAre =
     ∷ by (negsuc 9223372036854775807) (negsuc 0) ∷ []
     ≡ Ok (pos 3) ∷ Ok (negsuc 2) ∷ Ok (negsuc 2) ∷ Ok (pos 3) ∷ Err DivideByZero ∷ Err Overflow ∷ []
 
--- What doesn't fit is a fault of each operation. Of two operands that fault the left one's counts.
+-- What doesn't fit is a fault of each operation. If both operands fault, the left one's counts.
 abbrev pub OperationsAre : Type 0
 OperationsAre =
     map (value loop [] 0)

@@ -200,7 +200,7 @@ by_zero = Binary Divide (Number (pos 1)) (Number (pos 0))
 abbrev too_large : Expression
 too_large = Binary Add (Number (pos 9223372036854775807)) (Number (pos 1))
 
--- Of two sides that fault the left one's counts, and a side's before the operation's own.
+-- If both sides fault, the left one's fault counts, and a side's before the operation's own.
 left_first : map (truth failing [] 0)
     (Compare Equal by_zero too_large ∷ Compare Equal too_large by_zero ∷ Compare Less (Number (pos 0)) by_zero
     ∷ Odd too_large ∷ [])

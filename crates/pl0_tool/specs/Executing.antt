@@ -127,7 +127,7 @@ module _ {Files File : Type 0} (opens : Files → Text → Result File FileFault
     pub tells : IsReport [] (unread_line name fault) Failure one
     pub kept : after ≡ before
 
-  -- Memory ran out at a file. Of its text nothing was written, or the numbers of its run.
+  -- Memory ran out at a file. Nothing was written for it, or the numbers of its run.
   pub record RunsOut (task : Task) (name : Text) (old later : Origins Files) (before after : Output) : Type 0 where
     pub read : Result (List ℕ) FileFault
     pub reads : Reads name read old later
@@ -186,7 +186,7 @@ module _ {Files File : Type 0} (opens : Files → Text → Result File FileFault
       ⊎ ((ending ≡ Failure) × LacksMemory arguments old later before after
       × WritesOrFails memory_line errors later_errors)
 
-  -- There are no arguments: there was no memory for them, or one of them is not text. That was told, and nothing else
+  -- There are no arguments: there was no memory for them, or one of them is not text. This was told, and nothing else
   -- was done.
   pub record GetsNoArguments (error : ErrorKind) (ending : Ending) (old later : Origins Files)
       (before after errors later_errors : Output) : Type 0 where

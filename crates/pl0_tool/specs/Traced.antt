@@ -22,7 +22,7 @@ PutsRow None drawn m new pending left before after =
     (row : Row) × IsRow drawn m row × ((first : Output) (text : List ℕ) → Holds first before pending text
     → FailsIn (text ++ row_text m.unit row) first after)
 
--- Positions were told. Of their table the first part was written, and the rest is pending.
+-- Positions were told. The first part of their table was written, and the rest is pending.
 pub record HasTable (drawn : Bool) (m : Standing) (from count : ℕ) (before now : Output) (pending : List ℕ)
     (rows : List Row) : Type 0 where
   pub rows_are : AreRows drawn m from count rows

@@ -59,9 +59,9 @@ pub struct Arrivals {
 pub struct Ends {
     pub link: Link,
     pub inbox: Arrivals,
-    /// Of the program's thread.
+    /// The orders that the program's thread gets.
     pub orders: Receiver<Order, Global>,
-    /// Of both threads.
+    /// The arrivals that both threads send.
     pub arrivals: Sender<Arrival, Global>,
 }
 
