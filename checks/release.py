@@ -5,8 +5,8 @@ usage: release.py [CHECK]
 
 Each check is a target of the Makefile. They are run one after the other, and all of them also where one fails. The
 tests come first, and have all cores, so that in a fresh clone their minutes are those of a beginner. Where there are
-four cores, the merge gate then has two of them, in a clone, and what stands before it the others: the programs, whose
-minutes are those of two cores, and the tests once more, in a clone too. The soak, which takes an hour, and the random
+four cores, two of them are then for what is run in clones, the tests once more and the merge gate, and the others for
+what stands before these: so the programs' minutes are those of two cores. The soak, which takes an hour, and the random
 sessions, which take one core, are run beside those that stand before them. The benchmarks come last, alone. It says
 which commit, which kit and which computer, and refuses a tree that differs from its commit; the transcripts and
 pictures that `make editors` writes and the record of `make plants` aren't looked at. With CHECK it goes on from that
@@ -35,8 +35,8 @@ LOGS, STATE, PAGE = OUT / "release", OUT / "release.json", OUT / "release.md"
 WRITTEN = ("docs/editors/", "docs/pictures/", "tools/plants.txt")
 PASSED, FAILED, PARTLY, MISSING = "passed", "FAILED", "not whole", "not run"
 CORES = sorted(os.sched_getaffinity(0))
-# How many cores the merge gate has, where as many are left.
-GATE_CORES = 2
+# How many cores the checks in clones have, where as many are left.
+CLONE_CORES = 2
 # The checks that are running, so that they can be ended.
 RUNNING: set[subprocess.Popen] = set()
 
@@ -72,7 +72,7 @@ CHECKS = [
     Check("refusals", "each allocation, thread, read and write refused or hindered, all programs", is_long=True),
     Check("soak", "sessions that leave nothing over, for an hour", ("SOAK=3600",), is_long=True, beside="pages"),
     Check("plants", "planted bugs, whole", ("JOBS=2",), is_long=True),
-    Check("test-again", "all tests in a fresh clone, on two cores", target="test", in_clone=True),
+    Check("test-again", "all tests in a fresh clone, on two cores", target="test", beside="build", in_clone=True),
     Check("gate-times", "the merge gate from nothing, within its budget", ("BESIDE=1",), is_long=True, beside="build",
           in_clone=True),
     Check("bench", "times and instructions", is_long=True),
@@ -125,15 +125,15 @@ def last_line(text: str, commands: set[str]) -> str:
 
 
 def is_shared() -> bool:
-    """Whether the merge gate has cores of its own."""
-    return len(CORES) >= 2 * GATE_CORES
+    """Whether the checks in clones have cores of their own."""
+    return len(CORES) >= 2 * CLONE_CORES
 
 
 def cores_of(check: Check) -> list[int]:
     """The cores on which a check is run."""
     if not is_shared() or check.name in ALONE:
         return CORES
-    return CORES[:GATE_CORES] if check.name == "gate-times" else CORES[GATE_CORES:]
+    return CORES[:CLONE_CORES] if check.in_clone else CORES[CLONE_CORES:]
 
 
 def folder_of(check: Check) -> pathlib.Path:
@@ -201,17 +201,17 @@ def kept(who: dict[str, str], first: str) -> dict[str, dict]:
 
 def begins_beside(check: Check, at: Check) -> bool:
     """Whether a check that is run beside others begins at another one, at the latest."""
-    is_asked = check.beside and (check.name != "gate-times" or is_shared())
+    is_asked = check.beside and (not check.in_clone or is_shared())
     return bool(is_asked) and NAMES.index(check.beside) <= NAMES.index(at.name)
 
 
 def run_all(checks: list[Check], who: dict[str, str], results: dict[str, dict]) -> None:
     """Runs the checks, some beside others, and keeps what is found of each in its turn."""
-    with ThreadPoolExecutor() as pool:
+    with ThreadPoolExecutor() as pool, ThreadPoolExecutor(1) as in_turn:
         beside: dict[str, Future] = {}
         for check in checks:
             begun = [one for one in checks if begins_beside(one, check) and one.name not in {*beside, *results}]
-            beside.update((one.name, pool.submit(run, one)) for one in begun)
+            beside.update((one.name, (in_turn if one.in_clone else pool).submit(run, one)) for one in begun)
             long = f" (long: `make release FROM={check.name}` goes on here)" if check.is_long else ""
             print(f"{check.name}: {check.what}{long}", flush=True)
             results[check.name] = beside[check.name].result() if check.name in beside else run(check)
