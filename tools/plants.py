@@ -11,10 +11,10 @@ must-fail edits, and `rt must-fail` tries them one by one. Prints a line for eac
 those that were refused, those that got through and those that were not judged.
 
 What was found is written to tools/plants.txt: a row for each crate, with a checksum of the kit's logic, of the crate
-with its plants, and of the sources and definitions of the crates below, all without lines of comments. Where no crate
-is named, those with plants are tried whose row is of another sum, so a run that is broken off goes on where it was, and
-the last line counts the rows of all. The status is 1 where an edit was not refused. With `--outdated` nothing is tried,
-and those crates are named.
+with its plants, and of the sources and definitions of the crates below, all without lines of comments, but for those
+that a plant quotes. Where no crate is named, those with plants are tried whose row is of another sum, so a run that is
+broken off goes on where it was, and the last line counts the rows of all. The status is 1 where an edit was not
+refused. With `--outdated` nothing is tried, and those crates are named.
 """
 from __future__ import annotations
 
@@ -44,6 +44,8 @@ AT_A_PROOF = re.compile(r"^(?:note: )?(?:\./)?proofs/(\S+?):\d+:\d+: (.*)$", re.
 TAKEN_AWAY = re.compile(r"has no field|is not in scope|has no `|was not admitted")
 # What a line of comments begins with, by the ending of the file's name.
 COMMENTS = {".rt": b"//", ".antt": b"--"}
+# A text that an edit takes away.
+QUOTED = re.compile(rb"^old: *(\S.*?) *$", re.MULTILINE)
 # How many edits are tried at once.
 AT_ONCE = 12
 RECORD = TOP / "tools" / "plants.txt"
@@ -76,22 +78,29 @@ def logic_of_kit() -> str:
     return line.partition("logic ")[2].strip()
 
 
-def content(file: pathlib.Path) -> bytes:
-    """A file without its lines of comments, which decide nothing."""
-    if (mark := COMMENTS.get(file.suffix)) is None:
-        return file.read_bytes()
-    return b"".join(line for line in file.read_bytes().splitlines(keepends=True) if not line.lstrip().startswith(mark))
+def content(file: pathlib.Path, quoted: frozenset[bytes] = frozenset()) -> bytes:
+    """A file without its lines of comments, which decide nothing where no edit quotes them."""
+    mark, lines = COMMENTS.get(file.suffix), file.read_bytes().splitlines(keepends=True)
+    return b"".join(line for line in lines if mark is None or not line.lstrip().startswith(mark)
+                    or any(text in line for text in quoted))
+
+
+def quoted_by(plants: list[pathlib.Path]) -> frozenset[bytes]:
+    """The texts that edits take away."""
+    return frozenset(text for path in plants for text in QUOTED.findall(path.read_bytes()))
 
 
 def sum_of(name: str) -> str:
     """A checksum of all that decides what becomes of a crate's plants."""
     found = hashlib.sha256(logic_of_kit().encode())
-    crates = TOP / "crates"
-    files = [*files_below(crates / name, "src", "specs", "proofs", "plants")]
-    files += [file for library in libraries(name) for file in files_below(crates / library, "src", "specs")]
-    for file in files:
+    crates, quoted = TOP / "crates", quoted_by(plants_of(name))
+    contents = [(file, content(file, quoted))
+                for file in files_below(crates / name, "src", "specs", "proofs", "plants")]
+    contents += [(file, content(file)) for library in libraries(name)
+                 for file in files_below(crates / library, "src", "specs")]
+    for file, text in contents:
         found.update(f"{file.relative_to(crates)}\0".encode())
-        found.update(hashlib.sha256(content(file)).digest())
+        found.update(hashlib.sha256(text).digest())
     return found.hexdigest()[:16]
 
 
