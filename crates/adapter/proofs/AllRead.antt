@@ -26,7 +26,7 @@ use Rattle.dap_wires.specs.Transfer.{IsRead, AreRead}
 use Rattle.byte_streams.specs.Streams.{Supply, WritesAll}
 use Rattle.adapter.specs.AllRead.{asked, AnswersAll, ClosesBy, AnswersAllRead, AllReadIsAnswered}
 use Rattle.adapter.specs.Laws.{TakesWholeInput, InputIsTakenWhole}
-use Rattle.adapter.specs.Serving.{World, input_of, output_of, nothing_sent, TasksEnd}
+use Rattle.adapter.specs.Serving.{World, nothing_sent, TasksEnd}
 use Rattle.adapter.proofs.InputTaken.{first_event, later_events, IsLast, no_last_loads, takes_all, read_to_end}
 use Rattle.adapter.proofs.SessionFaults.{outcome_is_of_session}
 
@@ -420,8 +420,8 @@ read_fails (e ∷ events) old later read =
 answers_all_read : HistoryLaws → (f : FirstSeq) (before after : World) (by : Closed) (own : Incoming) (item : Item)
     → Closing by own item → (driven : TasksEnd f (Ok tt) (Ok by) before after)
     → from_client driven.given ≡ driven.reader.client
-    → ((pieces : List Incoming) → AreRead (pieces ++ own ∷ []) (input_of before.streams) (input_of after.streams)
-    → ClosesBy by (input_of before.streams) (input_of after.streams))
+    → ((pieces : List Incoming) → AreRead (pieces ++ own ∷ []) before.streams.input after.streams.input
+    → ClosesBy by before.streams.input after.streams.input)
     → SessionOutcome f driven.session.events driven.given driven.session.loaded nothing_sent driven.sent (Ok by)
     → AnswersAllRead f by before after
 answers_all_read laws f before after by own item closing driven taken ends (closes from serves) =
@@ -430,7 +430,8 @@ answers_all_read laws f before after by own item closing driven taken ends (clos
     serves.first_is serves.history by own item closing serves.ending_is in
     let all =
     takes_all f driven.session.events driven.given driven.reader.client driven.session.loaded driven.reader.end
-    (input_of before.streams) (input_of after.streams) from driven.reader.read taken own closing.last told.front
+    before.streams.input after.streams.input from driven.reader.read driven.reader.of_whole taken own closing.last
+    told.front
     told.back told.events_are in
     record {
       read = stream_of told.front;
@@ -438,7 +439,7 @@ answers_all_read laws f before after by own item closing driven taken ends (clos
       ends = ends all.pieces all.read;
       messages = messages_of serves.past;
       answers = told.answers;
-      written = subst (λ frames. WritesAll (concat frames) (output_of before.streams) (output_of after.streams))
+      written = subst (λ frames. WritesAll (concat frames) before.streams.output after.streams.output)
           serves.frames_are driven.writer.written;
     }
 
@@ -448,25 +449,26 @@ all_read_is_answered laws f outcome closed.InputEnded before after served is oth
     let driven = outcome_is_of_session f outcome closed.InputEnded before after served is in
     answers_all_read laws f before after closed.InputEnded End InputEnd (by_end laws.closed_by) driven
     driven.reader.client_taken
-    (λ pieces read. read_to_end pieces (input_of before.streams) (input_of after.streams) read) driven.session.drives
+    (λ pieces read. read_to_end pieces before.streams.input after.streams.input read) driven.session.drives
 all_read_is_answered laws f outcome closed.ReadFailed before after served is other =
     let driven = outcome_is_of_session f outcome closed.ReadFailed before after served is in
     answers_all_read laws f before after closed.ReadFailed ReadFailed ReadFailure (by_failure laws.closed_by) driven
     driven.reader.client_taken
-    (λ pieces read. read_fails pieces (input_of before.streams) (input_of after.streams) read) driven.session.drives
+    (λ pieces read. read_fails pieces before.streams.input after.streams.input read) driven.session.drives
 
 pub input_taken_whole : EventsAreTaken → EachItemEndsOrNot → ClosedByItsEvent → InputIsTakenWhole
 input_taken_whole taken ends closed_by f wrote before after driven = by_drives driven.session.drives
   where
     by_drives : SessionOutcome f driven.session.events driven.given driven.session.loaded nothing_sent driven.sent
         (Ok closed.InputEnded)
-        → TakesWholeInput driven.session.events (input_of before.streams) (input_of after.streams)
+        → TakesWholeInput driven.session.events before.streams.input after.streams.input
     by_drives (closes from serves) =
         let there : IsAmong End driven.session.events =
         (by_end closed_by).among driven.session.events serves.past serves.rest serves.history serves.ending_is in
         let all =
         takes_all f driven.session.events driven.given driven.reader.client driven.session.loaded driven.reader.end
-        (input_of before.streams) (input_of after.streams) from driven.reader.read driven.reader.client_taken End tt
+        before.streams.input after.streams.input from driven.reader.read driven.reader.of_whole
+        driven.reader.client_taken End tt
         there.0 there.1 there.2 in
         record {
           front = there.0;
@@ -474,5 +476,5 @@ input_taken_whole taken ends closed_by f wrote before after driven = by_drives d
               ∙ ap (λ back. there.0 ++ End ∷ back)
               (nothing_after taken ends (by_end closed_by) serves.reaches there.0 there.1 there.2);
           whole = all.whole;
-          at_end = read_to_end all.pieces (input_of before.streams) (input_of after.streams) all.read;
+          at_end = read_to_end all.pieces before.streams.input after.streams.input all.read;
         }

@@ -32,11 +32,11 @@ use Rattle.dap_wires.specs.Orders.{EnoughWerePushed}
 use Rattle.dap_wires.specs.WriterMessages.{bundled, frames_in, has_end, AreEnded}
 use Rattle.dap_wires.specs.Reading.{IsReadUntil, last_of}
 use Rattle.dap_wires.specs.Senders.{from_client, reports_among}
-use Rattle.byte_streams.specs.Streams.{Supply, Output, WritesAll}
+use Rattle.byte_streams.specs.Streams.{Supply, Output, IsOfWhole, WritesAll}
 use Rattle.dap_wires.specs.Writing.{IsWrittenUntil}
 use Rattle.dap_wires.proofs.Sending.{client_append, frames_append}
 use Rattle.adapter.specs.Jobs.{SessionLeaves}
-use Rattle.adapter.specs.Serving.{World, input_of, output_of, nothing_sent, Writes, TakenOfSent, TakenOfPushed, TasksEnd}
+use Rattle.adapter.specs.Serving.{World, nothing_sent, Writes, TakenOfSent, TakenOfPushed, TasksEnd}
 
 -- ---- lists
 
@@ -299,15 +299,16 @@ pub gathers : (f : FirstSeq) (wrote : Result (Unit {0}) WriteFailed) (result : R
     (given : List Incoming) (put : List WriterMessage) (pushed : PushedOrders) (end : ReadEnd) (client : List Incoming)
     (acts : List Act) (reports : List PlainReport) (orders : List PlainOrder) (taken : List WriterMessage)
     → SessionLeaves f result [] given before.loads after.loads nothing_sent put pushed
-    → IsReadUntil end client (input_of before.streams) (input_of after.streams) → IsPrefixOf (from_client given) client
+    → IsReadUntil end client before.streams.input after.streams.input → IsPrefixOf (from_client given) client
     → DoesAll Idle acts Ended → orders ≡ flat_map order_in acts → reports ≡ flat_map sent_in acts
     → IsPrefixOf orders pushed.orders → (pushed.fulls ≢ 0 → EnoughWerePushed pushed.orders)
     → IsPrefixOf (reports_among given) reports
     → after.passed ≡ before.passed ++ flat_map passed_in acts
-    → IsWrittenUntil wrote taken (output_of before.streams) (output_of after.streams) → IsPrefixOf taken put
-    → TasksEnd f wrote result before after
+    → IsWrittenUntil wrote taken before.streams.output after.streams.output → IsPrefixOf taken put
+    → ∥ IsOfWhole after.streams.input ∥₁ → TasksEnd f wrote result before after
 gathers f wrote result before after given put pushed end client acts reports orders taken
-    drove read client_taken leads orders_are reports_are orders_taken many reports_taken gate_passed written put_taken =
+    drove read client_taken leads orders_are reports_are orders_taken many reports_taken gate_passed written put_taken
+    of_whole =
     let d = drove.driven in
     let drives : SessionOutcome f d.events given d.loads nothing_sent drove.later result =
     subst (λ g. SessionOutcome f d.events g d.loads nothing_sent drove.later result) (sym d.given_are) d.drives in
@@ -334,9 +335,10 @@ gathers f wrote result before after given put pushed end client acts reports ord
         end = end;
         client = client;
         read = read;
+        of_whole = of_whole;
         client_taken =
-            takes_client f result d.events given client d.loads drove.later end (input_of before.streams)
-            (input_of after.streams) drives read client_taken;
+            takes_client f result d.events given client d.loads drove.later end before.streams.input
+            after.streams.input drives read client_taken;
       };
       runner = record {
         acts = acts;
@@ -347,9 +349,9 @@ gathers f wrote result before after given put pushed end client acts reports ord
       };
       writer = record {
         written =
-            writes_frames wrote taken put drove.later.frames (output_of before.streams) (output_of after.streams)
+            writes_frames wrote taken put drove.later.frames before.streams.output after.streams.output
             put_taken drove.frames_are drove.ended written;
-        writer_gone = λ is. write_fails wrote taken put (output_of before.streams) (output_of after.streams) put_taken
+        writer_gone = λ is. write_fails wrote taken put before.streams.output after.streams.output put_taken
             (drove.refused (found_gone f d.events given d.loads drove.later
             (subst (λ r. SessionOutcome f d.events given d.loads nothing_sent drove.later r) is drives))) written;
       };

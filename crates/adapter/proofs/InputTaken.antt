@@ -1,8 +1,7 @@
 -- What of the input a session took, by what closed it.
-use Rattle.std.proofs.Common.{◌≡◌, inl, inr, ℕ, List, [], ◌∷◌, ◌++◌, Option, None, Some, Ok, refl, sym, ap, ◌∙◌, subst, append_assoc, append-nil, rules}
+use Rattle.std.proofs.Common.{◌≡◌, inl, inr, ℕ, true, List, [], ◌∷◌, ◌++◌, Option, None, Some, Ok, refl, sym, ap, ◌∙◌, subst, append_assoc, append-nil, rules}
 use Rattle.std.specs.Prelude.{map}
-use Rattle.std.specs.Io.KnownBytes.{Consumes, IsAtEnd}
-use Rattle.std.proofs.KnownBytes.{Consumes-nil as consumes_none, Consumes-trans as consumes_both}
+use Rattle.byte_streams.proofs.Appending.{appends_none, appends_both}
 use Rattle.dap_msg.specs.declared.command.Command.{Command}
 use Rattle.dap_msg.specs.declared.command.Command.TheVariants as command
 use Rattle.dbg_runner.specs.declared.outcome.SliceOutcome.{SliceOutcome}
@@ -26,15 +25,15 @@ use Rattle.dap_wires.specs.Reading.{IsReadUntil, Loses, last_of}
 use Rattle.dap_wires.specs.Senders.{from_client}
 use Rattle.dap_wires.specs.Transfer.{IsRead, AreRead}
 use Rattle.dap_wires.proofs.Sending.{client_append}
-use Rattle.byte_streams.specs.Streams.{Supply}
+use Rattle.byte_streams.specs.Streams.{Supply, Appends, IsOfWhole, IsReadOf}
 use Rattle.adapter.specs.Laws.{AsksToDisconnect, TakesFirstDisconnect, FirstDisconnectCloses}
-use Rattle.adapter.specs.Serving.{nothing_sent, input_of, SessionSends}
+use Rattle.adapter.specs.Serving.{nothing_sent, SessionSends}
 use Rattle.adapter.proofs.Gathered.{IsPiece, last_one, last_sent}
 
 -- ---- bytes left
 
-consumed_at : (old later : Supply) → later ≡ old → Consumes old.left later.left []
-consumed_at old later same = subst (λ (s : Supply). Consumes old.left s.left []) (sym same) (consumes_none old.left)
+consumed_at : (old later : Supply) → later ≡ old → Appends old.read later.read []
+consumed_at old later same = subst (λ (s : Supply). Appends old.read s.read []) (sym same) (appends_none old.read)
 
 -- ---- pieces, joined
 
@@ -65,8 +64,8 @@ client_stream (Report r ∷ xs) = client_stream xs
 -- ---- what was read
 
 reads_stream : (e : Incoming) (old later : Supply) → IsRead e old later
-    → Consumes old.left later.left (stream_of (e ∷ []))
-reads_stream (Piece p) old later read = subst (λ l. Consumes old.left later.left l) (sym (append-nil p)) read.0
+    → Appends old.read later.read (stream_of (e ∷ []))
+reads_stream (Piece p) old later read = subst (λ l. Appends old.read later.read l) (sym (append-nil p)) read.0
 reads_stream End old later read = read.0
 reads_stream ReadFailed old later read = read.0
 reads_stream NoMemoryCame old later read = read.0
@@ -74,30 +73,30 @@ reads_stream (File file) old later read = absurd read
 reads_stream (Report r) old later same = consumed_at old later same
 
 read_stream : (events : List Incoming) (old later : Supply) → AreRead events old later
-    → Consumes old.left later.left (stream_of events)
+    → Appends old.read later.read (stream_of events)
 read_stream [] old later same = consumed_at old later same
 read_stream (e ∷ events) old later read =
-    subst (λ l. Consumes old.left later.left l) (sym (stream_append (e ∷ []) events))
-    (consumes_both old.left read.0.left later.left (stream_of (e ∷ [])) (stream_of events)
+    subst (λ l. Appends old.read later.read l) (sym (stream_append (e ∷ []) events))
+    (appends_both old.read read.0.read later.read (stream_of (e ∷ [])) (stream_of events)
     (reads_stream e old read.0 read.1) (read_stream events read.0 later read.2))
 
 -- an input of which the end was read is at its end
 pub read_to_end : (events : List Incoming) (old later : Supply) → AreRead (events ++ End ∷ []) old later
-    → IsAtEnd later.left
-read_to_end [] old later read = subst (λ (s : Supply). IsAtEnd s.left) (sym read.2) read.1.1
+    → later.ended ≡ true
+read_to_end [] old later read = subst (λ (s : Supply). s.ended ≡ true) (sym read.2) read.1.1
 read_to_end (e ∷ events) old later read = read_to_end events read.0 later read.2
 
 -- the last event, which was returned, was read too
 lost_stream : (end : ReadEnd) (lost : List Incoming) (mid later : Supply) → Loses end lost mid later
-    → Consumes mid.left later.left (stream_of lost)
+    → Appends mid.read later.read (stream_of lost)
 lost_stream ends.HandedBack lost mid later loses =
-    subst (λ l. Consumes mid.left later.left (stream_of l)) (sym loses.1) (reads_stream loses.0 mid later loses.2)
+    subst (λ l. Appends mid.read later.read (stream_of l)) (sym loses.1) (reads_stream loses.0 mid later loses.2)
 lost_stream ends.Ended lost mid later loses =
-    subst (λ l. Consumes mid.left later.left (stream_of l)) (sym loses.0) (consumed_at mid later loses.1)
+    subst (λ l. Appends mid.read later.read (stream_of l)) (sym loses.0) (consumed_at mid later loses.1)
 lost_stream ends.Failed lost mid later loses =
-    subst (λ l. Consumes mid.left later.left (stream_of l)) (sym loses.0) (consumed_at mid later loses.1)
+    subst (λ l. Appends mid.read later.read (stream_of l)) (sym loses.0) (consumed_at mid later loses.1)
 lost_stream ends.NoMemory lost mid later loses =
-    subst (λ l. Consumes mid.left later.left (stream_of l)) (sym loses.0) (consumed_at mid later loses.1)
+    subst (λ l. Appends mid.read later.read (stream_of l)) (sym loses.0) (consumed_at mid later loses.1)
 
 -- ---- the reader came to an end
 
@@ -224,18 +223,21 @@ split f own ends so_far (e ∷ events) given loads (inr from) (x ∷ front) back
 
 -- All that was read of the input stands before the event that closed the session: pieces were read, and then that.
 pub record TakesAll (own : Incoming) (front : List Incoming) (old later : Supply) : Type 0 where
-  pub whole : Consumes old.left later.left (stream_of front)
+  pub whole : IsReadOf (stream_of front) old later
   pub pieces : List Incoming
   pub read : AreRead (pieces ++ own ∷ []) old later
 
 module _ (f : FirstSeq) (events given client : List Incoming) (loads : List Load) (end : ReadEnd) (old later : Supply)
     (from : Interleaves f [] events given loads) (read : IsReadUntil end client old later)
-    (taken : from_client given ≡ client) (own : Incoming) (last : IsLast own) where
+    (of_whole : ∥ IsOfWhole later ∥₁) (taken : from_client given ≡ client) (own : Incoming) (last : IsLast own) where
   pub takes_all : (front back : List Incoming) → events ≡ front ++ own ∷ back → TakesAll own front old later
   takes_all front back is = record {
-    whole = subst (λ l. Consumes old.left later.left l) all
-        (subst (λ (s : Supply). Consumes old.left s.left (stream_of client)) (sym same)
-        (read_stream client old read.mid read.read));
+    whole = record {
+      appended = subst (λ l. Appends old.read later.read l) all
+          (subst (λ (s : Supply). Appends old.read s.read (stream_of client)) (sym same)
+          (read_stream client old read.mid read.read));
+      of_whole = of_whole;
+    };
     pieces = from_client parts.first;
     read = subst (λ s. AreRead (from_client parts.first ++ own ∷ []) old s) (sym same)
         (subst (λ l. AreRead l old read.mid) last_is read.read);
@@ -274,17 +276,20 @@ module _ (f : FirstSeq) (events given client : List Incoming) (loads : List Load
 -- the pieces that a session took, joined, are a prefix of what was read of the input
 pub record BeginsRead (events : List Incoming) (old later : Supply) : Type 0 where
   pub read : List ℕ
-  pub consumed : Consumes old.left later.left read
+  pub consumed : IsReadOf read old later
   pub begins : IsPrefixOf (stream_of events) read
 
 pub begins_read : (f : FirstSeq) (events given client : List Incoming) (loads : List Load) (end : ReadEnd)
     (old later : Supply) → Interleaves f [] events given loads → IsReadUntil end client old later
-    → IsPrefixOf (from_client given) client → BeginsRead events old later
-begins_read f events given client loads end old later from read taken = record {
+    → ∥ IsOfWhole later ∥₁ → IsPrefixOf (from_client given) client → BeginsRead events old later
+begins_read f events given client loads end old later from read of_whole taken = record {
   read = stream_of client ++ stream_of read.lost;
-  consumed =
-      consumes_both old.left read.mid.left later.left (stream_of client) (stream_of read.lost)
-      (read_stream client old read.mid read.read) (lost_stream end read.lost read.mid later read.loses);
+  consumed = record {
+    appended =
+        appends_both old.read read.mid.read later.read (stream_of client) (stream_of read.lost)
+        (read_stream client old read.mid read.read) (lost_stream end read.lost read.mid later read.loses);
+    of_whole = of_whole;
+  };
   begins = (
     stream_of taken.0 ++ stream_of read.lost,
     sym (append_assoc (stream_of events) (stream_of taken.0) (stream_of read.lost))
@@ -391,9 +396,10 @@ first_disconnect_closes last f wrote before after driven = by_drives session.dri
 
     by_drives : SessionOutcome f session.events driven.given session.loaded nothing_sent driven.sent
         (Ok closed.Disconnected)
-        → TakesFirstDisconnect f session.events (input_of before.streams) (input_of after.streams)
+        → TakesFirstDisconnect f session.events before.streams.input after.streams.input
     by_drives (closes from serves) =
-        first_disconnect last f session.events (input_of before.streams) (input_of after.streams)
+        first_disconnect last f session.events before.streams.input after.streams.input
         (begins_read f session.events driven.given driven.reader.client session.loaded driven.reader.end
-        (input_of before.streams) (input_of after.streams) from driven.reader.read driven.reader.client_taken)
+        before.streams.input after.streams.input from driven.reader.read driven.reader.of_whole
+        driven.reader.client_taken)
         serves.past serves.rest serves.first_is serves.history serves.ending_is

@@ -22,7 +22,7 @@ use Rattle.dap_session.specs.Serving.{SessionOutcome, closes, ends_at_fault, giv
 use Rattle.byte_streams.specs.Streams.{WritesAll}
 use Rattle.adapter.specs.AllRead.{asked}
 use Rattle.adapter.specs.Laws.{AsksToDisconnect, TakesFirstDisconnect}
-use Rattle.adapter.specs.Serving.{World, input_of, output_of, nothing_sent, TasksEnd}
+use Rattle.adapter.specs.Serving.{World, nothing_sent, TasksEnd}
 use Rattle.adapter.specs.UpTo.{disconnect, AnswersToDisconnect, AnswersToFault, AnswersRead, DisconnectIsAnswered, AllBeforeFaultIsAnswered}
 use Rattle.adapter.proofs.AllRead.{asked_are, items_of}
 use Rattle.adapter.proofs.FaultStands.{fault_stands}
@@ -121,7 +121,7 @@ answers_are answered events past rest history =
 module _ (one : HistoryIsOne) (contents : ContentsAreOfTheStream) (answered : EachIsAnsweredOnce)
     (last : DisconnectIsLast) (f : FirstSeq) (before after : World)
     (driven : TasksEnd f (Ok tt) (Ok closed.Disconnected) before after)
-    (taken : TakesFirstDisconnect f driven.session.events (input_of before.streams) (input_of after.streams)) where
+    (taken : TakesFirstDisconnect f driven.session.events before.streams.input after.streams.input) where
   abbrev all_taken : History
   all_taken = taken.before ++ taken.step ∷ []
 
@@ -170,7 +170,7 @@ module _ (one : HistoryIsOne) (contents : ContentsAreOfTheStream) (answered : Ea
     answers = subst (λ h. AnswersToDisconnect f taken.read (messages_of h))
         (one driven.session.events all_taken serves.past taken.rest serves.rest taken.history serves.history
         (taken.first_is ∙ sym serves.first_is)).0 to_disconnect;
-    written = subst (λ frames. WritesAll (concat frames) (output_of before.streams) (output_of after.streams))
+    written = subst (λ frames. WritesAll (concat frames) before.streams.output after.streams.output)
         serves.frames_are driven.writer.written;
   }
 
@@ -220,8 +220,8 @@ at_fault : ContentsAreOfTheStream → EachIsAnsweredOnce → (k : FramingFault) 
     (Err (Frame k)) → AnswersRead (AnswersToFault k f) before after
 at_fault contents answered k f before after driven (ends_at_fault from serves) =
     let all = begins_read f driven.session.events driven.given driven.reader.client driven.session.loaded
-    driven.reader.end (input_of before.streams) (input_of after.streams) from driven.reader.read
-    driven.reader.client_taken in
+    driven.reader.end before.streams.input after.streams.input from driven.reader.read
+    driven.reader.of_whole driven.reader.client_taken in
     let there = fault_stands driven.session.events serves.serves.past serves.serves.rest serves.serves.history k
     serves.serves.ending_is in
     record {
@@ -232,7 +232,7 @@ at_fault contents answered k f before after driven (ends_at_fault from serves) =
           (to_fault contents answered k f driven.session.events serves.serves.past serves.serves.rest
           serves.serves.first_is serves.serves.history there.0 all.begins.0
           (fault_more serves.serves.rest.bytes all.begins.0 k there.1));
-      written = subst (λ frames. WritesAll (concat frames) (output_of before.streams) (output_of after.streams))
+      written = subst (λ frames. WritesAll (concat frames) before.streams.output after.streams.output)
           (serves.quit.frames_are ∙ serves.serves.frames_are) driven.writer.written;
     }
 at_fault contents answered k f before after driven (gives_up cannot from stops) =

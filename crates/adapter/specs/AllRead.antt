@@ -1,7 +1,6 @@
 -- States what a client gets where its input ends or a read of it fails, in terms of bytes and messages alone.
-use Rattle.std.specs.Prelude.{◌≡◌, ◌≢◌, ◌<◌, ℕ, List, Option, None, Some, Result}
+use Rattle.std.specs.Prelude.{◌≡◌, ◌≢◌, ◌<◌, ℕ, true, List, Option, None, Some, Result}
 use Rattle.std.specs.List.{concat, filter_map}
-use Rattle.std.specs.Io.KnownBytes.{Consumes, IsAtEnd}
 use Rattle.dap_frame.specs.Frame.{Frames, IsOpen}
 use Rattle.dap_msg.specs.Commands.{name_of}
 use Rattle.dap_msg.specs.declared.command.CommandName.{CommandName}
@@ -12,11 +11,11 @@ use Rattle.dap_history.specs.declared.ending.Closed.{Closed}
 use Rattle.dap_history.specs.declared.ending.Closed.TheVariants as closed
 use Rattle.dap_history.specs.Laws.{AreReadAs, answered_request}
 use Rattle.dap_history.specs.Output.{frames_from}
-use Rattle.byte_streams.specs.Streams.{Supply, WritesAll}
+use Rattle.byte_streams.specs.Streams.{Supply, WritesAll, IsReadOf}
 use Rattle.adapter.specs.declared.serving.Served.{Served}
 use Rattle.adapter.specs.declared.serving.ServeFault.{ServeFault}
 use Rattle.adapter.specs.Laws.{closed_of}
-use Rattle.adapter.specs.Serving.{World, input_of, output_of, IsServed}
+use Rattle.adapter.specs.Serving.{World, IsServed}
 
 -- the seq and the command of a content, if it is a request
 abbrev pub asked : Option Request → Option (ℕ × CommandName)
@@ -37,17 +36,17 @@ pub record AnswersAll (first : FirstSeq) (bytes : List ℕ) (messages : List Out
 -- no byte is left, or a read failed
 abbrev pub ClosesBy : Closed → Supply → Supply → Type 0
 ClosesBy closed.Disconnected old later = ⊥
-ClosesBy closed.InputEnded old later = IsAtEnd later.left
+ClosesBy closed.InputEnded old later = later.ended ≡ true
 ClosesBy closed.ReadFailed old later = old.failures < later.failures
 
 -- All that was read of the input, up to what closed the session, was answered, and all messages were written whole.
 pub record AnswersAllRead (first : FirstSeq) (by : Closed) (before after : World) : Type 0 where
   pub read : List ℕ
-  pub consumed : Consumes (input_of before.streams).left (input_of after.streams).left read
-  pub ends : ClosesBy by (input_of before.streams) (input_of after.streams)
+  pub consumed : IsReadOf read before.streams.input after.streams.input
+  pub ends : ClosesBy by before.streams.input after.streams.input
   pub messages : List Outgoing
   pub answers : AnswersAll first read messages
-  pub written : WritesAll (concat (frames_from 1 messages)) (output_of before.streams) (output_of after.streams)
+  pub written : WritesAll (concat (frames_from 1 messages)) before.streams.output after.streams.output
 
 -- Where `serve` returns that the input ended or a read failed, all that was read before was answered.
 abbrev pub AllReadIsAnswered : Type 0

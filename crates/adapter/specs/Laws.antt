@@ -1,6 +1,5 @@
 -- States laws of a whole run, which follow from `Serving`, in the form in which a reader looks for them.
-use Rattle.std.specs.Prelude.{◌≡◌, ◌≢◌, ◌⊎◌, ◌++◌, ◌∷◌, [], ℕ, List, Option, None, Some, Result, Ok, Err}
-use Rattle.std.specs.Io.KnownBytes.{Consumes, IsAtEnd}
+use Rattle.std.specs.Prelude.{◌≡◌, ◌≢◌, ◌⊎◌, ◌++◌, ◌∷◌, [], ℕ, List, true, Option, None, Some, Result, Ok, Err}
 use Rattle.dap_msg.specs.declared.command.Command.TheVariants as command
 use Rattle.dbg_runner.specs.Laws.{taken_by, reports_of_run, AllButLastGoOn, HasLast, KeepsOn}
 use Rattle.dbg_runner.specs.Plain.{Heading, PlainReport, Go, Quit}
@@ -15,12 +14,12 @@ use Rattle.dap_history.specs.Laws.{stream_of}
 use Rattle.dap_session.specs.Sending.{IsPrefixOf}
 use Rattle.byte_streams.specs.declared.writing.WriteFailed.{WriteFailed}
 use Rattle.dap_wires.specs.Orders.{EnoughWerePushed}
-use Rattle.byte_streams.specs.Streams.{Supply}
+use Rattle.byte_streams.specs.Streams.{Supply, IsReadOf}
 use Rattle.adapter.specs.declared.serving.Served.{Served}
 use Rattle.adapter.specs.declared.serving.Served.TheVariants as served
 use Rattle.adapter.specs.declared.serving.ServeFault.{ServeFault}
 use Rattle.adapter.specs.declared.serving.ServeFault.TheVariants.{ReadFailed, Session}
-use Rattle.adapter.specs.Serving.{World, input_of, TasksEnd, IsServed}
+use Rattle.adapter.specs.Serving.{World, TasksEnd, IsServed}
 
 -- ---- What closed the session
 
@@ -44,15 +43,15 @@ OutcomeIsOfSession =
 pub record TakesWholeInput (events : List Incoming) (old later : Supply) : Type 0 where
   pub front : List Incoming
   pub events_are : events ≡ front ++ End ∷ []
-  pub whole : Consumes old.left later.left (stream_of front)
-  pub at_end : IsAtEnd later.left
+  pub whole : IsReadOf (stream_of front) old later
+  pub at_end : later.ended ≡ true
 
 -- A session that the input's end closed has taken the whole input.
 abbrev pub InputIsTakenWhole : Type 0
 InputIsTakenWhole =
     (first : FirstSeq) (wrote : Result (Unit {0}) WriteFailed) (before after : World)
     → (driven : TasksEnd first wrote (Ok closed.InputEnded) before after)
-    → TakesWholeInput driven.session.events (input_of before.streams) (input_of after.streams)
+    → TakesWholeInput driven.session.events before.streams.input after.streams.input
 
 -- a request to disconnect
 abbrev pub AsksToDisconnect : Item → Type 0
@@ -62,7 +61,7 @@ AsksToDisconnect item = (seq : ℕ) × (item ≡ Content (Some (record { seq = s
 -- taken.
 pub record TakesFirstDisconnect (client_first : FirstSeq) (events : List Incoming) (old later : Supply) : Type 0 where
   pub read : List ℕ
-  pub consumed : Consumes old.left later.left read
+  pub consumed : IsReadOf read old later
   pub begins : IsPrefixOf (stream_of events) read
   pub before : History
   pub step : Step
@@ -78,7 +77,7 @@ abbrev pub FirstDisconnectCloses : Type 0
 FirstDisconnectCloses =
     (first : FirstSeq) (wrote : Result (Unit {0}) WriteFailed) (before after : World)
     → (driven : TasksEnd first wrote (Ok closed.Disconnected) before after)
-    → TakesFirstDisconnect first driven.session.events (input_of before.streams) (input_of after.streams)
+    → TakesFirstDisconnect first driven.session.events before.streams.input after.streams.input
 
 -- ---- Runs
 

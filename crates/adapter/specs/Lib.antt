@@ -7,8 +7,12 @@ pub mod Laws
 pub mod AllRead
 -- What is answered up to a `disconnect`, or up to a framing fault.
 pub mod UpTo
+-- What the output took, however serving ended.
+pub mod Written
 -- The exit status and the last line on standard error.
 pub mod ExitReasons
+-- Each status, last line and number, as examples.
+pub mod WorkedExits
 -- What the arguments ask for.
 pub mod Arguments
 -- The text of a listing.

@@ -22,7 +22,7 @@ use Rattle.adapter.specs.Arguments.{Reads, IsParsed, refusals}
 use Rattle.adapter.specs.Checking.{IsChecked}
 use Rattle.adapter.specs.ExitReasons.{reason_of_serve, reason_of_check, reason_of_reading, last_line}
 use Rattle.adapter.specs.Listing.{line_feed}
-use Rattle.adapter.specs.Serving.{Streams, world, output_of, IsServed}
+use Rattle.adapter.specs.Serving.{Streams, world, IsServed}
 use Rattle.byte_streams.specs.Streams.{Output, WritesAll, FailsIn, WritesOrFails}
 
 -- A client that counts from `first` was served, through a gate that nothing had passed, and the reason says how that
@@ -34,16 +34,12 @@ pub record EndsServing (first : FirstSeq) (reason : ExitReason) (loads later_loa
   pub served : IsServed first outcome (world loads [] old) (world later_loads passed later)
   pub reason_is : reason ≡ reason_of_serve outcome
 
--- nothing was read
-abbrev pub KeepsInput : Streams → Streams → Type 0
-KeepsInput old later = (later.left ≡ old.left) × (later.read_failures ≡ old.read_failures)
-
 -- The file at the path was checked, and the reason says how that went.
 pub record EndsChecking (path : Text) (reason : ExitReason) (loads later_loads : List Load) (old later : Streams) : Type
     0 where
   pub outcome : Result (Unit {0}) CheckFault
-  pub checked : IsChecked path outcome loads later_loads (output_of old) (output_of later)
-  pub input : KeepsInput old later
+  pub checked : IsChecked path outcome loads later_loads old.output later.output
+  pub input : later.input ≡ old.input
   pub reason_is : reason ≡ reason_of_check outcome
 
 -- The help was written, or the output failed.
@@ -61,8 +57,8 @@ abbrev pub Performs : FirstSeq → List Text → ExitReason → List Load → Li
 Performs first arguments reason loads later_loads old later =
     (Reads arguments None × EndsServing first reason loads later_loads old later)
     ⊎ (((path : Text) × Reads arguments (Some path) × EndsChecking path reason loads later_loads old later)
-    ⊎ (((refusals arguments ≡ DisplayHelp ∷ []) × EndsHelping reason (output_of old) (output_of later)
-    × KeepsInput old later × (later_loads ≡ loads))
+    ⊎ (((refusals arguments ≡ DisplayHelp ∷ []) × EndsHelping reason old.output later.output
+    × (later.input ≡ old.input) × (later_loads ≡ loads))
     ⊎ ((later ≡ old) × EndsIdle arguments reason × (later_loads ≡ loads))))
 
 -- what is said of arguments that are not understood: some message, and then the usage

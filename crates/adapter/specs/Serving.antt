@@ -24,18 +24,15 @@ use Rattle.byte_streams.specs.declared.writing.WriteFailed.{WriteFailed}
 use Rattle.dap_wires.specs.Orders.{EnoughWerePushed}
 use Rattle.dap_wires.specs.Reading.{IsReadUntil}
 use Rattle.dap_wires.specs.Senders.{from_client, reports_among}
-use Rattle.byte_streams.specs.Streams.{Supply, supply, Output, output, WritesAll, FailsIn}
+use Rattle.byte_streams.specs.Streams.{Supply, Output, IsOfWhole, WritesAll, FailsIn}
 
--- The input's bytes left and the output's bytes written, where they are known, and how many reads and writes failed.
+-- What is known of the input and of the output.
 pub record Streams : Type 0 where
-  pub left : Option (List ℕ)
-  pub written : Option (List ℕ)
-  pub read_failures : ℕ
-  pub write_failures : ℕ
+  pub input : Supply
+  pub output : Output
 
-abbrev pub streams : Option (List ℕ) → ℕ → Option (List ℕ) → ℕ → Streams
-streams left read_failures written write_failures =
-    record { left = left; written = written; read_failures = read_failures; write_failures = write_failures }
+abbrev pub streams : Supply → Output → Streams
+streams i o = record { input = i; output = o }
 
 -- What stands outside of a run, at one moment: what the loader was asked for and returned so far, which slices passed
 -- the gate, and the streams.
@@ -46,12 +43,6 @@ pub record World : Type 0 where
 
 abbrev pub world : List Load → List (ℕ × ℕ) → Streams → World
 world loads passed streams = record { loads = loads; passed = passed; streams = streams }
-
-abbrev pub input_of : Streams → Supply
-input_of s = supply s.left s.read_failures
-
-abbrev pub output_of : Streams → Output
-output_of s = output s.written s.write_failures
 
 -- what a session has sent before it starts
 abbrev pub nothing_sent : Ports
@@ -95,12 +86,14 @@ pub record SessionSends (first : FirstSeq) (result : Result Closed SessionFault)
   pub never_gone : sent.runner_gone ≡ 0
   pub full : result ≡ Err OrdersFull → EnoughWerePushed sent.orders
 
--- The reader sent to the inbox what it read. The session took all of that, or a prefix, by the way in which it ended.
+-- The reader sent to the inbox what it read, all of it the input's own. The session took all of that, or a prefix, by
+-- the way in which it ended.
 pub record ReaderSends (result : Result Closed SessionFault) (given : List Incoming)
     (old later : Supply) : Type 0 where
   pub end : ReadEnd
   pub client : List Incoming
   pub read : IsReadUntil end client old later
+  pub of_whole : ∥ IsOfWhole later ∥₁
   pub client_taken : TakenOfSent result (from_client given) client
 
 -- The runner did these acts, from its start to its end. It took all of the orders, or a prefix, by the way in which the
@@ -127,9 +120,9 @@ pub record TasksEnd (first : FirstSeq) (wrote : Result (Unit {0}) WriteFailed) (
   pub given : List Incoming
   pub sent : Ports
   pub session : SessionSends first result given sent before.loads after.loads
-  pub reader : ReaderSends result given (input_of before.streams) (input_of after.streams)
+  pub reader : ReaderSends result given before.streams.input after.streams.input
   pub runner : RunnerActs result given sent.orders before.passed after.passed
-  pub writer : WriterWrites wrote result sent.frames (output_of before.streams) (output_of after.streams)
+  pub writer : WriterWrites wrote result sent.frames before.streams.output after.streams.output
 
 -- how serving ended, by how the writer and the session ended
 abbrev pub outcome_of : Result (Unit {0}) WriteFailed → Result Closed SessionFault → Result Served ServeFault

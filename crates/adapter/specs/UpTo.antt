@@ -1,7 +1,6 @@
 -- States what a client gets that disconnects, or whose input has a framing fault, in terms of bytes and messages alone.
 use Rattle.std.specs.Prelude.{◌≡◌, ◌++◌, ◌∷◌, [], ℕ, List, Option, Some, Ok, Err}
 use Rattle.std.specs.List.{concat, filter_map}
-use Rattle.std.specs.Io.KnownBytes.{Consumes}
 use Rattle.dap_frame.specs.Frame.{Frames}
 use Rattle.dap_frame.specs.Header.{FaultAt}
 use Rattle.dap_frame.specs.declared.fault.FramingFault.{FramingFault}
@@ -16,11 +15,11 @@ use Rattle.dap_msg.specs.declared.request.Request.{Request}
 use Rattle.dap_history.specs.declared.fault.SessionFault.TheVariants.{Frame}
 use Rattle.dap_history.specs.Laws.{AreReadAs, answered_request}
 use Rattle.dap_history.specs.Output.{frames_from}
-use Rattle.byte_streams.specs.Streams.{WritesAll}
+use Rattle.byte_streams.specs.Streams.{WritesAll, IsReadOf}
 use Rattle.adapter.specs.declared.serving.Served.TheVariants.{Disconnected}
 use Rattle.adapter.specs.declared.serving.ServeFault.TheVariants.{Session}
 use Rattle.adapter.specs.AllRead.{asked}
-use Rattle.adapter.specs.Serving.{World, input_of, output_of, IsServed}
+use Rattle.adapter.specs.Serving.{World, IsServed}
 
 -- The bytes are whole frames, whose contents are read as these, and then the rest. The answers among the messages are,
 -- in order, one for each request among the contents, under its own seq and command.
@@ -56,10 +55,10 @@ pub record AnswersToFault (fault : FramingFault) (first : FirstSeq) (bytes : Lis
 -- What was read of the input was answered so, and all messages were written whole.
 pub record AnswersRead (Answers : List ℕ → List Outgoing → Type 0) (before after : World) : Type 0 where
   pub read : List ℕ
-  pub consumed : Consumes (input_of before.streams).left (input_of after.streams).left read
+  pub consumed : IsReadOf read before.streams.input after.streams.input
   pub messages : List Outgoing
   pub answers : Answers read messages
-  pub written : WritesAll (concat (frames_from 1 messages)) (output_of before.streams) (output_of after.streams)
+  pub written : WritesAll (concat (frames_from 1 messages)) before.streams.output after.streams.output
 
 -- Where `serve` returns that the client disconnected, what was read up to the first `disconnect` was answered, and
 -- nothing after it.

@@ -45,7 +45,7 @@ Exit status:
   0  the client disconnected, its input ended, or the listing or help was printed
   1  reading or writing failed
   2  the input was not framed as the protocol asks
-  3  another refusal, such as a fault in FILE, or out of memory
+  3  another refusal, such as a mistake in FILE, or out of memory
   4  the command line was not understood
 ";
 

@@ -4,7 +4,6 @@ ghost use Rattle.std.specs.Prelude.{◌≡◌, string_bytes, Err, IfOk, IfErr};
 ghost use Rattle.pl0_tree.specs.Faults.{IsFirstFault, FaultIs};
 ghost use Rattle.pl0_tree.specs.Plain.{plain_block};
 ghost use Rattle.adapter.specs.Checking.{IsChecked, IsListingOf, IsListingOfProgram};
-ghost use Rattle.byte_streams.specs.Streams.{output as output_at};
 
 use crate::listing::listing;
 use byte_streams::{Sink, WriteFailed, write_all};
@@ -62,8 +61,7 @@ pub fn check<R: Wait, L: Loader, O: Sink>(
     output: &mut O,
 ) -> Result<(), CheckFault>
     ensures { IsChecked path.now result (L.loaded loader.old) (L.loaded loader.new)
-        (output_at (O.written output.old) (O.failures output.old))
-        (output_at (O.written output.new) (O.failures output.new)) }
+        (O.output output.old) (O.output output.new) }
 {
     check_keeping(rt, alloc, path, loader, output).outcome
 }
@@ -77,8 +75,7 @@ pub(crate) fn check_keeping<R: Wait, L: Loader, O: Sink>(
     output: &mut O,
 ) -> Checked
     ensures { IsChecked path.now result.outcome (L.loaded loader.old) (L.loaded loader.new)
-        (output_at (O.written output.old) (O.failures output.old))
-        (output_at (O.written output.new) (O.failures output.new)) }
+        (O.output output.old) (O.output output.new) }
 {
     let text = match loader.load(path) {
         Ok(text) => text,

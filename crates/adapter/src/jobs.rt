@@ -11,8 +11,8 @@ ghost use Rattle.dap_wires.specs.declared.writer_message.WriterMessage.{WriterMe
 ghost use Rattle.dap_wires.specs.Inbox.{client_events, client_queue, sent_reports, refused_reports, report_queue, taken_events, received, left_queue, event_queue};
 ghost use Rattle.dap_wires.specs.Outbox.{put_frames, frame_queue, messages_put, ended_queue, messages_taken, messages_received, received_queue, writer_queue};
 ghost use Rattle.dap_wires.specs.Orders.{pushed_orders, push_queue, taken_orders, pop_queue};
+ghost use Rattle.byte_streams.specs.Streams.{IsOfWhole};
 ghost use Rattle.dap_wires.specs.Reading.{IsReadUntil};
-ghost use Rattle.byte_streams.specs.Streams.{supply, output as output_at};
 ghost use Rattle.dap_wires.specs.Writing.{IsWrittenUntil};
 ghost use Rattle.adapter.specs.Jobs.{SessionLeaves};
 
@@ -65,8 +65,8 @@ impl<'a, I: Source, R: Wait + Drop> Task for ReaderTask<'a, I, R> {
 
     ghost gives = { λ t r. (r.0.ghost_name ≡ t.input.ghost_name) × (client_queue r.1 ≡ client_queue t.inbox)
         × ((sent : List Incoming) × (client_events r.1 ≡ client_events t.inbox ++ sent)
-        × IsReadUntil r.2 sent (supply (I.left t.input.now) (I.failures t.input.now)) (supply (I.left r.0.now)
-        (I.failures r.0.now))) };
+        × IsReadUntil r.2 sent (I.supply t.input.now) (I.supply r.0.now))
+        × ∥ IsOfWhole (I.supply r.0.now) ∥₁ };
 
     fn run(self) -> (&'a mut I, ClientSender<R>, ReadEnd) {
         let ReaderTask {
@@ -106,8 +106,7 @@ impl<'a, O: Sink, R: Wait + Drop> Task for WriterTask<'a, O, R> {
 
     ghost gives = { λ t r. (r.0.ghost_name ≡ t.output.ghost_name) × (received_queue r.1 ≡ writer_queue t.outbox)
         × ((taken : List WriterMessage) × (messages_received r.1 ≡ messages_taken t.outbox ++ taken)
-        × IsWrittenUntil r.2 taken (output_at (O.written t.output.now) (O.failures t.output.now)) (output_at
-        (O.written r.0.now) (O.failures r.0.now))) };
+        × IsWrittenUntil r.2 taken (O.output t.output.now) (O.output r.0.now)) };
 
     fn run(self) -> (&'a mut O, OutboxLog, Result<(), WriteFailed>) {
         let WriterTask {

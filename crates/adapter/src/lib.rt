@@ -24,12 +24,14 @@ mod serving;
 mod tasks;
 mod telling;
 
-pub use byte_streams::{IoFault, ReadFault, Reading, Sink, Source, Writing, read_beginning};
+pub use byte_streams::{
+    ByteLog, IoFault, ReadFault, Reading, Sink, Source, Writing, read_beginning,
+};
 pub use checking::{CheckFault, check};
 pub use dap_session::FirstSeq;
 pub use exit_reason::{ExitReason, end_of_check, end_of_serve};
 pub use files::FileLoader;
-pub use laws::serving_laws;
+pub use laws::{serving_laws, worked_exits};
 pub use program::{execute, run, run_process};
 pub use reporting::say_reason;
 pub use serving::{ServeFault, Served, serve, serve_counting_from};

@@ -11,7 +11,6 @@ ghost use Rattle.adapter.specs.Checking.{IsChecked};
 ghost use Rattle.adapter.specs.ExitReasons.{reason_of_check, status_of};
 ghost use Rattle.adapter.specs.Running.{EndsServing, Reports, Executes, Runs, EndsHelping, given_of};
 ghost use Rattle.adapter.specs.Serving.{streams};
-ghost use Rattle.byte_streams.specs.Streams.{output as output_at};
 
 use crate::arguments::{ArgumentsFault, HELP, Invocation, parse_arguments};
 use crate::checking::{CheckFault, check_keeping};
@@ -20,7 +19,7 @@ use crate::exit_reason::{
 };
 use crate::files::FileLoader;
 use crate::gates::OpenGate;
-use crate::reporting::{EndReporter, note_mistake, report};
+use crate::reporting::{EndReporter, note_mistake, note_unread, report};
 use crate::serving::{end_loan, serve_counting_from};
 use byte_streams::{Sink, Source, WriteFailed, borrow_texts, collect_arguments, write_all};
 use dap_session::{FirstSeq, Loader};
@@ -48,10 +47,8 @@ where
     O: Sink + Send,
     E: Sink,
     ensures { (reason : ExitReason) × (exit_status result ≡ status_of reason) × Runs first (given_of given) reason
-        (streams (I.left input.old) (I.failures input.old) (O.written output.old) (O.failures output.old))
-        (streams (I.left input.new) (I.failures input.new) (O.written output.new) (O.failures output.new))
-        (output_at (E.written errors.old) (E.failures errors.old))
-        (output_at (E.written errors.new) (E.failures errors.new)) }
+        (streams (I.supply input.old) (O.output output.old)) (streams (I.supply input.new) (O.output output.new))
+        (E.output errors.old) (E.output errors.new) }
 {
     ExitCode::from(run(rt, first, given, input, output, errors).status())
 }
@@ -73,10 +70,8 @@ where
     O: Sink + Send,
     E: Sink,
     ensures { Runs first (given_of given) result
-        (streams (I.left input.old) (I.failures input.old) (O.written output.old) (O.failures output.old))
-        (streams (I.left input.new) (I.failures input.new) (O.written output.new) (O.failures output.new))
-        (output_at (E.written errors.old) (E.failures errors.old))
-        (output_at (E.written errors.new) (E.failures errors.new)) }
+        (streams (I.supply input.old) (O.output output.old)) (streams (I.supply input.new) (O.output output.new))
+        (E.output errors.old) (E.output errors.new) }
 {
     match given {
         Ok(given) => run_given(rt, first, given, input, output, errors),
@@ -99,10 +94,8 @@ where
     O: Sink + Send,
     E: Sink,
     ensures { (loads : List Load) × Executes first (map string_bytes (into_iter_items given)) result [] loads
-        (streams (I.left input.old) (I.failures input.old) (O.written output.old) (O.failures output.old))
-        (streams (I.left input.new) (I.failures input.new) (O.written output.new) (O.failures output.new))
-        (output_at (E.written errors.old) (E.failures errors.old))
-        (output_at (E.written errors.new) (E.failures errors.new)) }
+        (streams (I.supply input.old) (O.output output.old)) (streams (I.supply input.new) (O.output output.new))
+        (E.output errors.old) (E.output errors.new) }
 {
     let Ok(given) = collect_arguments(rt.alloc(), given) else {
         return end_with(rt, &[], ExitReason::NoMemory, errors);
@@ -128,10 +121,8 @@ where
     O: Sink + Send,
     E: Sink,
     ensures { (loads : List Load) × Executes first (map (λ argument. argument.now) arguments.entry.now) result [] loads
-        (streams (I.left input.old) (I.failures input.old) (O.written output.old) (O.failures output.old))
-        (streams (I.left input.new) (I.failures input.new) (O.written output.new) (O.failures output.new))
-        (output_at (E.written errors.old) (E.failures errors.old))
-        (output_at (E.written errors.new) (E.failures errors.new)) }
+        (streams (I.supply input.old) (O.output output.old)) (streams (I.supply input.new) (O.output output.new))
+        (E.output errors.old) (E.output errors.new) }
 {
     let asked = parse_arguments(rt.alloc(), arguments);
     let mut files = match asked {
@@ -163,10 +154,8 @@ where
     E: Sink,
     ensures { Executes first (map (λ argument. argument.now) arguments.entry.now) result (L.loaded loader.old)
         (L.loaded loader.new)
-        (streams (I.left input.old) (I.failures input.old) (O.written output.old) (O.failures output.old))
-        (streams (I.left input.new) (I.failures input.new) (O.written output.new) (O.failures output.new))
-        (output_at (E.written errors.old) (E.failures errors.old))
-        (output_at (E.written errors.new) (E.failures errors.new)) }
+        (streams (I.supply input.old) (O.output output.old)) (streams (I.supply input.new) (O.output output.new))
+        (E.output errors.old) (E.output errors.new) }
 {
     let asked = parse_arguments(rt.alloc(), arguments);
     carry_out(rt, first, arguments, asked, loader, input, output, errors)
@@ -192,10 +181,8 @@ where
     requires { IsParsed (map (λ argument. argument.now) arguments.now) asked }
     ensures { Executes first (map (λ argument. argument.now) arguments.entry.now) result (L.loaded loader.old)
         (L.loaded loader.new)
-        (streams (I.left input.old) (I.failures input.old) (O.written output.old) (O.failures output.old))
-        (streams (I.left input.new) (I.failures input.new) (O.written output.new) (O.failures output.new))
-        (output_at (E.written errors.old) (E.failures errors.old))
-        (output_at (E.written errors.new) (E.failures errors.new)) }
+        (streams (I.supply input.old) (O.output output.old)) (streams (I.supply input.new) (O.output output.new))
+        (E.output errors.old) (E.output errors.new) }
 {
     let reason = match asked {
         Ok(Invocation::Serve) => return serve_client(rt, first, loader, input, output, errors),
@@ -214,9 +201,7 @@ fn end_with<R: Wait + Eprint + AllocGlobal, E: Sink>(
     errors: &mut E,
 ) -> ExitReason
     ensures reason { result ≡ reason }
-    ensures reports { Reports result
-        (output_at (E.written errors.old) (E.failures errors.old))
-        (output_at (E.written errors.new) (E.failures errors.new)) }
+    ensures reports { Reports result (E.output errors.old) (E.output errors.new) }
 {
     report(rt, arguments, reason, errors);
     reason
@@ -238,11 +223,8 @@ where
     O: Sink + Send,
     E: Sink,
     ensures served { EndsServing first result (L.loaded loader.old) (L.loaded loader.new)
-        (streams (I.left input.old) (I.failures input.old) (O.written output.old) (O.failures output.old))
-        (streams (I.left input.new) (I.failures input.new) (O.written output.new) (O.failures output.new)) }
-    ensures reports { Reports result
-        (output_at (E.written errors.old) (E.failures errors.old))
-        (output_at (E.written errors.new) (E.failures errors.new)) }
+        (streams (I.supply input.old) (O.output output.old)) (streams (I.supply input.new) (O.output output.new)) }
+    ensures reports { Reports result (E.output errors.old) (E.output errors.new) }
 {
     let alloc = rt.alloc();
     let gate = &mut OpenGate::new();
@@ -260,21 +242,22 @@ where
     O: Sink,
     ensures { (outcome : Result (Unit {0}) CheckFault) × (result ≡ reason_of_check outcome)
         × IsChecked file.now outcome (L.loaded loader.old) (L.loaded loader.new)
-        (output_at (O.written output.old) (O.failures output.old))
-        (output_at (O.written output.new) (O.failures output.new)) }
+        (O.output output.old) (O.output output.new) }
 {
     let checked = check_keeping(rt, rt.alloc(), file, loader, output);
-    if let Err(CheckFault::Syntax { kind, place }) = checked.outcome {
-        note_mistake(rt, file, checked.text.as_slice(), kind, place);
+    match checked.outcome {
+        Err(CheckFault::Syntax { kind, place }) => {
+            note_mistake(rt, file, checked.text.as_slice(), kind, place);
+        }
+        Err(CheckFault::CannotRead) => note_unread(rt, file),
+        Ok(()) | Err(_) => {}
     }
     end_of_check(&checked.outcome)
 }
 
 /// Writes the help to `output`.
 fn show_help<O: Sink>(rt: &impl Wait, output: &mut O) -> ExitReason
-    ensures { EndsHelping result
-        (output_at (O.written output.old) (O.failures output.old))
-        (output_at (O.written output.new) (O.failures output.new)) }
+    ensures { EndsHelping result (O.output output.old) (O.output output.new) }
 {
     match write_all(rt, output, HELP.as_bytes()) {
         Ok(()) => end_of_arguments(ArgumentsFault::Help),

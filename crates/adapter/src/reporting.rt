@@ -5,7 +5,7 @@ ghost use Rattle.adapter.specs.declared.exit_reason.ExitReason.TheVariants.{Synt
 ghost use Rattle.adapter.specs.ExitReasons.{last_line, reason_of_serve};
 ghost use Rattle.adapter.specs.Listing.{line_feed};
 ghost use Rattle.adapter.specs.Running.{Reports, IsUsage};
-ghost use Rattle.byte_streams.specs.Streams.{WritesOrFails, output as output_at};
+ghost use Rattle.byte_streams.specs.Streams.{WritesOrFails};
 
 use crate::arguments::{USAGE, objection};
 use crate::exit_reason::{ExitReason, end_of_serve};
@@ -19,6 +19,9 @@ use pl0_mistakes::mistake_line;
 use pl0_tree::{FaultKind, Place};
 use std::alloc::{AllocError, Global};
 use std::sync::Wait;
+
+/// What standard error gets first where an argument is no text.
+const NOT_TEXT: &str = "pl0dap: an argument is not text\n";
 
 /// Reports how serving ended on an output that was lent.
 #[derive(Drop)]
@@ -48,8 +51,8 @@ impl<'a, R, E> EndReporter<'a, R, E> {
 impl<'a, R: Wait + Eprint + AllocGlobal, E: Sink> EndListener for EndReporter<'a, R, E> {
     ghost tells = { λ old later outcome. (later.errors.ghost_name ≡ old.errors.ghost_name)
         × Reports (reason_of_serve outcome)
-        (output_at (E.written old.errors.now) (E.failures old.errors.now))
-        (output_at (E.written later.errors.now) (E.failures later.errors.now)) };
+        (E.output old.errors.now)
+        (E.output later.errors.now) };
 
     fn tell(&mut self, outcome: Result<Served, ServeFault>) {
         report(self.rt, &[], end_of_serve(&outcome), self.errors);
@@ -63,20 +66,21 @@ pub(crate) fn report<R: Wait + Eprint + AllocGlobal, E: Sink>(
     reason: ExitReason,
     errors: &mut E,
 )
-    ensures { Reports reason
-        (output_at (E.written errors.old) (E.failures errors.old))
-        (output_at (E.written errors.new) (E.failures errors.new)) }
+    ensures { Reports reason (E.output errors.old) (E.output errors.new) }
 {
     log_end(rt, reason);
     say_reason(rt, arguments, reason, errors);
 }
 
-/// Writes the reason to the log, unless nothing failed, or standard error has it in words: the usage, or the mistake of
-/// a program text, which was noted before. On standard error it stands before the last line.
+/// Writes the reason to the log, unless nothing failed, or standard error has it in words: the usage, the mistake of a
+/// program text, or a file that can't be read, which were noted before. On standard error it stands before the last line.
 fn log_end<R: Eprint>(rt: &R, reason: ExitReason) {
     let is_unlogged = matches!(
         reason,
-        ExitReason::Success | ExitReason::NotUnderstood | ExitReason::Syntax { .. }
+        ExitReason::Success
+            | ExitReason::NotUnderstood
+            | ExitReason::Syntax { .. }
+            | ExitReason::CannotRead
     );
     if !is_unlogged {
         let notes = Logged::new(rt, Level::Error, Console(rt));
@@ -92,9 +96,7 @@ pub fn say_reason<R: Wait + AllocGlobal, E: Sink>(
     reason: ExitReason,
     errors: &mut E,
 )
-    ensures { Reports reason
-        (output_at (E.written errors.old) (E.failures errors.old))
-        (output_at (E.written errors.new) (E.failures errors.new)) }
+    ensures { Reports reason (E.output errors.old) (E.output errors.new) }
 {
     match reason {
         ExitReason::Success => {}
@@ -126,11 +128,16 @@ pub(crate) fn note_mistake<R: Eprint + AllocGlobal>(
     }
 }
 
+/// Writes to standard error which file can't be read.
+pub(crate) fn note_unread(rt: &impl Eprint, file: &str) {
+    for text in [file, ": error: the file can't be read\n"] {
+        let _ = rt.eprint(text);
+    }
+}
+
 /// Writes `text`, the number in decimal, and a line feed.
 fn say_number<E: Sink>(rt: &impl Wait, errors: &mut E, text: &str, number: u8)
-    ensures { WritesOrFails (text.now ++ (decimal number ++ line_feed))
-        (output_at (E.written errors.old) (E.failures errors.old))
-        (output_at (E.written errors.new) (E.failures errors.new)) }
+    ensures { WritesOrFails (text.now ++ (decimal number ++ line_feed)) (E.output errors.old) (E.output errors.new) }
 {
     let mut digits = Buffer::new();
     say(rt, errors, &[text, digits.format(number), "\n"]);
@@ -139,8 +146,7 @@ fn say_number<E: Sink>(rt: &impl Wait, errors: &mut E, text: &str, number: u8)
 /// Writes the last line for a fault of a program text.
 fn say_syntax<E: Sink>(rt: &impl Wait, errors: &mut E, number: u8, place: Place)
     ensures { WritesOrFails (last_line (Syntax number place) ++ line_feed)
-        (output_at (E.written errors.old) (E.failures errors.old))
-        (output_at (E.written errors.new) (E.failures errors.new)) }
+        (E.output errors.old) (E.output errors.new) }
 {
     let mut digits = Buffer::new();
     let mut line = Buffer::new();
@@ -157,12 +163,14 @@ fn say_syntax<E: Sink>(rt: &impl Wait, errors: &mut E, number: u8, place: Place)
     say(rt, errors, &texts);
 }
 
-/// Writes what was wrong with the arguments, where there is memory for it, and then the usage.
+/// Writes what was wrong with the arguments, where there is memory for it, and then the usage. There are no arguments
+/// where one of them is no text.
 fn say_usage<R: Wait + AllocGlobal, E: Sink>(rt: &R, errors: &mut E, arguments: &[&str])
-    ensures { (text : List ℕ) × IsUsage text × WritesOrFails text
-        (output_at (E.written errors.old) (E.failures errors.old))
-        (output_at (E.written errors.new) (E.failures errors.new)) }
+    ensures { (text : List ℕ) × IsUsage text × WritesOrFails text (E.output errors.old) (E.output errors.new) }
 {
+    if arguments.is_empty() {
+        return say(rt, errors, &[NOT_TEXT, USAGE]);
+    }
     match objection(rt.alloc(), arguments) {
         Ok(message) => say(rt, errors, &[message.as_str(), USAGE]),
         Err(AllocError) => say(rt, errors, &[USAGE]),

@@ -68,9 +68,9 @@ where
     G: Gate + Send,
     ensures { IsServed FirstSeq.One result
         (world (L.loaded loader.old) (G.passed gate.old)
-        (streams (I.left input.old) (I.failures input.old) (O.written output.old) (O.failures output.old)))
+        (streams (I.supply input.old) (O.output output.old)))
         (world (L.loaded loader.new) (G.passed gate.new)
-        (streams (I.left input.new) (I.failures input.new) (O.written output.new) (O.failures output.new))) }
+        (streams (I.supply input.new) (O.output output.new))) }
 {
     serve_counting_from(
         rt,
@@ -109,9 +109,9 @@ where
     E: EndListener,
     ensures served { IsServed first result
         (world (L.loaded loader.old) (G.passed gate.old)
-        (streams (I.left input.old) (I.failures input.old) (O.written output.old) (O.failures output.old)))
+        (streams (I.supply input.old) (O.output output.old)))
         (world (L.loaded loader.new) (G.passed gate.new)
-        (streams (I.left input.new) (I.failures input.new) (O.written output.new) (O.failures output.new))) }
+        (streams (I.supply input.new) (O.output output.new))) }
     ensures told { E.tells listener.old listener.new result }
 {
     match Wires::new(*rt, alloc) {
@@ -145,9 +145,9 @@ where
     requires joined { AreJoined wires }
     ensures served { IsServed first result
         (world (L.loaded loader.old) (G.passed gate.old)
-        (streams (I.left input.old) (I.failures input.old) (O.written output.old) (O.failures output.old)))
+        (streams (I.supply input.old) (O.output output.old)))
         (world (L.loaded loader.new) (G.passed gate.new)
-        (streams (I.left input.new) (I.failures input.new) (O.written output.new) (O.failures output.new))) }
+        (streams (I.supply input.new) (O.output output.new))) }
     ensures told { E.tells listener.old listener.new result }
 {
     let (writer, runner, reader, session) = tasks_over(

@@ -1,19 +1,22 @@
 -- What was read of a beginning so far.
-use Rattle.std.proofs.Common.{◌≡◌, ◌<◌, ◌≤◌, ℕ, List, [], Option, sym, subst, append-nil, take, length}
-use Rattle.std.specs.Io.KnownBytes.{Consumes, IsAtEnd}
-use Rattle.std.proofs.KnownBytes.{Consumes-trans as consumes_both}
+use Rattle.std.proofs.Common.{◌≡◌, ◌<◌, ◌≤◌, ℕ, true, List, [], sym, subst, append-nil, take, length}
 use Rattle.std.proofs.lemmas.List.{take_all}
 use Rattle.byte_streams.specs.Beginning.{BeginsWith, beginning_limit}
+use Rattle.byte_streams.specs.Streams.{Supply, Appends, IsOfWhole}
+use Rattle.byte_streams.proofs.Appending.{appends_both}
 
 -- all bytes, where a read gave none
-pub begins_whole : (bytes : List ℕ) (old mid later : Option (List ℕ)) (n : ℕ) (room : List ℕ) → Consumes old mid bytes
-    → Consumes mid later (take n room) × (n ≡ 0 → 0 < length room → IsAtEnd later) → n ≡ 0 → 0 < length room
-    → length bytes ≤ beginning_limit
-    → BeginsWith bytes old later
-begins_whole bytes old mid later n room before got none some short = record {
+pub begins_whole : (bytes : List ℕ) (old mid later : Supply) (n : ℕ) (room : List ℕ) → Appends old.read mid.read bytes
+    → Appends mid.read later.read (take n room) × (n ≡ 0 → 0 < length room → later.ended ≡ true) → n ≡ 0
+    → 0 < length room → length bytes ≤ beginning_limit → ∥ IsOfWhole later ∥₁ → BeginsWith bytes old later
+begins_whole bytes old mid later n room before got none some short of_whole = record {
   read = bytes;
-  consumed = subst (Consumes old later) (append-nil bytes)
-      (consumes_both old mid later bytes [] before (subst (λ k. Consumes mid later (take k room)) none got.0));
+  consumed = record {
+    appended = subst (Appends old.read later.read) (append-nil bytes)
+        (appends_both old.read mid.read later.read bytes [] before
+        (subst (λ k. Appends mid.read later.read (take k room)) none got.0));
+    of_whole = of_whole;
+  };
   bytes_are = sym (take_all beginning_limit bytes short);
-  whole = λ less. got.1 none some;
+  all = λ less. got.1 none some;
 }

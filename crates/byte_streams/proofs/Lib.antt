@@ -2,3 +2,9 @@
 pub mod Transferring
 -- What was read so far is a beginning of the bytes; for `read_beginning`.
 pub mod Beginnings
+-- Bytes that come behind those before; for the others, and for the crates above.
+pub mod Appending
+-- The bytes that a stream knows are those that std's stream tells; for `read` and `write`.
+pub mod Noting
+-- Steps of the walk of `ByteLog::new`.
+pub mod Walks

@@ -1,21 +1,20 @@
 -- What was written of some bytes so far.
-use Rattle.std.proofs.Common.{◌≡◌, ◌<◌, ◌+◌, ℕ, List, [], ◌∷◌, ◌++◌, Option, sym, ◌∙◌, ap, subst, append_assoc, append-nil, take, drop, length, get_or, add-one}
+use Rattle.std.proofs.Common.{◌≡◌, ◌<◌, ◌+◌, ℕ, List, [], ◌∷◌, ◌++◌, sym, ◌∙◌, ap, subst, append_assoc, append-nil, take, drop, length, get_or, add-one}
 use Rattle.std.specs.Prelude.{map}
 use Rattle.std.specs.List.{concat}
-use Rattle.std.specs.Io.KnownBytes.{Appends}
 use Rattle.std.proofs.Math.Seq.{take-suc}
 use Rattle.std.proofs.lemmas.List.{take-append-drop, map-append}
 use Rattle.std.proofs.lemmas.List.Folds.{concat-append}
-use Rattle.byte_streams.specs.Streams.{AppendsPart}
-use Rattle.std.proofs.KnownBytes.{Appends-trans as appends_both}
+use Rattle.byte_streams.specs.Streams.{StreamLog, Appends, AppendsPart}
+use Rattle.byte_streams.proofs.Appending.{appends_both}
 
 -- the front of these bytes was written, and this rest is left
-pub record Partly (whole rest : List ℕ) (old later : Option (List ℕ)) : Type 0 where
+pub record Partly (whole rest : List ℕ) (old later : StreamLog) : Type 0 where
   pub front : List ℕ
   pub whole_is : whole ≡ front ++ rest
   pub written : Appends old later front
 
-pub partly_goes_on : (whole rest shorter : List ℕ) (old mid later : Option (List ℕ)) (n : ℕ) → Partly whole rest old mid
+pub partly_goes_on : (whole rest shorter : List ℕ) (old mid later : StreamLog) (n : ℕ) → Partly whole rest old mid
     → Appends mid later (take n rest) → shorter ≡ drop n rest → Partly whole shorter old later
 partly_goes_on whole rest shorter old mid later n p wrote shorter_is = record {
   front = p.front ++ take n rest;
@@ -26,7 +25,7 @@ partly_goes_on whole rest shorter old mid later n p wrote shorter_is = record {
 }
 
 -- one frame more after those before
-pub part_of_more : (old mid later : Option (List ℕ)) (before bytes behind : List ℕ) → Appends old mid before
+pub part_of_more : (old mid later : StreamLog) (before bytes behind : List ℕ) → Appends old mid before
     → AppendsPart mid later bytes → AppendsPart old later (before ++ (bytes ++ behind))
 part_of_more old mid later before bytes behind wrote part = (
   before ++ part.0,
@@ -53,7 +52,7 @@ concat_map-next f xs i x within is =
     ∙ ap (λ l. concat (map f (take i xs)) ++ l) (append-nil (f (get_or xs i x)) ∙ ap f (sym is))
 
 -- the frame at i was written in part
-pub frames_stop : {A : Type 0} (f : A → List ℕ) (xs : List A) (i : ℕ) (x : A) (old mid later : Option (List ℕ))
+pub frames_stop : {A : Type 0} (f : A → List ℕ) (xs : List A) (i : ℕ) (x : A) (old mid later : StreamLog)
     → i < length xs → x ≡ get_or xs i x
     → Appends old mid (concat (map f (take i xs))) → AppendsPart mid later (f x)
     → AppendsPart old later (concat (map f xs))
@@ -68,7 +67,7 @@ frames_stop f xs i x old mid later within is wrote part =
         ∙ ap (λ l. l ++ concat (map f (drop (i + 1) xs))) (concat_map-next f xs i x within is)
         ∙ append_assoc (concat (map f (take i xs))) (f x) (concat (map f (drop (i + 1) xs)))
 
-pub frames_go_on : {A : Type 0} (f : A → List ℕ) (xs : List A) (i : ℕ) (x : A) (old mid later : Option (List ℕ))
+pub frames_go_on : {A : Type 0} (f : A → List ℕ) (xs : List A) (i : ℕ) (x : A) (old mid later : StreamLog)
     → i < length xs → x ≡ get_or xs i x
     → Appends old mid (concat (map f (take i xs))) → Appends mid later (f x)
     → Appends old later (concat (map f (take (i + 1) xs)))

@@ -34,11 +34,11 @@ pub fn read_beginning<R: Wait, S: Source>(
     alloc: Global,
     source: &mut S,
 ) -> Result<Vec<u8>, ReadFault>
-    ensures bytes { IfOk result (λ bytes. BeginsWith bytes.items (S.left source.old) (S.left source.new)) }
+    ensures bytes { IfOk result (λ bytes. BeginsWith bytes.items (S.supply source.old) (S.supply source.new)) }
     ensures short { IfOk result (λ bytes. length bytes.items ≤ beginning_limit) }
-    ensures ok { OnOk result (S.failures source.new ≡ S.failures source.old) }
-    ensures cannot_read { result ≡ Err CannotRead → S.failures source.old < S.failures source.new }
-    ensures no_memory { result ≡ Err NoMemory → S.failures source.new ≡ S.failures source.old }
+    ensures ok { OnOk result ((S.supply source.new).failures ≡ (S.supply source.old).failures) }
+    ensures cannot_read { result ≡ Err CannotRead → (S.supply source.old).failures < (S.supply source.new).failures }
+    ensures no_memory { result ≡ Err NoMemory → (S.supply source.new).failures ≡ (S.supply source.old).failures }
 {
     let mut bytes = Vec::new(alloc);
     let mut room = [0; ROOM];

@@ -1,6 +1,10 @@
 //! Sources and sinks of bytes, and one of each over std's `Read` and `Write`.
-ghost use Rattle.std.specs.Prelude.{◌≡◌, ◌≢◌, ◌⊎◌, ◌+◌};
+ghost use Rattle.std.specs.Prelude.{◌≡◌, ◌≢◌, ◌⊎◌, ◌+◌, [], Some, false};
+ghost use Rattle.std.specs.Io.KnownBytes.{Appends as AppendsKnown};
+ghost use Rattle.byte_streams.specs.Streams.{HasGiven};
+ghost use Rattle.std.proofs.Math.Logic.{∥∥₁_map};
 
+use crate::byte_log::ByteLog;
 use crate::counting::next_count;
 use std::io::{self, ErrorKind, Read, Write};
 use std::sync::Wait;
@@ -21,15 +25,12 @@ pub enum IoFault {
 
 /// Where bytes come from.
 pub trait Source {
-    ghost use Rattle.std.specs.Prelude.{◌≡◌, ◌<◌, ◌≤◌, ℕ, List, Option, length, Err, IfOk, OnOk};
-    ghost use Rattle.std.specs.Io.KnownBytes.{ReadConsumes};
+    ghost use Rattle.std.specs.Prelude.{◌≡◌, ◌<◌, ◌≤◌, length, Err, IfOk, OnOk, OnErr};
+    ghost use Rattle.byte_streams.specs.Streams.{Supply, ReadGives, IsOfWhole};
     ghost use Rattle.byte_streams.specs.declared.streams.IoFault.TheVariants.{Failed, Interrupted};
 
-    /// The bytes that are left to read, where they are known.
-    ghost left: { Self → Option (List ℕ) };
-
-    /// How many reads failed.
-    ghost failures: { Self → ℕ };
+    /// What its reads gave so far, whether one of them found the end, and how many failed.
+    ghost supply: { Self → Supply };
 
     /// Reads some bytes into the front of `room`, and returns how many. It returns 0 only at the end, or where `room` is
     /// empty.
@@ -39,23 +40,25 @@ pub trait Source {
     /// `Failed` and `Interrupted`: no byte was read.
     fn read(&mut self, room: &mut [u8]) -> Result<usize, IoFault>
         ensures within { IfOk result (λ n. n ≤ length room.old) }
-        ensures bytes { ReadConsumes (left self.old) (left self.new) result room.new }
-        ensures kept { OnOk result (failures self.new ≡ failures self.old) }
-        ensures failed { result ≡ Err Failed → failures self.old < failures self.new }
-        ensures interrupted { result ≡ Err Interrupted → failures self.new ≡ failures self.old };
+        ensures bytes { ReadGives (supply self.old) (supply self.new) result room.new }
+        ensures goes_on { IfOk result (λ n. 0 < n → (supply self.new).ended ≡ (supply self.old).ended) }
+        ensures stays { OnErr result ((supply self.new).ended ≡ (supply self.old).ended) }
+        ensures kept { OnOk result ((supply self.new).failures ≡ (supply self.old).failures) }
+        ensures failed { result ≡ Err Failed → (supply self.old).failures < (supply self.new).failures }
+        ensures interrupted { result ≡ Err Interrupted → (supply self.new).failures ≡ (supply self.old).failures };
+
+    /// Its reads gave no other bytes than those that it had, in order, where these are known.
+    ghost of_whole: { (s : Self) → ∥ IsOfWhole (supply s) ∥₁ };
 }
 
 /// Where bytes go.
 pub trait Sink {
-    ghost use Rattle.std.specs.Prelude.{◌≡◌, ◌<◌, ◌≤◌, ℕ, List, Option, length, Ok, Err, IfOk};
-    ghost use Rattle.std.specs.Io.KnownBytes.{WriteAppends};
+    ghost use Rattle.std.specs.Prelude.{◌≡◌, ◌<◌, ◌≤◌, length, Ok, Err, IfOk};
+    ghost use Rattle.byte_streams.specs.Streams.{Output, WriteTakes};
     ghost use Rattle.byte_streams.specs.declared.streams.IoFault.TheVariants.{Failed, Interrupted};
 
-    /// The bytes written so far, where they are known.
-    ghost written: { Self → Option (List ℕ) };
-
-    /// How many writes failed. A write that takes none of one or more bytes is one of them.
-    ghost failures: { Self → ℕ };
+    /// What its writes took so far, and how many failed. A write that takes none of one or more bytes is one of them.
+    ghost output: { Self → Output };
 
     /// Writes a prefix of `bytes`, and returns its length.
     ///
@@ -64,11 +67,12 @@ pub trait Sink {
     /// `Failed` and `Interrupted`: no byte was written.
     fn write(&mut self, bytes: &[u8]) -> Result<usize, IoFault>
         ensures within { IfOk result (λ n. n ≤ length bytes.now) }
-        ensures bytes { WriteAppends (written self.old) (written self.new) result bytes.now }
-        ensures kept { IfOk result (λ n. 0 < n → failures self.new ≡ failures self.old) }
-        ensures nothing { result ≡ Ok 0 → 0 < length bytes.now → failures self.old < failures self.new }
-        ensures failed { result ≡ Err Failed → failures self.old < failures self.new }
-        ensures interrupted { result ≡ Err Interrupted → failures self.new ≡ failures self.old };
+        ensures bytes { WriteTakes (output self.old) (output self.new) result bytes.now }
+        ensures kept { IfOk result (λ n. 0 < n → (output self.new).failures ≡ (output self.old).failures) }
+        ensures nothing { result ≡ Ok 0 → 0 < length bytes.now
+            → (output self.old).failures < (output self.new).failures }
+        ensures failed { result ≡ Err Failed → (output self.old).failures < (output self.new).failures }
+        ensures interrupted { result ≡ Err Interrupted → (output self.new).failures ≡ (output self.old).failures };
 }
 
 /// A source over std's `Read`. Where that doesn't block and has nothing to read, a read takes a pause and then says that it
@@ -77,31 +81,51 @@ pub trait Sink {
 pub struct Reading<'a, R: Wait, I: Read + Drop> {
     rt: &'a R,
     inner: I,
+    given: ByteLog<I>,
+    ended: bool,
     failures: u64,
+    ghost gives: { ∥ HasGiven (I.remaining given.first) (I.remaining inner) given.bytes ended ∥₁ },
 }
 
 impl<'a, R: Wait, I: Read + Drop> Reading<'a, R, I> {
-    /// A source of which no read has failed yet.
+    /// A source of which no read has given a byte, found the end or failed yet.
     pub fn new(rt: &'a R, inner: I) -> Reading<'a, R, I>
         ensures inner { result.inner ≡ inner }
+        ensures first { result.given.first ≡ inner }
+        ensures given { result.given.bytes ≡ [] }
+        ensures ended { result.ended ≡ false }
         ensures failures { result.failures ≡ 0 }
     {
+        let given = ByteLog::new(&inner);
         Reading {
             rt,
             inner,
+            given,
+            ended: false,
             failures: 0,
         }
     }
 }
 
 impl<R: Wait + Clock, I: Read + Drop> Source for Reading<'_, R, I> {
-    ghost left = { λ s. I.remaining s.inner };
+    ghost supply = { λ s. record {
+      read = record { first = I.remaining s.given.first; bytes = s.given.bytes };
+      ended = s.ended;
+      failures = s.failures;
+    } };
 
-    ghost failures = { λ s. s.failures };
+    ghost of_whole = { λ s. ∥∥₁_map s.gives (λ gives. (I.remaining s.inner, gives)) };
 
     fn read(&mut self, room: &mut [u8]) -> Result<usize, IoFault> {
         match self.inner.read(room) {
-            Ok(count) => Ok(count),
+            Ok(0) if !room.is_empty() => {
+                self.ended = true;
+                Ok(0)
+            }
+            Ok(count) => {
+                self.given.note(room.split_at(count).0);
+                Ok(count)
+            }
             Err(error) => {
                 let fault = io_fault(self.rt, &error);
                 self.failures = counted(self.rt, fault, self.failures);
@@ -118,34 +142,43 @@ impl<R: Wait + Clock, I: Read + Drop> Source for Reading<'_, R, I> {
 pub struct Writing<'a, R: Wait, O: Write + Drop> {
     rt: &'a R,
     inner: O,
+    taken: ByteLog<O>,
     failures: u64,
+    ghost takes: { ∥ AppendsKnown (O.contents taken.first) (O.contents inner) taken.bytes ∥₁ },
 }
 
 impl<'a, R: Wait, O: Write + Drop> Writing<'a, R, O> {
-    /// A sink of which no write has failed yet.
+    /// A sink of which no write has taken a byte or failed yet.
     pub fn new(rt: &'a R, inner: O) -> Writing<'a, R, O>
         ensures inner { result.inner ≡ inner }
+        ensures first { result.taken.first ≡ inner }
+        ensures taken { result.taken.bytes ≡ [] }
         ensures failures { result.failures ≡ 0 }
     {
+        let taken = ByteLog::new(&inner);
         Writing {
             rt,
             inner,
+            taken,
             failures: 0,
         }
     }
 
-    /// Returns what it writes to.
+    /// Returns what it writes to. Behind what that held at first are the bytes that writes took, where it tells.
     pub fn inner(&self) -> &O
-        ensures { result.now ≡ self.now.inner }
+        ensures inner { result.now ≡ self.now.inner }
+        ensures contents { ∥ AppendsKnown (O.contents self.now.taken.first) (O.contents result.now)
+            self.now.taken.bytes ∥₁ }
     {
         &self.inner
     }
 }
 
 impl<R: Wait + Clock, O: Write + Drop> Sink for Writing<'_, R, O> {
-    ghost written = { λ s. O.contents s.inner };
-
-    ghost failures = { λ s. s.failures };
+    ghost output = { λ s. record {
+      written = record { first = O.contents s.taken.first; bytes = s.taken.bytes };
+      failures = s.failures;
+    } };
 
     fn write(&mut self, bytes: &[u8]) -> Result<usize, IoFault> {
         match self.inner.write(bytes) {
@@ -153,7 +186,10 @@ impl<R: Wait + Clock, O: Write + Drop> Sink for Writing<'_, R, O> {
                 self.failures = next_count(self.rt, self.failures);
                 Err(IoFault::Failed)
             }
-            Ok(count) => Ok(count),
+            Ok(count) => {
+                self.taken.note(bytes.split_at(count).0);
+                Ok(count)
+            }
             Err(error) => {
                 let fault = io_fault(self.rt, &error);
                 self.failures = counted(self.rt, fault, self.failures);

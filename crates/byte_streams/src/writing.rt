@@ -1,8 +1,7 @@
 //! Writing all of some bytes to a sink.
 ghost use Rattle.std.specs.Prelude.{◌≡◌, ◌<◌, map, MatchResult};
 ghost use Rattle.std.specs.List.{concat};
-ghost use Rattle.std.specs.Io.KnownBytes.{Appends};
-ghost use Rattle.byte_streams.specs.Streams.{AppendsPart, WritesOrFails, output as output_at};
+ghost use Rattle.byte_streams.specs.Streams.{Appends, AppendsPart, WritesOrFails};
 
 use crate::streams::{IoFault, Sink};
 use std::sync::Wait;
@@ -14,8 +13,7 @@ pub struct WriteFailed;
 /// Writes texts one after another. Where the output fails, a prefix of their bytes was written, and the rest is dropped.
 pub fn say<O: Sink>(rt: &impl Wait, output: &mut O, texts: &[&str])
     ensures { WritesOrFails (concat (map (λ text. text.now) texts.entry.now))
-        (output_at (O.written output.old) (O.failures output.old))
-        (output_at (O.written output.new) (O.failures output.new)) }
+        (O.output output.old) (O.output output.new) }
 {
     for text in texts {
         match write_all(rt, output, text.as_bytes()) {
@@ -32,11 +30,11 @@ pub fn say<O: Sink>(rt: &impl Wait, output: &mut O, texts: &[&str])
 /// `WriteFailed`, where the output failed. A prefix of the bytes was written.
 pub fn write_all<O: Sink>(rt: &impl Wait, output: &mut O, bytes: &[u8]) -> Result<(), WriteFailed>
     ensures written { MatchResult result
-        (λ _. Appends (O.written output.old) (O.written output.new) bytes.now)
-        (λ _. AppendsPart (O.written output.old) (O.written output.new) bytes.now) }
+        (λ _. Appends (O.output output.old).written (O.output output.new).written bytes.now)
+        (λ _. AppendsPart (O.output output.old).written (O.output output.new).written bytes.now) }
     ensures count { MatchResult result
-        (λ _. O.failures output.new ≡ O.failures output.old)
-        (λ _. O.failures output.old < O.failures output.new) }
+        (λ _. (O.output output.new).failures ≡ (O.output output.old).failures)
+        (λ _. (O.output output.old).failures < (O.output output.new).failures) }
 {
     let mut rest = bytes;
     for _ in rt.forever() {

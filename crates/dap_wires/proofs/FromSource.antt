@@ -1,22 +1,25 @@
 -- What reads of a source gave.
-use Rattle.std.proofs.Common.{◌≡◌, ◌<◌, ◌≤◌, ℕ, List, [], ◌++◌, Option, sym, ◌∙◌, ap, subst, take, length, arith}
-use Rattle.std.specs.Io.KnownBytes.{Keeps, Consumes, IsAtEnd}
+use Rattle.std.proofs.Common.{◌≡◌, ◌<◌, ◌≤◌, ℕ, true, List, [], ◌++◌, sym, ◌∙◌, ap, subst, take, length, arith}
+use Rattle.byte_streams.specs.Streams.{Supply, Appends}
+use Rattle.byte_streams.proofs.Appending.{appends_after}
 use Rattle.std.proofs.lemmas.List.{length-take}
-use Rattle.dap_wires.proofs.KnownBytes.{consumes_after}
 
 -- a read that gave nothing, with room for some
-pub read_nothing : (old mid later : Option (List ℕ)) (n : ℕ) (room : List ℕ) → Keeps old mid
-    → Consumes mid later (take n room) × (n ≡ 0 → 0 < length room → IsAtEnd later) → n ≡ 0 → 0 < length room
-    → Consumes old later [] × IsAtEnd later
-read_nothing old mid later n room keeps got none some =
-    (consumes_after old mid later [] keeps (subst (λ k. Consumes mid later (take k room)) none got.0), got.1 none some)
+pub read_nothing : (old mid later : Supply) (n : ℕ) (room : List ℕ) → mid.read ≡ old.read
+    → Appends mid.read later.read (take n room) × (n ≡ 0 → 0 < length room → later.ended ≡ true) → n ≡ 0
+    → 0 < length room → Appends old.read later.read [] × (later.ended ≡ true)
+read_nothing old mid later n room keeps got none some = (
+  appends_after old.read mid.read later.read [] keeps
+      (subst (λ k. Appends mid.read later.read (take k room)) none got.0),
+  got.1 none some,
+)
 
 -- a read that gave some
-pub read_gives : (old mid later : Option (List ℕ)) (n : ℕ) (room piece : List ℕ) → Keeps old mid
-    → Consumes mid later (take n room) × (n ≡ 0 → 0 < length room → IsAtEnd later) → piece ≡ take n room
-    → Consumes old later piece
+pub read_gives : (old mid later : Supply) (n : ℕ) (room piece : List ℕ) → mid.read ≡ old.read
+    → Appends mid.read later.read (take n room) × (n ≡ 0 → 0 < length room → later.ended ≡ true)
+    → piece ≡ take n room → Appends old.read later.read piece
 read_gives old mid later n room piece keeps got is =
-    consumes_after old mid later piece keeps (subst (Consumes mid later) (sym is) got.0)
+    appends_after old.read mid.read later.read piece keeps (subst (Appends mid.read later.read) (sym is) got.0)
 
 -- what was read, put after nothing
 pub read_alone : (n : ℕ) (room before piece : List ℕ) → piece ≡ before ++ take n room → before ≡ []

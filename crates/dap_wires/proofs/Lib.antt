@@ -18,5 +18,3 @@ pub mod WrittenSoFar
 pub mod Crossing
 -- Frames that are written together, and those that are kept; for the functions of `bundling` and `frames`.
 mod Bundles
--- Bytes that are left to read, where they are known; for `FromSource` and `read_event`.
-mod KnownBytes

@@ -2,15 +2,14 @@
 use Rattle.std.proofs.Common.{◌≡◌, false, List, [], ◌∷◌, ◌++◌, sym, ◌∙◌, ap, subst, append_assoc, append-nil}
 use Rattle.std.specs.List.{concat}
 use Rattle.std.specs.Prelude.{◌<◌}
-use Rattle.std.specs.Io.KnownBytes.{Appends}
 use Rattle.std.proofs.lemmas.List.Folds.{concat-append}
 use Rattle.dap_wires.specs.declared.writer_message.WriterMessage.{WriterMessage}
 use Rattle.dap_wires.specs.declared.writer_message.WriterMessage.TheVariants as message
 use Rattle.dap_wires.specs.declared.bundle.Bundle.{Bundle}
 use Rattle.dap_wires.specs.WriterMessages.{bundled, frames_in, has_end, AreEnded}
-use Rattle.byte_streams.specs.Streams.{Output, AppendsPart, WritesAll, FailsIn}
+use Rattle.byte_streams.specs.Streams.{Output, Appends, AppendsPart, WritesAll, FailsIn}
 use Rattle.dap_wires.proofs.Growing.{one_more}
-use Rattle.std.proofs.KnownBytes.{Appends-trans as appends_both}
+use Rattle.byte_streams.proofs.Appending.{appends_both}
 use Rattle.dap_wires.proofs.Sending.{frames_append, frame_keeps_open, end_ends, frames_end}
 
 -- frames were taken, and written whole

@@ -1,8 +1,7 @@
 -- Defines what a read of an input yields.
-use Rattle.std.specs.Prelude.{◌≡◌, ◌<◌, ◌≤◌, [], ◌∷◌, ℕ, List, length}
-use Rattle.std.specs.Io.KnownBytes.{Consumes, IsAtEnd}
+use Rattle.std.specs.Prelude.{◌≡◌, ◌<◌, ◌≤◌, [], ◌∷◌, ℕ, true, List, length}
 use Rattle.dap_history.specs.Events.{Incoming, Piece, End, ReadFailed, NoMemory, File, Report}
-use Rattle.byte_streams.specs.Streams.{Supply}
+use Rattle.byte_streams.specs.Streams.{Supply, Appends}
 
 -- the most bytes of a piece
 abbrev pub piece_limit : ℕ
@@ -12,11 +11,11 @@ piece_limit = 4096
 -- comes from elsewhere, and no file is read so.
 abbrev pub IsRead : Incoming → Supply → Supply → Type 0
 IsRead (Piece bytes) old later =
-    Consumes old.left later.left bytes × (length bytes ≤ piece_limit) × (later.failures ≡ old.failures)
+    Appends old.read later.read bytes × (length bytes ≤ piece_limit) × (later.failures ≡ old.failures)
     × (0 < length bytes)
-IsRead End old later = Consumes old.left later.left [] × IsAtEnd later.left × (later.failures ≡ old.failures)
-IsRead ReadFailed old later = Consumes old.left later.left [] × (old.failures < later.failures)
-IsRead NoMemory old later = Consumes old.left later.left [] × (later.failures ≡ old.failures)
+IsRead End old later = Appends old.read later.read [] × (later.ended ≡ true) × (later.failures ≡ old.failures)
+IsRead ReadFailed old later = Appends old.read later.read [] × (old.failures < later.failures)
+IsRead NoMemory old later = Appends old.read later.read [] × (later.failures ≡ old.failures)
 IsRead (Report r) old later = later ≡ old
 IsRead (File file) old later = ⊥
 

@@ -6,11 +6,11 @@
 //! implement the ports of [`dap_session`] and [`dbg_runner`]; [`Wires`] has all of them. [`reconcile_inbox`],
 //! [`reconcile_outbox`] and [`reconcile_orders`], and [`reconcile`] for all three, bring the logs of all ends together
 //! when all threads were joined, and prove that what was received is a prefix of what was sent. Quiet reports, for which
-//! a client gets no message, cross an inbox several at once, and the session receives them one by one. At most 512
-//! numbers and logs are on their way, unless one report has more: so a client gets at most these, and those of one more
-//! slice, between the answer to a pause and the stop. [`read_loop`] and [`write_loop`] stand between a queue and a source
-//! or a sink of [`byte_streams`]: the one sends what it read, and the other writes what it took. Each queue and each loop
-//! can be used without the others.
+//! a client gets no message, cross an inbox several at once, and the session receives them one by one. No contract says
+//! how many numbers and logs are on their way: at most 512, unless one report has more, so that a client gets at most
+//! these, and those of one more slice, between the answer to a pause and the stop. [`read_loop`] and [`write_loop`]
+//! stand between a queue and a source or a sink of [`byte_streams`]: the one sends what it read, and the other writes
+//! what it took. Each queue and each loop can be used without the others.
 #![tactic(auto)]
 
 mod arrival;

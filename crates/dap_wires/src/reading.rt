@@ -5,7 +5,6 @@ ghost use Rattle.dap_history.specs.Events.{Incoming};
 ghost use Rattle.dap_session.specs.Incoming.{incoming_of};
 ghost use Rattle.dap_wires.specs.Inbox.{client_events, client_queue, returned_events};
 ghost use Rattle.dap_wires.specs.Reading.{IsReadUntil, end_by};
-ghost use Rattle.byte_streams.specs.Streams.{supply};
 
 use crate::event_ends::ClientSender;
 use crate::transfer::{PIECE_LIMIT, read_event};
@@ -36,8 +35,8 @@ pub fn read_loop<I: Source, R: Wait + Drop>(
     inbox: &mut ClientSender<R>,
 ) -> ReadEnd
     ensures read { (sent : List Incoming) × (client_events inbox.new ≡ client_events inbox.old ++ sent)
-        × ((read : IsReadUntil result sent (supply (I.left input.old) (I.failures input.old))
-        (supply (I.left input.new) (I.failures input.new)))
+        × ((read : IsReadUntil result sent (I.supply input.old)
+        (I.supply input.new))
         × (returned_events inbox.new ≡ returned_events inbox.old ++ read.lost)) }
     ensures queue { client_queue inbox.new ≡ client_queue inbox.old }
 {

@@ -1,6 +1,5 @@
 //! Reading one event from an input.
 ghost use Rattle.std.specs.Prelude.{◌≡◌, false};
-ghost use Rattle.byte_streams.specs.Streams.{supply};
 ghost use Rattle.dap_session.specs.Incoming.{incoming_of};
 ghost use Rattle.dap_wires.specs.Senders.{is_report};
 ghost use Rattle.dap_wires.specs.Transfer.{IsRead};
@@ -21,8 +20,7 @@ pub(crate) fn read_event<I: Source>(
     input: &mut I,
     room: &mut [u8; PIECE_LIMIT],
 ) -> Event
-    ensures read { IsRead (incoming_of result) (supply (I.left input.old) (I.failures input.old))
-        (supply (I.left input.new) (I.failures input.new)) }
+    ensures read { IsRead (incoming_of result) (I.supply input.old) (I.supply input.new) }
     ensures own { is_report result ≡ false }
 {
     // This comes before the read, since what was read can't be put back.

@@ -3,7 +3,6 @@
 ghost use Rattle.std.specs.Prelude.{◌≡◌, ◌++◌, List};
 ghost use Rattle.dap_wires.specs.declared.writer_message.WriterMessage.{WriterMessage};
 ghost use Rattle.dap_wires.specs.Outbox.{messages_taken, writer_queue};
-ghost use Rattle.byte_streams.specs.Streams.{output as output_at};
 ghost use Rattle.dap_wires.specs.Writing.{IsWrittenUntil};
 
 use crate::frame_ends::FrameReceiver;
@@ -22,8 +21,7 @@ pub fn write_loop<O: Sink, R: Wait + Drop>(
     outbox: &mut FrameReceiver<R>,
 ) -> Result<(), WriteFailed>
     ensures written { (taken : List WriterMessage) × (messages_taken outbox.new ≡ messages_taken outbox.old ++ taken)
-        × IsWrittenUntil result taken (output_at (O.written output.old) (O.failures output.old)) (output_at
-        (O.written output.new) (O.failures output.new)) }
+        × IsWrittenUntil result taken (O.output output.old) (O.output output.new) }
     ensures queue { writer_queue outbox.new ≡ writer_queue outbox.old }
 {
     for _ in rt.forever() {

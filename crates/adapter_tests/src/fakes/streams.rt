@@ -4,7 +4,7 @@ ghost use Rattle.std.specs.Prelude.{ℕ, None};
 
 use crate::fakes::next_count;
 use crate::fakes::progress::{Hold, Progress};
-use adapter::{EndListener, IoFault, ServeFault, Served, Sink, Source};
+use adapter::{ByteLog, EndListener, IoFault, ServeFault, Served, Sink, Source};
 use dbg_runner::{Gate, GhostList};
 use std::alloc::Global;
 use std::process::Abort;
@@ -58,6 +58,8 @@ pub struct Input<'a, R: Abort> {
     progress: &'a Progress,
     at: usize,
     is_interrupted: bool,
+    read: ByteLog<()>,
+    ended: bool,
     failures: u64,
 }
 
@@ -75,6 +77,8 @@ impl<'a, R: Abort> Input<'a, R> {
             progress,
             at: 0,
             is_interrupted: false,
+            read: ByteLog::new(&()),
+            ended: false,
             failures: 0,
         }
     }
@@ -103,9 +107,13 @@ impl<'a, R: Abort> Input<'a, R> {
 }
 
 impl<R: Abort> Source for Input<'_, R> {
-    ghost left = { λ _. None };
+    ghost supply = { λ s. record {
+      read = record { first = None; bytes = s.read.bytes };
+      ended = s.ended;
+      failures = s.failures;
+    } };
 
-    ghost failures = { λ s. s.failures };
+    ghost of_whole = { λ _. ∣ (None, tt) ∣₁ };
 
     fn read(&mut self, room: &mut [u8]) -> Result<usize, IoFault> {
         self.is_interrupted = !self.is_interrupted;
@@ -123,6 +131,8 @@ impl<R: Abort> Source for Input<'_, R> {
             *slot = *byte;
         }
         self.at = self.at.saturating_add(count);
+        self.read.note(room.split_at(count).0);
+        self.ended |= count == 0 && !room.is_empty();
         Ok(count)
     }
 }
@@ -169,9 +179,10 @@ impl<'a, R: Abort> Output<'a, R> {
 }
 
 impl<R: Abort> Sink for Output<'_, R> {
-    ghost written = { λ _. None };
-
-    ghost failures = { λ s. s.failures };
+    ghost output = { λ s. record {
+      written = record { first = None; bytes = s.bytes.items };
+      failures = s.failures;
+    } };
 
     fn write(&mut self, bytes: &[u8]) -> Result<usize, IoFault> {
         self.is_interrupted = !self.is_interrupted;

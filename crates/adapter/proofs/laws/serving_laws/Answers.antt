@@ -3,6 +3,7 @@ use Rattle.adapter.proofs.InputTaken.{first_disconnect_closes}
 use Rattle.adapter.proofs.RunsEnd.{runs_end_once}
 use Rattle.adapter.proofs.SessionFaults.{outcome_is_of_session, nobody_is_gone, full_after_enough}
 use Rattle.adapter.proofs.UpTo.{disconnect_is_answered, all_before_fault_is_answered}
+use Rattle.adapter.proofs.Written.{output_is_of_history}
 use Rattle.adapter.proofs.laws.serving_laws.Goals as goal
 
 pub returns-clause-outcome : goal.returns-clause-outcome
@@ -11,6 +12,15 @@ returns-clause-outcome c = outcome_is_of_session
 pub returns-clause-input : goal.returns-clause-input
 returns-clause-input c =
     input_taken_whole c.command_laws.ensures.taken c.command_laws.ensures.ends c.history_laws.ensures.closed_by
+
+pub returns-clause-written : goal.returns-clause-written
+returns-clause-written c = output_is_of_history c.reading_laws.ensures (record {
+  one_frame = c.frame_laws.ensures.frames;
+  one_fault = c.frame_laws.ensures.faults;
+  not_both = c.frame_laws.ensures.both;
+  one_request = c.message_laws.ensures.reading;
+  one_after = c.history_laws.ensures.one_effect;
+}) c.history_laws.ensures.one
 
 pub returns-clause-answered : goal.returns-clause-answered
 returns-clause-answered c = all_read_is_answered (record {

@@ -1,6 +1,6 @@
 use Rattle.std.proofs.Common.{◌≡◌, List, ℕ, ◌++◌, sym, ap, ◌∙◌, subst, append_assoc, decimal, codes}
 use Rattle.adapter.specs.Listing.{line_feed}
-use Rattle.byte_streams.specs.Streams.{WritesOrFails, output}
+use Rattle.byte_streams.specs.Streams.{WritesOrFails}
 use Rattle.adapter.proofs.reporting.say_syntax.Goals as goal
 
 -- three numbers with spaces between them, and a line feed
@@ -12,8 +12,8 @@ line a b c =
 
 pub returns : goal.returns
 returns g c =
-    let before = output (g.E.Sink.written c.args.errors.now) (g.E.Sink.failures c.args.errors.now) in
-    let after = output (g.E.Sink.written c.say.new.output) (g.E.Sink.failures c.say.new.output) in
+    let before = (g.E.Sink.output c.args.errors.now) in
+    let after = (g.E.Sink.output c.say.new.output) in
     let n = decimal c.args.number in
     let l = decimal c.args.place.line in
     let k = decimal c.args.place.column in

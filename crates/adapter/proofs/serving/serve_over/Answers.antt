@@ -10,7 +10,6 @@ use Rattle.dap_wires.specs.Orders.{EnoughWerePushed, pushed_orders, taken_orders
 use Rattle.dap_wires.specs.Outbox.{put_frames, messages_put, messages_received, messages_taken}
 use Rattle.dap_wires.specs.Reading.{IsReadUntil}
 use Rattle.dap_wires.specs.Senders.{from_client, reports_among}
-use Rattle.byte_streams.specs.Streams.{supply, output as output_at}
 use Rattle.dap_wires.specs.Writing.{IsWrittenUntil}
 use Rattle.adapter.specs.Jobs.{SessionLeaves}
 use Rattle.adapter.specs.Serving.{World, world, streams, outcome_of, nothing_sent, TasksEnd, tasks_ended}
@@ -99,24 +98,22 @@ returns-in-Ok-clause-served g c =
     w.2.1 ∙ ap (λ l. l ++ w.2.0) (ap messages_taken c.tasks_over-writer.ensures.outbox ∙ c.requires.unused.messages)
     in
     let read =
-    subst (λ x. IsReadUntil c.in-Ok.field-0-2-2 i.2.0 (supply (g.I.Source.left x) (g.I.Source.failures x))
-    (supply (g.I.Source.left c.in-Ok.input.now) (g.I.Source.failures c.in-Ok.input.now)))
+    subst (λ x. IsReadUntil c.in-Ok.field-0-2-2 i.2.0 (g.I.Source.supply x)
+    (g.I.Source.supply c.in-Ok.input.now))
     c.tasks_over-writer.ensures.input i.2.2 in
     let written =
-    subst (λ x. IsWrittenUntil c.in-Ok.wrote w.2.0 (output_at (g.O.Sink.written x) (g.O.Sink.failures x))
-    (output_at (g.O.Sink.written c.in-Ok.output.now) (g.O.Sink.failures c.in-Ok.output.now)))
+    subst (λ x. IsWrittenUntil c.in-Ok.wrote w.2.0 (g.O.Sink.output x)
+    (g.O.Sink.output c.in-Ok.output.now))
     c.tasks_over-writer.ensures.output w.2.2 in
     let full : (pushed_orders ends.orders).fulls ≢ 0 → EnoughWerePushed (pushed_orders ends.orders).orders = facts.9 in
     let passed : g.G.Gate.passed c.in-Ok.gate.now ≡ g.G.Gate.passed c.args.gate.now ++ flat_map passed_in r.3.0 =
     r.3.4 ∙ ap (λ x. g.G.Gate.passed x ++ flat_map passed_in r.3.0) c.tasks_over-writer.ensures.gate in
     let before : World =
     world (g.L.Loader.loaded c.args.loader.now) (g.G.Gate.passed c.args.gate.now)
-    (streams (g.I.Source.left c.args.input.now) (g.I.Source.failures c.args.input.now)
-    (g.O.Sink.written c.args.output.now) (g.O.Sink.failures c.args.output.now)) in
+    (streams (g.I.Source.supply c.args.input.now) (g.O.Sink.output c.args.output.now)) in
     let after : World =
     world (g.L.Loader.loaded c.in-Ok.loader.now) (g.G.Gate.passed c.in-Ok.gate.now)
-    (streams (g.I.Source.left c.in-Ok.input.now) (g.I.Source.failures c.in-Ok.input.now)
-    (g.O.Sink.written c.in-Ok.output.now) (g.O.Sink.failures c.in-Ok.output.now)) in
+    (streams (g.I.Source.supply c.in-Ok.input.now) (g.O.Sink.output c.in-Ok.output.now)) in
     let driven : TasksEnd c.args.first c.in-Ok.wrote closed before after =
     gathers c.args.first c.in-Ok.wrote closed before after (received ends.inbox) (messages_put ends.outbox)
     (pushed_orders ends.orders) _ i.2.0 r.3.0 _ (taken_orders c.in-Ok.taken) w.2.0
@@ -124,7 +121,8 @@ returns-in-Ok-clause-served g c =
     (subst (λ l. IsPrefixOf (from_client (received ends.inbox)) l) client inbox_client)
     r.3.1 r.3.2 r.3.3
     orders_taken full inbox_reports passed written
-    (subst (λ l. IsPrefixOf l (messages_put ends.outbox)) taken outbox_taken) in
+    (subst (λ l. IsPrefixOf l (messages_put ends.outbox)) taken outbox_taken)
+    i.3 in
     tasks_ended c.in-Ok.wrote closed answer (rw (input, output, loader, gate) at driven)
 
 pub run_beside-done-requires-send-T : goal.run_beside-done-requires-send-T

@@ -11,5 +11,7 @@ returns-in-Ok-eq0-clause-bytes g c =
     let count = c.len.ensures in
     let few = c.if-len-ge-BEGINNING_LIMIT.false in
     let short : length c.loop.bytes.items ≤ beginning_limit = omega (arith, count, few) in
-    begins_whole _ _ _ _ _ c.read.new.room c.loop.invariant.0 c.in-Ok-eq0.ensures.bytes c.in-Ok-eq0.field-0-test room
-    short
+    begins_whole _ (g.S.Source.supply c.args.source.now) (g.S.Source.supply c.loop.source)
+    (g.S.Source.supply c.read.new.self) _ c.read.new.room c.loop.invariant.0 c.in-Ok-eq0.ensures.bytes
+    c.in-Ok-eq0.field-0-test room
+    short (g.met.S.Source.of_whole c.read.new.self)

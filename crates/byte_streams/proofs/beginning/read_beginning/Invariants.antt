@@ -1,9 +1,9 @@
 use Rattle.std.proofs.Common.{◌≡◌, length}
-use Rattle.std.specs.Io.KnownBytes.{Consumes}
+use Rattle.byte_streams.specs.Streams.{Appends}
 use Rattle.byte_streams.proofs.beginning.read_beginning.Given as goal
 
 abbrev pub invariant-loop : goal.invariant-loop
 invariant-loop g l =
-    Consumes (g.S.Source.left l.initial.source) (g.S.Source.left l.source) l.bytes.items
-    × (g.S.Source.failures l.source ≡ g.S.Source.failures l.initial.source)
+    Appends (g.S.Source.supply l.initial.source).read (g.S.Source.supply l.source).read l.bytes.items
+    × ((g.S.Source.supply l.source).failures ≡ (g.S.Source.supply l.initial.source).failures)
     × (length l.room ≡ 4096)

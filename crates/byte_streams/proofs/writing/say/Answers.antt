@@ -1,7 +1,7 @@
 use Rattle.std.proofs.Common.{◌∙◌, inl, inr, subst, arith}
 use Rattle.std.specs.Prelude.{map}
 use Rattle.std.specs.List.{concat}
-use Rattle.std.specs.Io.KnownBytes.{Appends}
+use Rattle.byte_streams.specs.Streams.{Appends}
 use Rattle.std.proofs.lemmas.List.{get_or_default, take_all}
 use Rattle.byte_streams.proofs.Transferring.{frames_go_on, frames_stop}
 use Rattle.byte_streams.proofs.writing.say.Goals as goal
@@ -35,7 +35,7 @@ returns g c =
     let i = c.loop-text.text-index in
     let all = take_all i texts c.loop-text-test.false in
     inl (
-      subst (λ l. Appends (g.O.Sink.written c.args.output.now) (g.O.Sink.written c.loop-text.output)
+      subst (λ l. Appends (g.O.Sink.output c.args.output.now).written (g.O.Sink.output c.loop-text.output).written
           (concat (map (λ text. text.now) l))) all c.loop-text.invariant.0,
       c.loop-text.invariant.1,
     )

@@ -1,6 +1,5 @@
 use Rattle.std.proofs.Common.{sym, ◌∙◌}
 use Rattle.dap_wires.specs.Inbox.{client_events, returned_events}
-use Rattle.byte_streams.specs.Streams.{supply}
 use Rattle.dap_session.specs.Incoming.{incoming_of}
 use Rattle.dap_wires.proofs.ReadSoFar.{read_goes_on, read_ends, read_lost, when_ok, when_err}
 use Rattle.dap_wires.proofs.reading.read_loop.Goals as goal
@@ -14,9 +13,9 @@ returns-in-Some-end-clause-read g c =
     (client_events c.send.new.self)
     (returned_events c.args.inbox.now)
     (returned_events c.send.new.self)
-    (supply (g.I.Source.left c.args.input.now) (g.I.Source.failures c.args.input.now))
-    (supply (g.I.Source.left c.loop.input) (g.I.Source.failures c.loop.input))
-    (supply (g.I.Source.left c.read_event-event.new.input) (g.I.Source.failures c.read_event-event.new.input))
+    (g.I.Source.supply c.args.input.now)
+    (g.I.Source.supply c.loop.input)
+    (g.I.Source.supply c.read_event-event.new.input)
     c.read_event-event.result
     c.in-Some-end.end
     c.loop.invariant.0
@@ -33,9 +32,9 @@ loop-preserved g c =
           (client_events c.args.inbox.now)
           (client_events c.loop.inbox)
           (client_events c.send.new.self)
-          (supply (g.I.Source.left c.args.input.now) (g.I.Source.failures c.args.input.now))
-          (supply (g.I.Source.left c.loop.input) (g.I.Source.failures c.loop.input))
-          (supply (g.I.Source.left c.read_event-event.new.input) (g.I.Source.failures c.read_event-event.new.input))
+          (g.I.Source.supply c.args.input.now)
+          (g.I.Source.supply c.loop.input)
+          (g.I.Source.supply c.read_event-event.new.input)
           c.read_event-event.result
           c.loop.invariant.0
           event.own
@@ -56,9 +55,9 @@ returns-then-is_err-clause-read g c =
     (returned_events c.args.inbox.now)
     (returned_events c.loop.inbox)
     (returned_events c.send.new.self)
-    (supply (g.I.Source.left c.args.input.now) (g.I.Source.failures c.args.input.now))
-    (supply (g.I.Source.left c.loop.input) (g.I.Source.failures c.loop.input))
-    (supply (g.I.Source.left c.read_event-event.new.input) (g.I.Source.failures c.read_event-event.new.input))
+    (g.I.Source.supply c.args.input.now)
+    (g.I.Source.supply c.loop.input)
+    (g.I.Source.supply c.read_event-event.new.input)
     (incoming_of c.read_event-event.result)
     c.loop.invariant.0
     c.loop.invariant.1

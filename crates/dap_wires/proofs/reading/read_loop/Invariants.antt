@@ -1,6 +1,5 @@
 use Rattle.std.proofs.Common.{◌≡◌}
 use Rattle.dap_wires.specs.Inbox.{client_events, client_queue, returned_events}
-use Rattle.byte_streams.specs.Streams.{supply}
 use Rattle.dap_wires.proofs.ReadSoFar.{ReadSoFar}
 use Rattle.dap_wires.proofs.reading.read_loop.Given as goal
 
@@ -9,7 +8,7 @@ invariant-loop g l =
     ReadSoFar
     (client_events l.initial.inbox)
     (client_events l.inbox)
-    (supply (g.I.Source.left l.initial.input) (g.I.Source.failures l.initial.input))
-    (supply (g.I.Source.left l.input) (g.I.Source.failures l.input))
+    (g.I.Source.supply l.initial.input)
+    (g.I.Source.supply l.input)
     × (returned_events l.inbox ≡ returned_events l.initial.inbox)
     × (client_queue l.inbox ≡ client_queue l.initial.inbox)

@@ -1,18 +1,19 @@
 use Rattle.std.proofs.Common.{◌≡◌, ◌<◌, length, vec_len, vec_capacity, Err, ◌∙◌, ap, refl, arith}
-use Rattle.std.proofs.KnownBytes.{Keeps-refl as keeps_self, Keeps-trans as keeps_both}
-use Rattle.dap_wires.proofs.KnownBytes.{keeps_consumes}
+use Rattle.byte_streams.proofs.Appending.{keeps_appends}
 use Rattle.dap_wires.proofs.FromSource.{read_nothing, read_gives, read_alone, piece_short, piece_some}
 use Rattle.dap_wires.proofs.transfer.read_event.Goals as goal
 
 pub loop-init : goal.loop-init
-loop-init g c = (keeps_self _, refl, c.told-room, refl)
+loop-init g c = (refl, refl, c.told-room, refl)
 
 pub returns-in-Ok-eq0-clause-read : goal.returns-in-Ok-eq0-clause-read
 returns-in-Ok-eq0-clause-read g c =
     let size = c.loop.invariant.2 in
     let kept = c.read.auto.room in
     let room : 0 < length c.read.new.room = omega (arith, size, kept) in
-    let e = read_nothing _ _ _ _ _ c.loop.invariant.0 c.in-Ok-eq0.ensures.bytes c.in-Ok-eq0.field-0-test room in
+    let e = read_nothing (g.I.Source.supply c.args.input.now) (g.I.Source.supply c.loop.input)
+    (g.I.Source.supply c.read.new.self) _ _ c.loop.invariant.0 c.in-Ok-eq0.ensures.bytes c.in-Ok-eq0.field-0-test room
+    in
     (e.0, e.1, c.in-Ok-eq0.ensures.kept ∙ c.loop.invariant.1)
 
 pub unwrap-requires : goal.unwrap-requires
@@ -28,7 +29,8 @@ returns-in-Ok-read-clause-read g c =
     let appended = rw c.unwrap.ensures at c.extend_from_slice.ensures.items in
     let empty = ap (λ p. p.items) c.loop.invariant.3 ∙ c.in-Ok.ensures.items in
     let piece = read_alone n c.read.new.room _ _ appended empty in (
-      read_gives _ _ _ n c.read.new.room _ c.loop.invariant.0 c.in-Ok-read.ensures.bytes piece,
+      read_gives (g.I.Source.supply c.args.input.now) (g.I.Source.supply c.loop.input)
+          (g.I.Source.supply c.read.new.self) n c.read.new.room _ c.loop.invariant.0 c.in-Ok-read.ensures.bytes piece,
       piece_short n _ c.read.new.room _ piece (c.read.auto.room ∙ c.loop.invariant.2),
       c.in-Ok-read.ensures.kept ∙ c.loop.invariant.1,
       piece_some n c.read.new.room _ piece c.in-Ok-read.count-test.1
@@ -39,14 +41,14 @@ pub returns-in-Err-Failed-clause-read : goal.returns-in-Err-Failed-clause-read
 returns-in-Err-Failed-clause-read g c =
     let grew = c.in-Err-Failed.ensures.failed (ap Err c.in-Err-Failed.field-0-is) in
     let before = c.loop.invariant.1 in (
-      keeps_consumes _ _ (keeps_both _ _ _ c.loop.invariant.0 c.in-Err-Failed.ensures.bytes),
+      keeps_appends _ _ (c.in-Err-Failed.ensures.bytes ∙ c.loop.invariant.0),
       omega
           (arith, grew, before),
     )
 
 pub loop-preserved : goal.loop-preserved
 loop-preserved g c = (
-  keeps_both _ _ _ c.loop.invariant.0 c.in-Err-Interrupted.ensures.bytes,
+  c.in-Err-Interrupted.ensures.bytes ∙ c.loop.invariant.0,
   c.in-Err-Interrupted.ensures.interrupted (ap Err c.in-Err-Interrupted.field-0-is) ∙ c.loop.invariant.1,
   c.read.auto.room ∙ c.loop.invariant.2,
   c.loop.invariant.3,

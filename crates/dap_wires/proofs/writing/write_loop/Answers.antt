@@ -1,7 +1,6 @@
 use Rattle.std.proofs.Common.{◌∙◌}
 use Rattle.std.proofs.lemmas.Result.{err_from_is_err_and}
 use Rattle.dap_wires.specs.Outbox.{messages_taken}
-use Rattle.byte_streams.specs.Streams.{output}
 use Rattle.dap_wires.proofs.WrittenSoFar.{written_ends, written_breaks, written_goes_on}
 use Rattle.dap_wires.proofs.writing.write_loop.Goals as goal
 
@@ -12,8 +11,8 @@ returns-in-Some-End-clause-written g c =
     (messages_taken c.args.outbox.now)
     (messages_taken c.loop.outbox)
     (messages_taken c.receive.new.self)
-    (output (g.O.Sink.written c.args.output.now) (g.O.Sink.failures c.args.output.now))
-    (output (g.O.Sink.written c.loop.output) (g.O.Sink.failures c.loop.output))
+    (g.O.Sink.output c.args.output.now)
+    (g.O.Sink.output c.loop.output)
     c.loop.invariant.0
     took
 
@@ -26,9 +25,9 @@ returns-in_err-write_all-in-Some-Frames-clause-written g c =
     (messages_taken c.args.outbox.now)
     (messages_taken c.loop.outbox)
     (messages_taken c.receive.new.self)
-    (output (g.O.Sink.written c.args.output.now) (g.O.Sink.failures c.args.output.now))
-    (output (g.O.Sink.written c.loop.output) (g.O.Sink.failures c.loop.output))
-    (output (g.O.Sink.written c.write_all.new.output) (g.O.Sink.failures c.write_all.new.output))
+    (g.O.Sink.output c.args.output.now)
+    (g.O.Sink.output c.loop.output)
+    (g.O.Sink.output c.write_all.new.output)
     c.in-Some-Frames.bundle
     c.loop.invariant.0
     took
@@ -43,9 +42,9 @@ loop-preserved g c =
           (messages_taken c.args.outbox.now)
           (messages_taken c.loop.outbox)
           (messages_taken c.receive.new.self)
-          (output (g.O.Sink.written c.args.output.now) (g.O.Sink.failures c.args.output.now))
-          (output (g.O.Sink.written c.loop.output) (g.O.Sink.failures c.loop.output))
-          (output (g.O.Sink.written c.write_all.new.output) (g.O.Sink.failures c.write_all.new.output))
+          (g.O.Sink.output c.args.output.now)
+          (g.O.Sink.output c.loop.output)
+          (g.O.Sink.output c.write_all.new.output)
           c.in-Some-Frames.bundle
           c.loop.invariant.0
           took

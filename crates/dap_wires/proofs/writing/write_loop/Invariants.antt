@@ -1,6 +1,5 @@
 use Rattle.std.proofs.Common.{◌≡◌}
 use Rattle.dap_wires.specs.Outbox.{messages_taken, writer_queue}
-use Rattle.byte_streams.specs.Streams.{output}
 use Rattle.dap_wires.proofs.WrittenSoFar.{WrittenSoFar}
 use Rattle.dap_wires.proofs.writing.write_loop.Given as goal
 
@@ -9,6 +8,6 @@ invariant-loop g l =
     WrittenSoFar
     (messages_taken l.initial.outbox)
     (messages_taken l.outbox)
-    (output (g.O.Sink.written l.initial.output) (g.O.Sink.failures l.initial.output))
-    (output (g.O.Sink.written l.output) (g.O.Sink.failures l.output))
+    (g.O.Sink.output l.initial.output)
+    (g.O.Sink.output l.output)
     × (writer_queue l.outbox ≡ writer_queue l.initial.outbox)

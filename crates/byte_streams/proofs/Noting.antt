@@ -1,0 +1,43 @@
+-- The bytes that a stream knows are those that std's stream tells, as more go through.
+use Rattle.std.proofs.Common.{rules, ◌≡◌, ◌⊎◌, inl, inr, ℕ, Bool, true, false, true≢false, List, [], ◌∷◌, ◌++◌, Option, None, Some, refl, sym, ap, subst, ◌∙◌, append_assoc, append-nil, take, length, ◌<◌}
+use Rattle.std.specs.Io.KnownBytes.{Consumes, IsAtEnd, Keeps}
+use Rattle.byte_streams.specs.Streams.{HasGiven}
+
+-- where nothing is left, nothing more is given
+none_more : (more left : List ℕ) → [] ≡ more ++ left → left ≡ []
+none_more [] left is = sym is
+none_more (byte ∷ more) left is = absurd (search (is, rules))
+
+-- a read gave these, and found the end or didn't
+pub given_more : (all old left : Option (List ℕ)) (bytes more : List ℕ) (ended now : Bool)
+    → HasGiven all old bytes ended → Consumes old left more → (now ≡ true → (ended ≡ true) ⊎ IsAtEnd left)
+    → HasGiven all left (bytes ++ more) now
+given_more None old left bytes more ended now p q end = tt
+given_more (Some all) None left bytes more ended now p q end = absurd p
+given_more (Some all) (Some old) None bytes more ended now p q end = absurd q
+given_more (Some all) (Some old) (Some left) bytes more ended now p q end = (
+  p.0 ∙ ap (λ l. bytes ++ l) q ∙ sym (append_assoc bytes more left),
+  λ e. at_end (end e),
+)
+  where
+    at_end : (ended ≡ true) ⊎ IsAtEnd (Some left) → left ≡ []
+    at_end (inl before) = none_more more left (sym (p.1 before) ∙ q)
+    at_end (inr now) = now
+
+-- a read gave nothing
+pub given_same : (all old left : Option (List ℕ)) (bytes : List ℕ) (ended : Bool) → HasGiven all old bytes ended
+    → Keeps old left → HasGiven all left bytes ended
+given_same None old left bytes ended p q = tt
+given_same (Some all) None left bytes ended p q = absurd p
+given_same (Some all) (Some old) None bytes ended p q = absurd q
+given_same (Some all) (Some old) (Some left) bytes ended p q =
+    (p.0 ∙ ap (λ l. bytes ++ l) (sym q), λ e. q ∙ p.1 e)
+
+-- a read found the end
+pub given_end : (all old left : Option (List ℕ)) (bytes : List ℕ) (n : ℕ) (room : List ℕ) (ended : Bool)
+    → HasGiven all old bytes ended → Consumes old left (take n room) × (n ≡ 0 → 0 < length room → IsAtEnd left)
+    → n ≡ 0 → 0 < length room → HasGiven all left bytes true
+given_end all old left bytes n room ended p got none some =
+    subst (λ l. HasGiven all left l true) (append-nil bytes)
+    (given_more all old left bytes [] ended true p (subst (λ k. Consumes old left (take k room)) none got.0)
+    (λ e. inr (got.1 none some)))
