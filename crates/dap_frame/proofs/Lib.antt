@@ -28,3 +28,5 @@ pub mod Feeding
 pub mod Keeping
 -- Each rest is one of the three: a frame, a fault, or neither yet; for the clause `one_of_three` of `frame_laws`.
 pub mod Deciding
+-- Lines that are no fields, and lengths that are none; for `worked_faults`.
+pub mod WorkedFaults

@@ -11,7 +11,7 @@ has_no-append x [] zs h k = k
 has_no-append x (y ∷ ys) zs h k = (h.0, has_no-append x ys zs h.1 k)
 
 -- bytes that pass a test have none that fails it
-passing : (p : ℕ → Bool) (x : ℕ) → p x ≡ false → (ys : List ℕ) → list_all p ys ≡ true → HasNo x ys
+pub passing : (p : ℕ → Bool) (x : ℕ) → p x ≡ false → (ys : List ℕ) → list_all p ys ≡ true → HasNo x ys
 passing p x fails [] h = tt
 passing p x fails (y ∷ ys) h = (
   λ e. absurd (let bad : (p x && list_all p ys) ≡ true = subst (λ z. (p z && list_all p ys) ≡ true) e h in
@@ -32,7 +32,7 @@ field_no_return f is =
 no_end_after : (x : ℕ) (xs : List ℕ) → HasNoLineEnd (x ∷ xs) → HasNoLineEnd xs
 no_end_after x xs none before after e = none (x ∷ before) after (ap (λ l. x ∷ l) e)
 
-no_return_no_end : (xs : List ℕ) → HasNo 13 xs → HasNoLineEnd (xs ++ 13 ∷ [])
+pub no_return_no_end : (xs : List ℕ) → HasNo 13 xs → HasNoLineEnd (xs ++ 13 ∷ [])
 no_return_no_end (x ∷ xs) h [] after e = absurd (h.0 cc)
 no_return_no_end (x ∷ xs) h (b ∷ before) after e = no_return_no_end xs h.1 before after cc
 no_return_no_end [] h [] after e = absurd cc

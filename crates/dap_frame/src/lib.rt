@@ -34,4 +34,4 @@ pub use decoder::Decoder;
 pub use encoding::encode;
 pub use fault::FramingFault;
 pub use front::Front;
-pub use laws::frame_laws;
+pub use laws::{frame_laws, worked_faults};

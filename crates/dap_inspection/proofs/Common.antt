@@ -8,7 +8,7 @@ pub use Rattle.dap_msg.specs.declared.outgoing.StackFrame.{StackFrame}
 pub use Rattle.pl0_machine.specs.Machine.{Shows, program_of}
 pub use Rattle.pl0_machine.specs.declared.outcome.FrameView.{FrameView}
 pub use Rattle.pl0_meaning.specs.Frames.{AreLinked}
-pub use Rattle.pl0_meaning.specs.Linking.{frame_at-below, frame_at-top, frame_within}
+pub use Rattle.pl0_meaning.proofs.Linking.{frame_at-below, frame_at-top, frame_within}
 pub use Rattle.pl0_meaning.specs.Values.{Configuration, Frame, frame_at}
 pub use Rattle.pl0_tree.specs.Blocks.{frame_name}
 pub use Rattle.pl0_tree.specs.Scope.{Path}

@@ -5,13 +5,13 @@ use Rattle.std.proofs.Math.Nat.{ℕ_set}
 use Rattle.std.proofs.lemmas.List.{length-map}
 use Rattle.pl0_tree.specs.Tree.{variables}
 use Rattle.pl0_tree.specs.Plain.{plain_name, plain_block}
-use Rattle.pl0_tree.specs.PlainParts.{plain_block_parts}
+use Rattle.pl0_tree.proofs.PlainParts.{plain_block_parts}
 use Rattle.pl0_tree.specs.declared.tree.Block.{Block as DeclaredBlock, out-Block}
 use Rattle.pl0_tree.specs.declared.tree.Name.{Name as DeclaredName}
 use Rattle.pl0_tree.specs.Scope.{block_at}
 use Rattle.pl0_meaning.specs.Values.{number_of}
 use Rattle.pl0_meaning.specs.Frames.{IsFrameOf}
-use Rattle.pl0_meaning.specs.Linking.{frame_of}
+use Rattle.pl0_meaning.proofs.Linking.{frame_of}
 use Rattle.pl0_machine.specs.Machine.{variables_of}
 use Rattle.std.specs.Prelude.{string_bytes}
 use Rattle.dap_msg.specs.declared.outgoing.Variable.{Variable}

@@ -5,7 +5,7 @@ use Rattle.std.proofs.Common.{append_assoc}
 use Rattle.std.proofs.lemmas.Bool.{cond-true, cond-false, eq-eqb, ne_eqb}
 use Rattle.std.specs.Coded.{le_prop}
 use Rattle.pl0_meaning.specs.Frames.{IsLinkedTo}
-use Rattle.pl0_meaning.specs.Linking.{link_to}
+use Rattle.pl0_meaning.proofs.Linking.{link_to}
 use Rattle.pl0_machine.specs.Machine.{parent_of}
 use Rattle.dap_inspection.specs.Showing.{IsScopeOf}
 

@@ -6,8 +6,8 @@ use Rattle.pl0_tree.specs.Tokens.{tokens_of}
 use Rattle.pl0_tree.specs.Reading.{ReadsProgram}
 use Rattle.pl0_tree.specs.Faults.{level_limit}
 use Rattle.pl0_tree.specs.Steps.{steps}
-use Rattle.pl0_tree.specs.Unique.{program_once}
-use Rattle.pl0_tree.specs.BlockCode.{block_code}
+use Rattle.pl0_tree.proofs.Unique.{program_once}
+use Rattle.pl0_tree.proofs.BlockCode.{block_code}
 use Rattle.pl0_unit.specs.declared.unit.Unit.{Unit as Compiled}
 use Rattle.pl0_unit.specs.Code.{Coded}
 use Rattle.pl0_code.specs.Laws.{OneCode}

@@ -1,5 +1,6 @@
 -- What several lemma files import, from the libraries and from the definitions.
-pub use Rattle.pl0_code.specs.Blocks.{block_rows, blocks_count, blocks_table, list_blocks_rows, procedures_rows}
+pub use Rattle.pl0_code.proofs.BlockLists.{blocks_count, blocks_table, list_blocks_rows}
+pub use Rattle.pl0_code.specs.Blocks.{block_rows, procedures_rows}
 pub use Rattle.pl0_code.specs.Chains.{chain, declared_as, names_before, names_of, outer, resolver}
 pub use Rattle.pl0_code.specs.Lines.{Row, row, rows}
 pub use Rattle.pl0_code.specs.Rows.{call_declared, call_of, condition_rows, expression_rows, read_declared, read_of, Resolver, statement_rows, step_count, store_declared, store_of}
@@ -11,8 +12,8 @@ pub use Rattle.pl0_names.specs.Blocks.{blocks_of, declared_in, found_at, found_i
 pub use Rattle.pl0_names.specs.Earlier.{AreDeclaredBefore, first_before, home_around, home_before}
 pub use Rattle.pl0_names.specs.Numbering.{block_count, numbered, numbered_block, numbered_row, numbered_statement, row_count}
 pub use Rattle.pl0_names.specs.declared.scopes.Found.{Found}
-pub use Rattle.pl0_tree.specs.Plain.{joined, plain_block, plain_constant, plain_expression, plain_name, plain_statement}
-pub use Rattle.pl0_tree.specs.PlainParts.{plain_begin, plain_block_procedures, plain_body, plain_constants, plain_end, plain_procedure, plain_variables}
+pub use Rattle.pl0_tree.specs.Plain.{joined, plain_block, plain_constant, plain_expression, plain_name, plain_procedure, plain_statement}
+pub use Rattle.pl0_tree.proofs.PlainParts.{plain_begin, plain_block_procedures, plain_body, plain_constants, plain_end, plain_variables}
 pub use Rattle.pl0_tree.specs.Scope.{AConstant, Allows, AProcedure, AVariable, block_at, body_uses, condition_uses, Declaration, declarations, expression_uses, first_declaration, Home, home, IsAssigned, IsBefore, IsCalled, IsLawful, IsLawfulUse, IsRead, Meaning, or_else, Path, procedure_at, statement_uses, Use, use_of, UseKind}
 pub use Rattle.pl0_tree.specs.Steps.{block_steps, blocks, procedures_steps, statement_steps, lone_step, StepAt, steps}
 pub use Rattle.pl0_tree.specs.Tokens.{Token, tokens_of}

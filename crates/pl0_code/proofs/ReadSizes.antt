@@ -1,5 +1,5 @@
 -- The code of a program has no more instructions than the program has tokens, and one.
-use Rattle.pl0_tree.specs.SharedLemmas.{constant_part_shorter}
+use Rattle.pl0_tree.proofs.SharedLemmas.{constant_part_shorter}
 use Rattle.pl0_code.proofs.Common.{ABlock, arith, Binary, Block, block_length, Condition, condition_length, Expression, expression_length, length, List, Name, Negate, NoMore, Procedures, procedures_length, Statement, statement_length, Token, ℕ, ◌+◌, ◌∷◌, ◌≤◌}
 use Rattle.pl0_tree.specs.Tree.{AProcedure}
 use Rattle.pl0_tree.specs.Reading.{ReadsExpression, unsigned, positive, negative, ReadsMoreTerms, no_term, one_term, ReadsTerm, factors, ReadsMoreFactors, no_factor, one_factor, ReadsFactor, nested, ReadsCondition, odd, comparison, ReadsStatement, empty, assignment, call, write, sequence, choice, loop, ReadsStatements, last_statement, one_statement, ReadsVariables, last_variable, one_variable, ReadsVariablePart, no_variables, variables, ReadsBlock, block, ReadsProcedures, no_procedure, one_procedure, ReadsProgram, program}

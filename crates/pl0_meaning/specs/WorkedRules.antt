@@ -5,6 +5,7 @@ use Rattle.pl0_tree.specs.Tree.{Name, Expression, Variable, Number, Negate, Bina
 use Rattle.pl0_tree.specs.declared.tree.Operator.TheVariants.{Add, Subtract, Divide}
 use Rattle.pl0_tree.specs.declared.tree.Relation.TheVariants.{Equal, Less}
 use Rattle.pl0_tree.specs.Tokens.{tokens_of}
+use Rattle.pl0_tree.specs.Faults.{level_limit}
 use Rattle.pl0_tree.specs.Reading.{plus, minus, slash, less, negative, no_term, factors, no_factor, one_factor, name, number, nested, odd, comparison, assignment, call, write, sequence, choice, loop, last_statement, one_statement, last_constant, one_constant, no_constants, constants, last_variable, one_variable, no_variables, variables, block, no_procedure, one_procedure, ReadsProgram, program}
 use Rattle.pl0_tree.specs.Steps.{steps}
 use Rattle.pl0_meaning.specs.declared.RunFault.TheVariants.{Overflow, DivideByZero, Depth, StepLimit}
@@ -90,7 +91,7 @@ main = ABlock (constant (a 1 7) (pos 7) ∷ constant (b 1 14) (pos 2) ∷ []) (x
     (place 20 4)
 
 -- the bytes of the text read as the tree
-reads_as_main : ReadsProgram 64 (tokens_of text) main
+reads_as_main : ReadsProgram level_limit (tokens_of text) main
 reads_as_main =
     program (block (constants (one_constant last_constant)) (variables (one_variable last_variable))
     (one_procedure (block (constants last_constant) no_variables no_procedure (assignment a_name))

@@ -10,6 +10,7 @@ use Rattle.pl0_tree.specs.declared.token.Mark.{Mark}
 use Rattle.pl0_tree.specs.Tree.{Name, Expression, Variable, Number, Binary, Compare, Empty, Then, Assign, Call, Write, If, Block, ABlock, NoMore, AProcedure}
 use Rattle.pl0_tree.specs.Steps.{StepAt}
 use Rattle.pl0_tree.specs.Tokens.{Token, Named, Numeral, Marked, tokens_of}
+use Rattle.pl0_tree.specs.Faults.{level_limit}
 use Rattle.pl0_tree.specs.Reading.{token_at, name_at, IsAdding, plus, minus, greater, ReadsTerm, ReadsExpression, unsigned, no_term, one_term, factors, no_factor, name, number, comparison, assignment, call, write, sequence, choice, last_statement, one_statement, no_constants, variables, no_variables, last_variable, block, no_procedure, one_procedure, ReadsProgram, program}
 use Rattle.pl0_meaning.specs.Values.{Configuration, next_step}
 use Rattle.pl0_meaning.specs.Runs.{at, written}
@@ -106,7 +107,7 @@ pub two_terms : {n : ℕ} {word : List ℕ} {p q : Place} {m : Mark} {o : Operat
 two_terms sign term = unsigned (factors name no_factor) (one_term sign term no_term)
 
 -- the bytes of the text read as the tree
-reads_as_main : ReadsProgram 64 (tokens_of text) main
+reads_as_main : ReadsProgram level_limit (tokens_of text) main
 reads_as_main =
     program (block no_constants (variables last_variable)
     (one_procedure

@@ -8,8 +8,8 @@ pub use Rattle.pl0_names.specs.declared.scope.Declared.{Declared}
 pub use Rattle.pl0_tree.specs.Ascending.{Ascend}
 pub use Rattle.pl0_tree.specs.Blocks.{AreNestings, IsNesting, name_of_block, procedure_name}
 pub use Rattle.pl0_tree.specs.Faults.{FaultIs, IsNameFault, IsNameFaultOutside, order, too_early, too_many_names, twice, unknown, wrong_kind}
-pub use Rattle.pl0_tree.specs.Plain.{in_a_row, joined, plain_block, plain_condition, plain_constant, plain_expression, plain_name, plain_statement}
-pub use Rattle.pl0_tree.specs.PlainParts.{listed, plain_begin, plain_block_parts, plain_block_procedures, plain_constants, plain_procedure, plain_variables}
+pub use Rattle.pl0_tree.specs.Plain.{in_a_row, joined, plain_block, plain_condition, plain_constant, plain_expression, plain_name, plain_procedure, plain_statement}
+pub use Rattle.pl0_tree.proofs.PlainParts.{listed, plain_begin, plain_block_parts, plain_block_procedures, plain_constants, plain_variables}
 pub use Rattle.pl0_tree.specs.Reading.{assignment, block, call, choice, comparison, empty, factors, last_constant, last_statement, last_variable, loop, name, negative, nested, no_constants, no_factor, no_procedure, no_term, no_variables, number, odd, one_constant, one_factor, one_procedure, one_statement, one_term, one_variable, positive, program, Reading, ReadsBlock, ReadsCondition, ReadsConditionText, ReadsConstantPart, ReadsConstants, ReadsExpression, ReadsExpressionText, ReadsFactor, ReadsMoreFactors, ReadsMoreTerms, ReadsProcedures, ReadsProgram, ReadsStatement, ReadsStatements, ReadsTerm, ReadsVariablePart, ReadsVariables, sequence, unsigned, write}
 pub use Rattle.pl0_tree.specs.Scope.{AConstant, Allows, AProcedure, AreLawfulOutside, AVariable, block_at, body_uses, condition_uses, Declaration, declarations, declared_as, declared_here, expression_uses, first_declaration, Home, home, IsAssigned, IsBefore, IsCalled, IsLawful, IsLawfulOutside, IsLawfulUse, IsRead, Meaning, or_else, Path, procedure_at, statement_uses, Use, UseKind}
 pub use Rattle.pl0_tree.specs.Steps.{AreSteps, block_paths, block_steps, blocks, procedures_paths, procedures_steps, statement_steps, lone_step, StepAt, steps}

@@ -1,5 +1,5 @@
 -- What is used is declared before it, by the places of names.
-use Rattle.pl0_tree.specs.SharedLemmas.{before_trans}
+use Rattle.pl0_tree.proofs.SharedLemmas.{before_trans}
 use Rattle.pl0_names.proofs.Common.{[], ABlock, AConstant, ap, append_assoc, AProcedure, arith, Ascend, AVariable, Block, block_at, body_uses, Bool, bytes_eq, cond, Constant, constants, Declaration, declared_as, drop, false, find, first_declaration, Home, home, IsBefore, IsLawful, List, map, Meaning, Name, NoMore, None, Option, option_and_then, option_map, option_or, or_else, Path, Place, procedure_at, procedure_list, Procedures, procedures, ReadsProgram, refl, slice_get, Some, statement_uses, subst, suc, sym, take, Token, true, Use, variables, zero, ℕ, ◌++◌, ◌+◌, ◌∙◌, ◌∷◌, ◌≡◌}
 use Rattle.std.proofs.lemmas.List.Folds.{find-append}
 use Rattle.pl0_tree.specs.Tree.{Procedure, AProcedure as AndProcedure}

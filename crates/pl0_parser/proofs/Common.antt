@@ -3,8 +3,8 @@ pub use Rattle.pl0_parser.specs.Parsing.{block_front, constant_front, ending, gu
 pub use Rattle.pl0_parser.specs.Prediction.{AComparison, ACondition, advance, AFactor, AName, AnEnd, AnExpression, ANumber, AStatement, ATerm, block_goals, Choice, choice, comparison_choice, condition_choice, constant_goals, constant_part_choice, ConstantPart, else_behind, end_choice, Expect, expression_choice, factor_choice, first_refusal, followed_by, Goal, if_goals, mark_choice, mark_number, more_constants_choice, more_factors_choice, more_statements_choice, more_terms_choice, more_variables_choice, MoreConstants, MoreFactors, MoreStatements, MoreTerms, MoreVariables, name_choice, nested_goals, nothing_choice, number_choice, opening, Pass, procedure_goals, procedure_part_choice, ProcedurePart, refusal_after, Refuse, sequence_goals, statement_choice, Take, term_choice, variable_part_choice, VariablePart, while_goals}
 pub use Rattle.pl0_parser.specs.declared.cursor.Cursor.{Cursor}
 pub use Rattle.pl0_tree.specs.Faults.{by_itself, FaultIs, Grammar, IsBeginning, IsRefused, IsTokenFault, too_deep, unexpected}
-pub use Rattle.pl0_tree.specs.Plain.{in_a_row, joined, joined_before, plain_block, plain_condition, plain_constant, plain_expression, plain_name, plain_statement, procedures_before}
-pub use Rattle.pl0_tree.specs.PlainParts.{joined_push, made, plain_begin, plain_made, plain_made_procedure, plain_procedure, procedures_push}
+pub use Rattle.pl0_tree.specs.Plain.{in_a_row, joined, joined_before, plain_block, plain_condition, plain_constant, plain_expression, plain_name, plain_procedure, plain_statement, procedures_before}
+pub use Rattle.pl0_tree.proofs.PlainParts.{joined_push, made, plain_begin, plain_made, plain_made_procedure, procedures_push}
 pub use Rattle.pl0_tree.specs.Reading.{token_at, at_least, at_most, equal, greater, IsAdding, IsComparing, IsMultiplying, IsText, less, minus, name_at, plus, Reading, ReadsBlock, ReadsCondition, ReadsConditionText, ReadsConstantPart, ReadsConstants, ReadsExpression, ReadsExpressionText, ReadsFactor, ReadsMoreFactors, ReadsMoreTerms, ReadsProcedures, ReadsProgram, ReadsStatement, ReadsStatements, ReadsTerm, ReadsVariablePart, ReadsVariables, slash, times, unequal}
 pub use Rattle.pl0_tree.specs.Tokens.{behind, decimal_value, EndOfText, Faulty, front_piece, is_space, is_word_byte, Marked, Named, number_symbol, Numeral, sign_piece, signs, start_place, Symbol, symbols, Token, tokens_from, tokens_of, word_symbol}
 pub use Rattle.pl0_tree.specs.Tree.{ABlock, AProcedure, Binary, Block, Condition, Constant, Expression, Name, Negate, NoMore, Number, Procedures, Statement, Variable}

@@ -1,6 +1,7 @@
 -- A token's bytes are skipped, and the lexer goes on after them.
 use Rattle.std.proofs.lemmas.List.Sums.{take_while-cons}
 use Rattle.pl0_parser.proofs.Common.{[], add-zero, ap, arith, token_at, behind, Bool, cond, decimal_value, drop, eqb, false, Faulty, find, fold, front_piece, get_or, is_space, is_word_byte, length, List, lit<, Mark, nat_eq, nat_le, nat_lt, not, number_symbol, NumberTooLarge, Option, Place, pred, refl, sign_piece, signs, Some, subst, suc, sym, Symbol, symbol_of, take, take_while, tokens_from, true, word_symbol, zero, ℕ, ◌&&◌, ◌*◌, ◌+◌, ◌-◌, ◌<◌, ◌==◌, ◌^◌, ◌||◌, ◌∙◌, ◌∷◌, ◌≡◌, ◌≤◌}
+use Rattle.std.specs.Prelude.{◌≢◌}
 use Rattle.std.specs.List.{starts_with}
 use Rattle.std.specs.Str.{IsAscii}
 use Rattle.std.specs.Cmp.Lexicographic.{pointwise}
@@ -8,7 +9,20 @@ use Rattle.std.specs.Char.{is_ascii_digit, is_ascii_alphabetic}
 use Rattle.std.proofs.lemmas.Bool.{cond-false, cond-true, eqb-true, and_parts}
 use Rattle.std.proofs.lemmas.Bool.Decides.{nat_tests}
 use Rattle.pl0_tree.specs.declared.token.Symbol.{Symbol as Seen}
-use Rattle.pl0_parser.specs.Cutting.{StaysOnLine, IsPiece, IsFront, IsSign, along}
+use Rattle.pl0_parser.specs.Cutting.{IsFront, IsSign, along}
+
+-- the first k bytes are there, and none ends a line
+abbrev pub StaysOnLine : ℕ → List ℕ → Type 0
+StaysOnLine zero bytes = Unit {0}
+StaysOnLine (suc k) [] = ⊥
+StaysOnLine (suc k) (b ∷ bytes) = (b ≢ 10) × StaysOnLine k bytes
+
+-- the piece at the front of bytes by the table of symbols, on one line
+abbrev pub IsPiece : List ℕ → Seen → ℕ → Type 0
+IsPiece [] s size = ⊥
+IsPiece (b ∷ bytes) s size =
+    (symbol_of s ≡ (front_piece b (b ∷ bytes)).0) × (size ≡ (front_piece b (b ∷ bytes)).1) × (0 < size)
+    × StaysOnLine size (b ∷ bytes)
 
 pub stays_le : (k : ℕ) (bytes : List ℕ) → StaysOnLine k bytes → k ≤ length bytes
 stays_le zero bytes stays = omega arith

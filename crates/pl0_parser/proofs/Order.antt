@@ -1,6 +1,6 @@
 -- The tokens of a text stand in the order of their places.
 use Rattle.std.proofs.lemmas.Option.{same_Some}
-use Rattle.pl0_tree.specs.SharedLemmas.{before_trans}
+use Rattle.pl0_tree.proofs.SharedLemmas.{before_trans}
 use Rattle.pl0_parser.proofs.Common.{[], arith, behind, Bool, cond, eqb, false, front_piece, inl, inr, is_space, length, List, lit<, map, Place, pred, refl, slice_get, Some, start_place, subst, suc, Token, tokens_from, tokens_of, true, zero, ℕ, ◌+◌, ◌∷◌, ◌≡◌, ◌≤◌}
 use Rattle.pl0_tree.specs.Scope.{IsBefore}
 use Rattle.pl0_tree.specs.Ascending.{Ascend}

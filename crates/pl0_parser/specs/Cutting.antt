@@ -1,17 +1,11 @@
 -- What the functions that cut a text into tokens promise. No public contract cites this file.
-use Rattle.std.specs.Prelude.{◌≡◌, ◌≢◌, ℕ, zero, suc, ◌+◌, ◌<◌, ◌≤◌, List, [], ◌∷◌, length, drop, find, nat_eq}
+use Rattle.std.specs.Prelude.{◌≡◌, ℕ, ◌+◌, ◌<◌, ◌≤◌, List, ◌∷◌, length, drop, find, nat_eq}
 use Rattle.std.specs.List.{starts_with}
 use Rattle.pl0_tree.specs.declared.tree.Place.{Place}
 use Rattle.pl0_tree.specs.declared.token.Symbol.{Symbol as Seen}
-use Rattle.pl0_tree.specs.Tokens.{tokens_from, front_piece, sign_piece, signs}
+use Rattle.pl0_tree.specs.Tokens.{tokens_from, sign_piece, signs}
 use Rattle.pl0_tree.specs.Reading.{token_at}
 use Rattle.pl0_tree.specs.Words.{symbol_of}
-
--- the first k bytes are there, and none ends a line
-abbrev pub StaysOnLine : ℕ → List ℕ → Type 0
-StaysOnLine zero bytes = Unit {0}
-StaysOnLine (suc k) [] = ⊥
-StaysOnLine (suc k) (b ∷ bytes) = (b ≢ 10) × StaysOnLine k bytes
 
 -- a place further on its line
 abbrev pub along : Place → ℕ → Place
@@ -23,13 +17,6 @@ pub record IsFront (bytes : List ℕ) (s : Seen) (size : ℕ) : Type 0 where
   pub within : size ≤ length bytes
   pub first : (p : Place) → tokens_from p 0 bytes ≡ token_at (symbol_of s) p
       ∷ tokens_from (along p size) 0 (drop size bytes)
-
--- the piece at the front of bytes by the table of symbols, on one line
-abbrev pub IsPiece : List ℕ → Seen → ℕ → Type 0
-IsPiece [] s size = ⊥
-IsPiece (b ∷ bytes) s size =
-    (symbol_of s ≡ (front_piece b (b ∷ bytes)).0) × (size ≡ (front_piece b (b ∷ bytes)).1) × (0 < size)
-    × StaysOnLine size (b ∷ bytes)
 
 -- the sign at the front of bytes, or what begins no token
 abbrev pub IsSign : List ℕ → Seen → ℕ → Type 0

@@ -5,7 +5,7 @@ pub use Rattle.pl0_tree.specs.Faults.{FaultIs, IsConditionNameFault, IsCondition
 pub use Rattle.pl0_tree.specs.Plain.{plain_block}
 pub use Rattle.pl0_tree.specs.Reading.{IsText, Reading, ReadsConditionText, ReadsExpressionText, ReadsProgram}
 pub use Rattle.pl0_tree.specs.Scope.{Allows, AreLawfulOutside, condition_uses, declarations, expression_uses, Home, IsBefore, IsLawful, Path, Use}
-pub use Rattle.pl0_tree.specs.SharedLemmas.{handed_on, steps_length}
+pub use Rattle.pl0_tree.proofs.SharedLemmas.{handed_on, steps_length}
 pub use Rattle.pl0_tree.specs.Steps.{AreSteps, blocks, step_path, StepAt, steps}
 pub use Rattle.pl0_tree.specs.Tokens.{start_place, symbols, Token, tokens_of}
 pub use Rattle.pl0_tree.specs.Tree.{Block, Condition, Expression}

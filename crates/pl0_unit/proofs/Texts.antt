@@ -6,8 +6,8 @@ use Rattle.pl0_tree.specs.Tree.{Block}
 use Rattle.pl0_tree.specs.Tokens.{tokens_of}
 use Rattle.pl0_tree.specs.Reading.{ReadsProgram}
 use Rattle.pl0_tree.specs.Faults.{level_limit, IsTreeOf}
-use Rattle.pl0_tree.specs.Unique.{program_once}
-use Rattle.pl0_tree.specs.BlockCode.{block_code}
+use Rattle.pl0_tree.proofs.Unique.{program_once}
+use Rattle.pl0_tree.proofs.BlockCode.{block_code}
 
 pub same_program : (a b : List ℕ) (p q : Block) → a ≡ b → ∥ IsTreeOf a p ∥₁ → ∥ IsTreeOf b q ∥₁ → p ≡ q
 same_program a b p q same first second =

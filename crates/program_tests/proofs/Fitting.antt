@@ -8,17 +8,17 @@ use Rattle.pl0_tree.specs.declared.tree.Block.{Block as DeclaredBlock, out-Block
 use Rattle.pl0_tree.specs.declared.nesting.Nesting.{Nesting}
 use Rattle.pl0_tree.specs.Tree.{Block, variables}
 use Rattle.pl0_tree.specs.Plain.{plain_block, plain_name}
-use Rattle.pl0_tree.specs.PlainParts.{plain_variables}
+use Rattle.pl0_tree.proofs.PlainParts.{plain_variables}
 use Rattle.pl0_tree.specs.Scope.{Path, block_at}
 use Rattle.pl0_tree.specs.Steps.{blocks}
 use Rattle.pl0_tree.specs.Blocks.{AreNestings}
 use Rattle.pl0_meaning.specs.Values.{Frame, Configuration, frame_at}
 use Rattle.pl0_meaning.specs.Frames.{AreLinked}
-use Rattle.pl0_meaning.specs.Linking.{frame_of}
+use Rattle.pl0_meaning.proofs.Linking.{frame_of}
 use Rattle.pl0_unit.specs.declared.unit.Unit.{Unit as Compiled}
 use Rattle.pl0_machine.specs.declared.outcome.FrameView.{FrameView}
 use Rattle.pl0_machine.specs.Machine.{program_of, Shows, variables_of}
-use Rattle.pl0_syntax.specs.Tables.{nestings_prop}
+use Rattle.pl0_syntax.proofs.Tables.{nestings_prop}
 
 pub unit_nestings : (u : Compiled) → AreNestings (program_of u) u.nestings.items (blocks (program_of u))
 unit_nestings u = ∥∥₁_elim u.nested (nestings_prop (program_of u) u.nestings.items (blocks (program_of u))) (λ h. h)

@@ -1,4 +1,4 @@
-use Rattle.pl0_tree.specs.SharedLemmas.{handed_on}
+use Rattle.pl0_tree.proofs.SharedLemmas.{handed_on}
 use Rattle.pl0_parser.proofs.Common.{ap, token_at, ending, left_of, Marked, Period, RefusedAll, ◌∙◌, ◌∷◌}
 use Rattle.pl0_parser.proofs.Progress.{stays_all, fails}
 use Rattle.pl0_parser.proofs.Statements.{marked}
