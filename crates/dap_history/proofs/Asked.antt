@@ -160,7 +160,7 @@ module _ (one : OneProgram) (joins : WrittenJoins) where
       let e = sym goes ∙ ap (λ (e : Effect). last_such go e.orders) is.effect_is in absurd cc
 
   pub each_as_asked : EachRunIsAsAsked
-  each_as_asked events past rest lawful history before step after run past_is orders =
+  each_as_asked events past rest lawful history before step after past_is run orders =
       item_mode before step.item step was.taken was.causes was.held run (ordered_last before step run was.causes orders)
     where
       each : EachTaken IsLawfulEvent (Ran one joins) past

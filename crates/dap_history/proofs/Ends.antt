@@ -359,7 +359,7 @@ module _ (one : OneProgram) (joins : WrittenJoins) where
       end_by (Content (Some request)) item_is taken is =
           let told = reply_exits (situation before) request.body there.step.effect.events (exits there.front)
           (exits there.back) code
-          (each_reply_told events past rest history before there.step there.after request there.past_is item_is)
+          (each_reply_told events past rest history before there.step there.after there.past_is request item_is)
           codes_are in
           let fault = was.held.1 told.0 in
           subst (λ c. EndsWith before c m) (sym told.1) (record {
@@ -370,7 +370,7 @@ module _ (one : OneProgram) (joins : WrittenJoins) where
             faults = ap (outcome fault.0.program) (m_is (Content (Some request)) item_is) ∙ fault.3;
           })
       end_by (Accepted r) item_is taken is =
-          let told = each_report_told events past rest history before there.step there.after r there.past_is item_is in
+          let told = each_report_told events past rest history before there.step there.after there.past_is r item_is in
           let done = report_exits before r.outcome (exits there.front) (exits there.back) code
           (sym (after_outputs told.1.0 (tells before r.outcome) there.step.effect.events told.1.1 told.1.2)
           ∙ codes_are) in
@@ -405,7 +405,7 @@ module _ (one : OneProgram) (joins : WrittenJoins) where
   further_on main l r start same from slice.NoMemory (lacks_memory stays runs) = stays ∙ from
 
   pub each_told : RunsHaveNoGaps → NothingFollowsTheEnd → EachEndIsTold
-  each_told no_gaps ends events past rest lawful history before step after r past_is item_is =
+  each_told no_gaps ends events past rest lawful history before step after past_is r item_is =
       (l.0, l.1, report_lives one joins no_gaps ends before r taken.0 taken.1 was.held.0.0 l.0 l.1, further)
     where
       was : WasTaken IsLawfulEvent Both before step

@@ -67,7 +67,7 @@ enters_stops past l (Some r) = (
 
 module _ (one : OneProgram) (joins : WrittenJoins) where
   pub zero_considered : PositionZeroIsConsidered
-  zero_considered events past rest lawful history before step after request past_is grants asked_is =
+  zero_considered events past rest lawful history before step after past_is request grants asked_is =
       (there.l, there.there, stop_is, runs_is)
     where
       is : Causes before (Content (Some request)) step

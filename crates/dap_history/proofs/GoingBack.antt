@@ -237,7 +237,7 @@ module _ (one : OneProgram) (joins : WrittenJoins) where
   back_first = record { ran = ran_first one joins; stood = λ back standing. absurd standing }
 
   pub counts_begin_anew : CountsBeginAnew
-  counts_begin_anew events past rest lawful history before step after run past_is orders back =
+  counts_begin_anew events past rest lawful history before step after past_is run orders back =
       by_place (ordered_from before (back_in step.item) step.effect.put_in (run_in step)
       (item_ordered before step.item step was.taken was.causes) run
       (ordered_last before step run was.causes orders))

@@ -184,7 +184,7 @@ module _ (events : List Incoming) (past : History) (rest : Rest) (history : IsHi
   was_taken = each.each before step after past_is
 
 pub each_judged : EachIsJudged
-each_judged events past rest history before step after request past_is item_is = (
+each_judged events past rest history before step after past_is request item_is = (
   is.0.result,
   is.2.answer_is,
   subst (λ (r : Reply). IsVerdict (refused_by (situation before) request.body) request.body r.result)

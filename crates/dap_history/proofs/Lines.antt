@@ -671,7 +671,7 @@ module _ (one : OneProgram) (joins : WrittenJoins) where
       let none = here.ran.so_far.early (subst IsEarly (sym fresh) tt) in let e = sym there ∙ none in cc
 
   pub has_its_lines : EachRunHasItsLines
-  has_its_lines events past rest lawful history before step after run past_is orders =
+  has_its_lines events past rest lawful history before step after past_is run orders =
       let there = so events past rest lawful history before step after run past_is orders in (
         there.0,
         settings before,
@@ -685,7 +685,7 @@ module _ (one : OneProgram) (joins : WrittenJoins) where
       here = (was events past rest lawful history before step after run past_is orders).held
 
   pub counts_as_set : EachRunCountsFrom
-  counts_as_set events past rest lawful history before step after run past_is orders =
+  counts_as_set events past rest lawful history before step after past_is run orders =
       let there = so events past rest lawful history before step after run past_is orders in (there.0, there.1, there.3)
 
   -- ---- the plan in force

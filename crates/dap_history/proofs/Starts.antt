@@ -63,7 +63,7 @@ module _ (one : OneProgram) (joins : WrittenJoins) where
       let e = sym (run_of_effect step _ is.effect_is) ∙ run_is in absurd cc
 
   pub each_run_starts : EachRunStartsThere
-  each_run_starts events past rest lawful history before step after run past_is orders =
+  each_run_starts events past rest lawful history before step after past_is run orders =
       let there = of_launched before step.item step was.taken was.causes was.held run run_is in (
         there.0,
         there.1,

@@ -51,7 +51,7 @@ report_tells past r (slice.Fault fault) = (
 report_tells past r slice.NoMemory = ([], All-nil IsOutput, refl)
 
 pub each_report_told : EachReportIsTold
-each_report_told events past rest history before step after r past_is item_is = (
+each_report_told events past rest history before step after past_is r item_is = (
   is.answer_is,
   subst (λ (e : Effect). EndsIn e.events (tells before r.outcome)) (sym is.effect_is)
       (report_tells before r r.outcome),

@@ -2,7 +2,7 @@
 use Rattle.dap_history.proofs.Common.{AtMostOne, Block, IsTreeOf, ℕ, ∥∥₁_elim, ◌≡◌}
 use Rattle.std.proofs.Common.{List}
 use Rattle.std.specs.Coded.{Coded-set}
-use Rattle.pl0_tree.specs.BlockCode.{block_code}
+use Rattle.pl0_tree.proofs.BlockCode.{block_code}
 
 abbrev pub OneProgram : Type 0
 OneProgram = (text : List ℕ) (a b : Block) → ∥ IsTreeOf text a ∥₁ → ∥ IsTreeOf text b ∥₁ → a ≡ b

@@ -11,8 +11,8 @@ use Rattle.dbg_runner.specs.declared.outcome.SliceOutcome.TheVariants as slice
 use Rattle.dap_history.specs.declared.situation.Situation.TheVariants.{Faulted}
 use Rattle.dap_history.specs.History.{Launched, Accepted, Step, History}
 use Rattle.dap_history.specs.Readings.{situation, launched, last_run, position}
-use Rattle.dap_history.specs.Events.{Incoming, Rest, AreLawful, IsHistoryOf}
 use Rattle.dap_history.specs.Moves.{GoesBy, NowhereBefore, IsAlive}
+use Rattle.dap_history.specs.Always.{OfLawfulHistories, OfLawfulSteps}
 
 -- ---- where an end is told
 
@@ -55,11 +55,11 @@ EndsWith before zero m = HasEnded before m
 EndsWith before (suc zero) m = StandsBeforeFault before m
 EndsWith before _ m = ⊥
 
--- A program is told to have exited only where it has.
+-- A program is told to have exited with the code 0 only where no frame of it is alive, after a run forward that had
+-- nowhere to stop; with 1 only where it stands before a step that faults; and with no other code.
 abbrev pub EachEndIsTheEnd : Type 0
-EachEndIsTheEnd =
-    (events : List Incoming) (past : History) (rest : Rest) → AreLawful events → IsHistoryOf events past rest
-    → (before : History) (code m : ℕ) → ExitsAt past before code m → EndsWith before code m
+EachEndIsTheEnd = OfLawfulHistories (λ past.
+    (before : History) (code m : ℕ) → ExitsAt past before code m → EndsWith before code m)
 
 -- ---- where it has to be told
 
@@ -77,12 +77,12 @@ ComesFurther l start end (slice.Fault fault) = outcome l.program end ≡ Faults 
 ComesFurther l start end slice.Held = end ≡ start
 ComesFurther l start end slice.NoMemory = end ≡ start
 
--- No report passes the program's end, and none stays before its last step, or before a step that faults: what the law
--- `told` says of `Done` and `Fault` is told there.
+-- A report ends where a frame is alive, or at the program's end, and says so. A run forward that isn't held, and has
+-- its memory, takes a step in each report, or stands before one that faults, with that fault. `EachReportIsTold` says
+-- what is told of these.
 abbrev pub EachEndIsTold : Type 0
-EachEndIsTold =
-    (events : List Incoming) (past : History) (rest : Rest) → AreLawful events → IsHistoryOf events past rest
-    → (before : History) (step : Step) (after : History) (r : PlainReport) → past ≡ before ++ step ∷ after
+EachEndIsTold = OfLawfulSteps (λ before step.
+    (r : PlainReport)
     → step.item ≡ Accepted r
     → (l : Launched) × (launched before ≡ Some l) × EndsThere l r
-    × (goes_back r.mode ≡ false → ComesFurther l (position before) r.end r.outcome)
+    × (goes_back r.mode ≡ false → ComesFurther l (position before) r.end r.outcome))

@@ -1,7 +1,7 @@
 -- States the laws of going back: which command asked for a run that goes back, and how the run is ordered.
 use Rattle.dap_msg.specs.declared.requests.resume.RetreatKind.TheVariants as retreat
 use Rattle.dbg_plan.specs.declared.mode.Mode.TheVariants as mode
-use Rattle.std.specs.Prelude.{◌≡◌, ◌++◌, ◌∷◌, ℕ, ◌+◌, true, if◌then◌else◌, List, Option, None, Some, IsSome, Ok}
+use Rattle.std.specs.Prelude.{◌≡◌, ℕ, ◌+◌, true, if◌then◌else◌, Option, None, Some, IsSome, Ok}
 use Rattle.dap_msg.specs.declared.command.Command.{Command}
 use Rattle.dap_msg.specs.declared.command.Command.TheVariants as command
 use Rattle.dap_msg.specs.declared.command.CommandName.{CommandName}
@@ -10,10 +10,10 @@ use Rattle.dap_msg.specs.declared.outgoing.Body.{Body}
 use Rattle.dbg_plan.specs.declared.mode.Mode.{Mode}
 use Rattle.dbg_runner.specs.Plain.{Heading, PlainOrder, Hold, goes_back}
 use Rattle.dap_history.specs.Last.{last_such}
-use Rattle.dap_history.specs.History.{Item, Content, Step, History}
+use Rattle.dap_history.specs.History.{Item, Content}
 use Rattle.dap_history.specs.Readings.{is_back}
-use Rattle.dap_history.specs.Events.{Incoming, Rest, AreLawful, IsHistoryOf}
 use Rattle.dap_history.specs.Stops.{run_in, Orders}
+use Rattle.dap_history.specs.Always.{OfLawfulSteps, OfSteps}
 
 -- the mode in which a command goes back, if it does
 abbrev pub back_by : Command → Option Mode
@@ -31,22 +31,19 @@ abbrev pub back_of : Heading → Option Mode
 back_of run = if goes_back run.mode then Some run.mode else None
 
 -- A run goes back only where `stepBack` or `reverseContinue` asks for it, in the mode that the command asks for. Where
--- the command is granted, a run is ordered.
+-- the command is granted, a run is ordered. `EachStopIsAsAsked` says where it leads.
 abbrev pub EachGoesBackAsAsked : Type 0
-EachGoesBackAsAsked =
-    (events : List Incoming) (past : History) (rest : Rest) → AreLawful events → IsHistoryOf events past rest
-    → (before : History) (step : Step) (after : History) → past ≡ before ++ step ∷ after
-    → ((run : Heading) → Orders step run → back_of run ≡ back_in step.item)
+EachGoesBackAsAsked = OfLawfulSteps (λ before step.
+    ((run : Heading) → Orders step run → back_of run ≡ back_in step.item)
     × ((m : Mode) (seq : ℕ) (name : CommandName) (b : Body) → back_in step.item ≡ Some m
-    → step.answer ≡ Some (Answer seq name (Ok b)) → IsSome (run_in step))
+    → step.answer ≡ Some (Answer seq name (Ok b)) → IsSome (run_in step)))
 
 -- A run after one that went back counts from the position after the one where it begins.
 abbrev pub CountsBeginAnew : Type 0
-CountsBeginAnew =
-    (events : List Incoming) (past : History) (rest : Rest) → AreLawful events → IsHistoryOf events past rest
-    → (before : History) (step : Step) (after : History) (run : Heading) → past ≡ before ++ step ∷ after
+CountsBeginAnew = OfLawfulSteps (λ before step.
+    (run : Heading)
     → Orders step run
-    → is_back before ≡ true → run.counted_from ≡ run.start + 1
+    → is_back before ≡ true → run.counted_from ≡ run.start + 1)
 
 -- the number of the run that an order holds, if it holds one
 abbrev pub held_by : PlainOrder → Option ℕ
@@ -55,7 +52,5 @@ held_by _ = None
 
 -- No run that goes back is ordered to hold.
 abbrev pub RetreatsAreNotHeld : Type 0
-RetreatsAreNotHeld =
-    (events : List Incoming) (past : History) (rest : Rest) → IsHistoryOf events past rest
-    → (before : History) (step : Step) (after : History) → past ≡ before ++ step ∷ after
-    → is_back before ≡ true → last_such held_by step.effect.orders ≡ None
+RetreatsAreNotHeld = OfSteps (λ before step.
+    is_back before ≡ true → last_such held_by step.effect.orders ≡ None)

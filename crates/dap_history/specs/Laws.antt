@@ -32,8 +32,9 @@ use Rattle.dbg_plan.specs.declared.resolving.SourceBreakpoint.{SourceBreakpoint 
 use Rattle.dbg_runner.specs.Plain.{PlainOrder, Quit}
 use Rattle.dap_history.specs.Breakpoints.{AreAskedAs, line_offset}
 use Rattle.dap_history.specs.Emission.{IsAfter}
-use Rattle.dap_history.specs.Events.{Incoming, Piece, End, ReadFailed, Rest, AreLawful, IsTaking, IsHistoryOf}
+use Rattle.dap_history.specs.Events.{Incoming, Piece, End, ReadFailed, Rest, IsTaking, IsHistoryOf}
 use Rattle.dap_history.specs.Output.{frames_from}
+use Rattle.dap_history.specs.Always.{OfHistories, OfLawfulHistories}
 
 -- ---- One history
 
@@ -63,9 +64,8 @@ IsPlainItem _ = Unit {0}
 
 -- An item that needs no reading of a text leads from each history to another. `NoItemLeadsNowhere` speaks of all items.
 abbrev pub EachItemLeads : Type 0
-EachItemLeads =
-    (events : List Incoming) (past : History) (rest : Rest) → AreLawful events → IsHistoryOf events past rest
-    → (item : Item) → IsPlainItem item → (new : History) × IsAfter past item new
+EachItemLeads = OfLawfulHistories (λ past.
+    (item : Item) → IsPlainItem item → (new : History) × IsAfter past item new)
 
 -- the texts of a command's lines are strings: UTF-8 that memory can hold
 abbrev pub AreStrings : ℕ → Command → Type 0
@@ -80,9 +80,8 @@ HasStrings less _ = Unit {0}
 -- No item leads nowhere: each has an answer and an effect, a launch with its text, lines of breakpoints and an
 -- expression too, whatever their texts are.
 abbrev pub NoItemLeadsNowhere : Type 0
-NoItemLeadsNowhere =
-    (events : List Incoming) (past : History) (rest : Rest) → AreLawful events → IsHistoryOf events past rest
-    → (item : Item) → HasStrings (line_offset past) item → ¬ ((new : History) → ¬ IsAfter past item new)
+NoItemLeadsNowhere = OfLawfulHistories (λ past.
+    (item : Item) → HasStrings (line_offset past) item → ¬ ((new : History) → ¬ IsAfter past item new))
 
 -- ---- Contents of the stream
 
@@ -160,10 +159,9 @@ request_of_item MemoryFailure = None
 
 -- The answers are, in order, one for each well-formed request among the items, under its own seq and command.
 abbrev pub EachIsAnsweredOnce : Type 0
-EachIsAnsweredOnce =
-    (events : List Incoming) (past : History) (rest : Rest) → IsHistoryOf events past rest
-    → filter_map answered_request (messages_of past) ≡ filter_map request_of_item
-    (map (λ (step : Step). step.item) past)
+EachIsAnsweredOnce = OfHistories (λ past.
+    filter_map answered_request (messages_of past) ≡ filter_map request_of_item
+    (map (λ (step : Step). step.item) past))
 
 -- ---- Numbering
 
@@ -176,11 +174,10 @@ SeqCountFromOne =
 
 -- The content of the nth frame is read as the nth message, which says that its seq is n. Seqs are numbers of 64 bits.
 abbrev pub FramesAreReadBack : Type 0
-FramesAreReadBack =
-    (events : List Incoming) (past : History) (rest : Rest) → IsHistoryOf events past rest
-    → (n : ℕ) (message : Outgoing) → slice_get (messages_of past) n ≡ Some message → n + 1 < 2 ^ 64
+FramesAreReadBack = OfHistories (λ past.
+    (n : ℕ) (message : Outgoing) → slice_get (messages_of past) n ≡ Some message → n + 1 < 2 ^ 64
     → (content : List ℕ) × (slice_get (frames_from 1 (messages_of past)) n ≡ Some (frame_of content))
-    × ReadsAsMessage message (n + 1) content
+    × ReadsAsMessage message (n + 1) content)
 
 -- ---- Last message
 
@@ -208,9 +205,8 @@ ClosedByItsEvent =
 
 -- Nothing is ordered after a Quit.
 abbrev pub QuitIsLast : Type 0
-QuitIsLast =
-    (events : List Incoming) (past : History) (rest : Rest) → IsHistoryOf events past rest
-    → (front more : List PlainOrder) → orders_of past ≡ front ++ Quit ∷ more → more ≡ []
+QuitIsLast = OfHistories (λ past.
+    (front more : List PlainOrder) → orders_of past ≡ front ++ Quit ∷ more → more ≡ [])
 
 -- where the session was closed, Quit is the last of its orders; where it goes on or gave up, Quit isn't among them
 abbrev pub EndsWithQuit : Option Ending → List PlainOrder → Type 0
@@ -220,30 +216,27 @@ EndsWithQuit _ orders = (front back : List PlainOrder) → ¬ (orders ≡ front 
 -- A session that was closed by `disconnect`, the end of the input or a failed read ordered Quit last. One that goes on
 -- or gave up ordered no Quit.
 abbrev pub QuitCloses : Type 0
-QuitCloses =
-    (events : List Incoming) (past : History) (rest : Rest) → IsHistoryOf events past rest
-    → EndsWithQuit (ending_of past) (orders_of past)
+QuitCloses = OfHistories (λ past.
+    EndsWithQuit (ending_of past) (orders_of past))
 
 -- ---- Output order
 
 -- The numbers reported are, in order, those that the program wrote up to the furthest position that it has reached, so
 -- none is reported twice; there are none before it is launched.
 abbrev pub NumbersAreWritten : Type 0
-NumbersAreWritten =
-    (events : List Incoming) (past : History) (rest : Rest) → AreLawful events → IsHistoryOf events past rest
-    → ((l : Launched) → launched past ≡ Some l → numbers (messages_of past) ≡ written l.program 0 (reached past))
-    × (launched past ≡ None → numbers (messages_of past) ≡ [])
+NumbersAreWritten = OfLawfulHistories (λ past.
+    ((l : Launched) → launched past ≡ Some l → numbers (messages_of past) ≡ written l.program 0 (reached past))
+    × (launched past ≡ None → numbers (messages_of past) ≡ []))
 
 -- The numbers reported before a stop are exactly those of the steps up to the furthest position
 -- that the program has reached then.
 abbrev pub StopsFollowNumbers : Type 0
-StopsFollowNumbers =
-    (events : List Incoming) (past : History) (rest : Rest) → AreLawful events → IsHistoryOf events past rest
-    → (front : History) (step : Step) (more : History) → past ≡ front ++ step ∷ more
+StopsFollowNumbers = OfLawfulHistories (λ past.
+    (front : History) (step : Step) (more : History) → past ≡ front ++ step ∷ more
     → (l : Launched) → launched (front ++ step ∷ []) ≡ Some l
     → (before : List Outgoing) (reason : StopReason) (after : List Outgoing) → messages step ≡ before
     ++ Event (event.Stopped reason) ∷ after
-    → numbers (messages_of front ++ before) ≡ written l.program 0 (reached (front ++ step ∷ []))
+    → numbers (messages_of front ++ before) ≡ written l.program 0 (reached (front ++ step ∷ [])))
 
 -- ---- Logs
 
@@ -258,28 +251,25 @@ log_texts messages = filter_map log_of messages
 
 -- The logs reported are, in order, those of the positions considered; there are none before a program is launched.
 abbrev pub LogsAreOfPositions : Type 0
-LogsAreOfPositions =
-    (events : List Incoming) (past : History) (rest : Rest) → AreLawful events → IsHistoryOf events past rest
-    → ((l : Launched) → launched past ≡ Some l → log_texts (messages_of past) ≡ logged l past)
-    × (launched past ≡ None → log_texts (messages_of past) ≡ [])
+LogsAreOfPositions = OfLawfulHistories (λ past.
+    ((l : Launched) → launched past ≡ Some l → log_texts (messages_of past) ≡ logged l past)
+    × (launched past ≡ None → log_texts (messages_of past) ≡ []))
 
 -- The numbers reported before a log are exactly those of the steps up to the furthest position
 -- that the program has reached then.
 abbrev pub LogsFollowNumbers : Type 0
-LogsFollowNumbers =
-    (events : List Incoming) (past : History) (rest : Rest) → AreLawful events → IsHistoryOf events past rest
-    → (front : History) (step : Step) (more : History) → past ≡ front ++ step ∷ more
+LogsFollowNumbers = OfLawfulHistories (λ past.
+    (front : History) (step : Step) (more : History) → past ≡ front ++ step ∷ more
     → (l : Launched) → launched (front ++ step ∷ []) ≡ Some l
     → (before : List Outgoing) (text : List ℕ) (after : List Outgoing) → messages step ≡ before
     ++ Event (event.Log text) ∷ after
-    → numbers (messages_of front ++ before) ≡ written l.program 0 (reached (front ++ step ∷ []))
+    → numbers (messages_of front ++ before) ≡ written l.program 0 (reached (front ++ step ∷ [])))
 
 -- The logs reported before a stop are exactly those of the positions considered until then.
 abbrev pub StopsFollowLogs : Type 0
-StopsFollowLogs =
-    (events : List Incoming) (past : History) (rest : Rest) → AreLawful events → IsHistoryOf events past rest
-    → (front : History) (step : Step) (more : History) → past ≡ front ++ step ∷ more
+StopsFollowLogs = OfLawfulHistories (λ past.
+    (front : History) (step : Step) (more : History) → past ≡ front ++ step ∷ more
     → (l : Launched) → launched (front ++ step ∷ []) ≡ Some l
     → (before : List Outgoing) (reason : StopReason) (after : List Outgoing) → messages step ≡ before
     ++ Event (event.Stopped reason) ∷ after
-    → log_texts (messages_of front ++ before) ≡ logged l (front ++ step ∷ [])
+    → log_texts (messages_of front ++ before) ≡ logged l (front ++ step ∷ []))

@@ -29,6 +29,8 @@ pub mod Reports
 pub mod Emission
 -- which items a list of events gives
 pub mod Events
+-- of what laws speak
+pub mod Always
 -- which events arise from an inbox and a loader
 pub mod Interleaving
 -- the frames of the messages

@@ -15,9 +15,9 @@ use Rattle.dbg_plan.specs.Breakpoints.{Breakpoint}
 use Rattle.dbg_plan.specs.Resolutions.{step_from, ReadsConditionAt, ReadsRule, ReadsMessageAt, HasConditionAt, HasRule, HasMessageAt}
 use Rattle.dap_history.specs.History.{Launched, Step, History}
 use Rattle.dap_history.specs.Readings.{launched}
-use Rattle.dap_history.specs.Events.{Incoming, Rest, IsHistoryOf}
 use Rattle.dap_history.specs.Runs.{Grants}
 use Rattle.dap_history.specs.Initialized.{IsInitializedBy, less_by}
+use Rattle.dap_history.specs.Always.{OfHistories}
 
 -- A line, of a client whose lines are so much less than counted from 1, is answered with the line of the first step at
 -- or after it, if its condition, its hit condition and its message read there; or else with the first reason why not.
@@ -65,16 +65,16 @@ GiveBreakpoints main less (line ∷ lines) (a ∷ answers) bs =
     × GivesBreakpoint main less line a mine × GiveBreakpoints main less lines answers rest
 GiveBreakpoints main less _ _ bs = ⊥
 
--- A granted `setBreakpoints` has an answer for each line, in order. At the launched path it is that of the line, in the
--- client's own counting; at any other path, or none, it is `otherSource`.
+-- A granted `setBreakpoints` has an answer for each line, in order. At the launched path it is the line of the first
+-- step at or after it, in the client's own counting, or the first reason why not; at any other path, or none, it is
+-- `otherSource`.
 abbrev pub LinesAreAnswered : Type 0
-LinesAreAnswered =
-    (events : List Incoming) (past : History) (rest : Rest) → IsHistoryOf events past rest
-    → (before : History) (step : Step) (after : History) (request : Request) (asked : SetBreakpointsArguments)
+LinesAreAnswered = OfHistories (λ past.
+    (before : History) (step : Step) (after : History) (request : Request) (asked : SetBreakpointsArguments)
     → past ≡ before ++ step ∷ after → (granted : Grants step request)
     → request.body ≡ command.SetBreakpoints asked
     → (l : Launched) × (counting : InitializeArguments) × (answers : List BreakpointAnswer)
     × (launched before ≡ Some l) × IsInitializedBy before counting × (granted.body ≡ body.Breakpoints answers)
     × (asked.path ≡ Some l.path
     → AnswersLines l.program (less_by counting.lines_start_at_1) asked.breakpoints answers)
-    × ((¬ (asked.path ≡ Some l.path)) → answers ≡ map (λ b. answer.Unverified why.OtherSource) asked.breakpoints)
+    × ((¬ (asked.path ≡ Some l.path)) → answers ≡ map (λ b. answer.Unverified why.OtherSource) asked.breakpoints))

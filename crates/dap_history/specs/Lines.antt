@@ -1,6 +1,6 @@
 -- States the laws of breakpoints: each run has those of the lines that were set last, and counts from where they were
 -- set.
-use Rattle.std.specs.Prelude.{◌≡◌, ◌++◌, ◌∷◌, [], ℕ, ◌+◌, Bool, true, false, ◌||◌, if◌then◌else◌, is_some, List, Option, None, Some, option_map, unwrap_or, Ok}
+use Rattle.std.specs.Prelude.{◌≡◌, [], ℕ, ◌+◌, Bool, true, false, ◌||◌, if◌then◌else◌, is_some, List, Option, None, Some, option_map, unwrap_or, Ok}
 use Rattle.std.specs.Option.{option_map_or}
 use Rattle.dap_msg.specs.declared.command.Command.{Command}
 use Rattle.dap_msg.specs.declared.command.Command.TheVariants as command
@@ -20,8 +20,8 @@ use Rattle.dap_history.specs.Initialized.{IsInitializedBy, less_by}
 use Rattle.dap_history.specs.LineAnswers.{GiveBreakpoints}
 use Rattle.std.specs.Str.{bytes_eq}
 use Rattle.dap_history.specs.Considered.{starts_by}
-use Rattle.dap_history.specs.Events.{Incoming, Rest, AreLawful, IsHistoryOf}
 use Rattle.dap_history.specs.Stops.{run_in, Orders}
+use Rattle.dap_history.specs.Always.{OfLawfulHistories, OfLawfulSteps}
 
 -- ---- lines
 
@@ -55,23 +55,22 @@ HasDebuggee Faulted = Unit {0}
 HasDebuggee _ = ⊥
 
 -- Where the session has the debuggee, the plan in force is the breakpoints of the lines that were set last at the
--- launched path. Before the program is started it counts from position 0.
+-- launched path, each at the step that its line is answered with, with its condition, hit condition and message. Before
+-- the program is started it counts from position 0.
 abbrev pub PlanIsOfLines : Type 0
-PlanIsOfLines =
-    (events : List Incoming) (past : History) (rest : Rest) → AreLawful events → IsHistoryOf events past rest
-    → HasDebuggee (situation past) → (l : Launched) → launched past ≡ Some l
+PlanIsOfLines = OfLawfulHistories (λ past.
+    HasDebuggee (situation past) → (l : Launched) → launched past ≡ Some l
     → (counting : InitializeArguments) × IsInitializedBy past counting
     × AreOfLines l counting (lines_set l.path past) (plan past).breakpoints
-    × (situation past ≡ Configuring → (plan past).counted_from ≡ 0)
+    × (situation past ≡ Configuring → (plan past).counted_from ≡ 0))
 
 -- Each run is under the breakpoints of the lines that were set last at the launched path.
 abbrev pub EachRunHasItsLines : Type 0
-EachRunHasItsLines =
-    (events : List Incoming) (past : History) (rest : Rest) → AreLawful events → IsHistoryOf events past rest
-    → (before : History) (step : Step) (after : History) (run : Heading) → past ≡ before ++ step ∷ after
+EachRunHasItsLines = OfLawfulSteps (λ before step.
+    (run : Heading)
     → Orders step run
     → (l : Launched) × (counting : InitializeArguments) × (launched before ≡ Some l) × IsInitializedBy before counting
-    × AreOfLines l counting (lines_set l.path before) run.plan
+    × AreOfLines l counting (lines_set l.path before) run.plan)
 
 -- ---- counting
 
@@ -100,8 +99,7 @@ first_counted past l answer start =
 -- lines were set since the run before it, or if that run went back; otherwise from where that run counts, or from 0 if
 -- none was.
 abbrev pub EachRunCountsFrom : Type 0
-EachRunCountsFrom =
-    (events : List Incoming) (past : History) (rest : Rest) → AreLawful events → IsHistoryOf events past rest
-    → (before : History) (step : Step) (after : History) (run : Heading) → past ≡ before ++ step ∷ after
+EachRunCountsFrom = OfLawfulSteps (λ before step.
+    (run : Heading)
     → Orders step run
-    → (l : Launched) × (launched before ≡ Some l) × (run.counted_from ≡ first_counted before l step.answer run.start)
+    → (l : Launched) × (launched before ≡ Some l) × (run.counted_from ≡ first_counted before l step.answer run.start))

@@ -1,5 +1,5 @@
 -- States the laws of launching: what is launched is the program of the file that came, and nothing else launches one.
-use Rattle.std.specs.Prelude.{◌≡◌, ◌⊎◌, ◌++◌, ◌∷◌, [], ℕ, List, Option, None, Some, Ok, Err, IsSome}
+use Rattle.std.specs.Prelude.{◌≡◌, ◌⊎◌, ◌∷◌, [], ℕ, List, Option, None, Some, Ok, Err, IsSome}
 use Rattle.dap_msg.specs.declared.command.CommandName.TheVariants as name
 use Rattle.dap_msg.specs.declared.command.Supported.TheVariants as supported
 use Rattle.dap_msg.specs.declared.outgoing.Outgoing.TheVariants.{Answer}
@@ -12,8 +12,8 @@ use Rattle.pl0_tree.specs.declared.tree.Place.{Place}
 use Rattle.pl0_tree.specs.declared.fault.FaultKind.{FaultKind}
 use Rattle.pl0_tree.specs.Faults.{fault_number, IsFirstFault, IsTreeOf}
 use Rattle.dap_history.specs.declared.launch.Launch.{Launch}
-use Rattle.dap_history.specs.History.{Loaded, Step, History}
-use Rattle.dap_history.specs.Events.{Incoming, Rest, IsHistoryOf}
+use Rattle.dap_history.specs.History.{Loaded, Step}
+use Rattle.dap_history.specs.Always.{OfSteps}
 
 -- The text is a program. It is launched under the path and with the options of the request; the answer has no body, and
 -- `initialized` is all that follows it.
@@ -47,11 +47,11 @@ abbrev pub EndsLaunch : Launch → Option (List ℕ) → Step → Type 0
 EndsLaunch launch None step = RefusesLaunch launch refusal.CannotRead step
 EndsLaunch launch (Some text) step = LaunchesIts launch text step ⊎ RefusesFault launch text step
 
--- A launch launches the program of the file that came, or is refused for that file. No other step launches a program.
+-- A launch launches the program of the file that came, under the path and with the options of the request, and
+-- `initialized` is all that follows; or it is refused, since the file can't be read, or with its first fault. No other
+-- step launches a program.
 abbrev pub EachLaunchIsOfItsFile : Type 0
-EachLaunchIsOfItsFile =
-    (events : List Incoming) (past : History) (rest : Rest) → IsHistoryOf events past rest
-    → (before : History) (step : Step) (after : History) → past ≡ before ++ step ∷ after
-    → ((launch : Launch) (file : Option (List ℕ)) → step.item ≡ Loaded launch file → EndsLaunch launch file step)
+EachLaunchIsOfItsFile = OfSteps (λ before step.
+    ((launch : Launch) (file : Option (List ℕ)) → step.item ≡ Loaded launch file → EndsLaunch launch file step)
     × (IsSome step.effect.launched
-    → (launch : Launch) × (text : List ℕ) × (step.item ≡ Loaded launch (Some text)) × LaunchesIts launch text step)
+    → (launch : Launch) × (text : List ℕ) × (step.item ≡ Loaded launch (Some text)) × LaunchesIts launch text step))

@@ -21,9 +21,9 @@ use Rattle.dbg_runner.specs.declared.outcome.SliceOutcome.TheVariants as slice
 use Rattle.dap_history.specs.declared.situation.Situation.TheVariants.{Running}
 use Rattle.dap_history.specs.History.{Launched, Item, Content, Accepted, Step, History}
 use Rattle.dap_history.specs.Readings.{situation, launched, last_run, position, plan}
-use Rattle.dap_history.specs.Events.{Incoming, Rest, AreLawful, IsHistoryOf}
 use Rattle.dap_history.specs.Stops.{told_fault, stop_in, StopsAt, run_in}
 use Rattle.dap_history.specs.Runs.{Grants}
+use Rattle.dap_history.specs.Always.{OfLawfulHistories, OfLawfulSteps, OfSteps}
 
 -- ---- position 0
 
@@ -33,15 +33,14 @@ first_stop l breakpoints =
     if list_any (stops l.program 0 0) breakpoints then Some stop.Breakpoint
     else (if l.stop_on_entry then Some stop.Entry else None)
 
--- A granted `configurationDone` stops the program at position 0 where a breakpoint or `stopOnEntry` asks for it, and
--- otherwise lets it run.
+-- A granted `configurationDone` stops the program at position 0 where a breakpoint does, or else `stopOnEntry`, and
+-- lets it run where neither does.
 abbrev pub PositionZeroIsConsidered : Type 0
-PositionZeroIsConsidered =
-    (events : List Incoming) (past : History) (rest : Rest) → AreLawful events → IsHistoryOf events past rest
-    → (before : History) (step : Step) (after : History) (request : Request) → past ≡ before ++ step ∷ after
+PositionZeroIsConsidered = OfLawfulSteps (λ before step.
+    (request : Request)
     → Grants step request → request.body ≡ command.ConfigurationDone
     → (l : Launched) × (launched before ≡ Some l) × (stop_in step ≡ first_stop l (plan before).breakpoints)
-    × (is_some (run_in step) ≡ is_none (stop_in step))
+    × (is_some (run_in step) ≡ is_none (stop_in step)))
 
 -- ---- pauses
 
@@ -57,17 +56,15 @@ pub record PauseWaits (past : History) : Type 0 where
   pub pause_is : request.body ≡ command.Pause asked
   pub none_since : All (λ (s : Step). run_in s ≡ None) later
 
--- Where a run was held, the program stops with the reason `pause` if a pause waits, and otherwise another run is
--- ordered. Nothing else stops it with that reason.
+-- Where a run was held, the program stops with the reason `pause` if a `pause` was granted since the run was ordered,
+-- and otherwise another run is ordered. Nothing else stops it with that reason.
 abbrev pub PausesStop : Type 0
-PausesStop =
-    (events : List Incoming) (past : History) (rest : Rest) → IsHistoryOf events past rest
-    → (before : History) (step : Step) (after : History) → past ≡ before ++ step ∷ after
-    → ((r : PlainReport) → step.item ≡ Accepted r → r.outcome ≡ slice.Held
+PausesStop = OfSteps (λ before step.
+    ((r : PlainReport) → step.item ≡ Accepted r → r.outcome ≡ slice.Held
     → (PauseWaits before → stop_in step ≡ Some stop.Pause)
     × (¬ PauseWaits before → (stop_in step ≡ None) × IsSome (run_in step)))
     × (stop_in step ≡ Some stop.Pause
-    → (r : PlainReport) × (step.item ≡ Accepted r) × (r.outcome ≡ slice.Held) × PauseWaits before)
+    → (r : PlainReport) × (step.item ≡ Accepted r) × (r.outcome ≡ slice.Held) × PauseWaits before))
 
 -- ---- what a command asks for
 
@@ -153,21 +150,20 @@ StopsAsAsked l run asked from reason m = StopsForward l run asked from reason m
 abbrev pub IsAlive : Launched → ℕ → Type 0
 IsAlive l m = (f : Frame) × (below : Configuration) × (at l.program m ≡ Some (f ∷ below))
 
--- Each stop of a run is as the command asks by which the program goes, and no stop that it asks for is passed. A frame
--- is alive there: where the program has ended, it doesn't stop.
+-- Each stop of a run is as the command asks by which the program goes, in positions and numbers of frames, with its
+-- reason: `stepBack` leads to the position before, `reverseContinue` to where a breakpoint was met last, or to 0. No
+-- stop that the command asks for is passed. A frame is alive there: where the program has ended, it doesn't stop.
 abbrev pub EachStopIsAsAsked : Type 0
-EachStopIsAsAsked =
-    (events : List Incoming) (past : History) (rest : Rest) → AreLawful events → IsHistoryOf events past rest
-    → (before : History) (reason : StopReason) (m : ℕ) → StopsAt past before reason m
+EachStopIsAsAsked = OfLawfulHistories (λ past.
+    (before : History) (reason : StopReason) (m : ℕ) → StopsAt past before reason m
     → (run : Heading) → last_run before ≡ Some run
     → (l : Launched) × (asked : Command) × (from : ℕ) × (launched before ≡ Some l) × GoesBy before asked from
-    × StopsAsAsked l run asked from reason m × IsAlive l m
+    × StopsAsAsked l run asked from reason m × IsAlive l m)
 
 -- While the program runs forward, it has come to no position after its run's beginning where its command asks for a
 -- stop. So none is passed where a run is held and goes on as another.
 abbrev pub NoStopIsPassed : Type 0
-NoStopIsPassed =
-    (events : List Incoming) (past : History) (rest : Rest) → AreLawful events → IsHistoryOf events past rest
-    → situation past ≡ Running → (run : Heading) → last_run past ≡ Some run → goes_back run.mode ≡ false
+NoStopIsPassed = OfLawfulHistories (λ past.
+    situation past ≡ Running → (run : Heading) → last_run past ≡ Some run → goes_back run.mode ≡ false
     → (l : Launched) × (asked : Command) × (from : ℕ) × (launched past ≡ Some l) × GoesBy past asked from
-    × (run.start ≤ position past) × NowhereUpTo l run asked from (position past)
+    × (run.start ≤ position past) × NowhereUpTo l run asked from (position past))

@@ -23,27 +23,24 @@ use Rattle.dap_history.specs.declared.situation.Situation.TheVariants.{Running, 
 use Rattle.dap_history.specs.Last.{last_such}
 use Rattle.dap_history.specs.History.{Launched, Item, Content, Accepted, Step, History, orders_of}
 use Rattle.dap_history.specs.Readings.{go, situation, launched, last_run, position, waiting_pause}
-use Rattle.dap_history.specs.Events.{Incoming, Rest, AreLawful, IsHistoryOf}
 use Rattle.dap_history.specs.Stops.{stop_of_event, run_in, Orders}
+use Rattle.dap_history.specs.Always.{OfHistories, OfLawfulSteps, OfSteps}
 
 -- ---- numbers
 
 -- The run numbered n is the nth that is ordered.
 abbrev pub RunsCountFromOne : Type 0
-RunsCountFromOne =
-    (events : List Incoming) (past : History) (rest : Rest) → IsHistoryOf events past rest
-    → (front back : List PlainOrder) (run : Heading) → orders_of past ≡ front ++ Go run ∷ back
-    → run.run ≡ length (filter_map go front) + 1
+RunsCountFromOne = OfHistories (λ past.
+    (front back : List PlainOrder) (run : Heading) → orders_of past ≡ front ++ Go run ∷ back
+    → run.run ≡ length (filter_map go front) + 1)
 
 -- ---- orders
 
 -- A step orders at most one thing: that a run begins, that it is held, or that the runner quits.
 abbrev pub EachStepOrdersOnce : Type 0
-EachStepOrdersOnce =
-    (events : List Incoming) (past : History) (rest : Rest) → IsHistoryOf events past rest
-    → (before : History) (step : Step) (after : History) → past ≡ before ++ step ∷ after
-    → (front back : List PlainOrder) (order : PlainOrder) → step.effect.orders ≡ front ++ order ∷ back
-    → step.effect.orders ≡ order ∷ []
+EachStepOrdersOnce = OfSteps (λ before step.
+    (front back : List PlainOrder) (order : PlainOrder) → step.effect.orders ≡ front ++ order ∷ back
+    → step.effect.orders ≡ order ∷ [])
 
 -- ---- modes
 
@@ -75,13 +72,13 @@ mode_asked past main (Content (Some request)) = mode_by (depth_at main (position
 mode_asked past main (Accepted r) = held_mode r.outcome (last_run past)
 mode_asked past main _ = None
 
--- Each run is in the mode of the command that asks for it; one that follows a held run is in that run's mode.
+-- Each run is in the mode of the command that asks for it, with the depth at which the program stands; one that follows
+-- a held run is in that run's mode.
 abbrev pub EachRunIsAsAsked : Type 0
-EachRunIsAsAsked =
-    (events : List Incoming) (past : History) (rest : Rest) → AreLawful events → IsHistoryOf events past rest
-    → (before : History) (step : Step) (after : History) (run : Heading) → past ≡ before ++ step ∷ after
+EachRunIsAsAsked = OfLawfulSteps (λ before step.
+    (run : Heading)
     → Orders step run
-    → (l : Launched) × (launched before ≡ Some l) × (mode_asked before l.program step.item ≡ Some run.mode)
+    → (l : Launched) × (launched before ≡ Some l) × (mode_asked before l.program step.item ≡ Some run.mode))
 
 -- A granted command that asks for a run orders none where the program stops at position 0; or where it stands before a
 -- fault, if the command resumes it.
@@ -90,20 +87,19 @@ IsExcused s command.ConfigurationDone events = IsSome (last_such stop_of_event e
 IsExcused s (command.Resume kind asked) events = (s ≡ Faulted) × (events ≡ event.Exited 1 ∷ event.Terminated ∷ [])
 IsExcused s _ events = ⊥
 
--- Where a command that asks for a run is granted, one is ordered, unless the program stops at position 0 or ends.
+-- Where a command that asks for a run is granted, one is ordered, unless the program stops at position 0, or stands
+-- before a fault and was to go forward: then it ends.
 abbrev pub GrantedRunsAreOrdered : Type 0
-GrantedRunsAreOrdered =
-    (events : List Incoming) (past : History) (rest : Rest) → IsHistoryOf events past rest
-    → (before : History) (step : Step) (after : History) (request : Request) → past ≡ before ++ step ∷ after
+GrantedRunsAreOrdered = OfSteps (λ before step.
+    (request : Request)
     → Grants step request → IsSome (mode_by 0 request.body) → IsSome (run_in step)
-    ⊎ IsExcused (situation before) request.body step.effect.events
+    ⊎ IsExcused (situation before) request.body step.effect.events)
 
 -- After a run was held, another run is ordered if no pause waits. `PausesStop` says so too, by the requests themselves.
 abbrev pub HeldRunsGoOn : Type 0
-HeldRunsGoOn =
-    (events : List Incoming) (past : History) (rest : Rest) → IsHistoryOf events past rest
-    → (before : History) (step : Step) (after : History) (r : PlainReport) → past ≡ before ++ step ∷ after
-    → step.item ≡ Accepted r → r.outcome ≡ slice.Held → waiting_pause before ≡ false → IsSome (run_in step)
+HeldRunsGoOn = OfSteps (λ before step.
+    (r : PlainReport)
+    → step.item ≡ Accepted r → r.outcome ≡ slice.Held → waiting_pause before ≡ false → IsSome (run_in step))
 
 -- ---- holding
 
@@ -123,18 +119,14 @@ pub record GrantsWait (past : History) (step : Step) : Type 0 where
 -- A Hold is ordered only while the program runs, where a pause or breakpoints that wait are granted, and directly after
 -- the Go of the run that it names, so at most once for a run. The run doesn't go back.
 abbrev pub HoldOnce : Type 0
-HoldOnce =
-    (events : List Incoming) (past : History) (rest : Rest) → IsHistoryOf events past rest
-    → (before : History) (step : Step) (after : History) → past ≡ before ++ step ∷ after
-    → (front back : List PlainOrder) (n : ℕ) → step.effect.orders ≡ front ++ Hold n ∷ back
+HoldOnce = OfSteps (λ before step.
+    (front back : List PlainOrder) (n : ℕ) → step.effect.orders ≡ front ++ Hold n ∷ back
     → (situation before ≡ Running) × GrantsWait before step × ((earlier : List PlainOrder) × (run : Heading)
-    × (orders_of before ++ front ≡ earlier ++ Go run ∷ []) × (n ≡ run.run) × (goes_back run.mode ≡ false))
+    × (orders_of before ++ front ≡ earlier ++ Go run ∷ []) × (n ≡ run.run) × (goes_back run.mode ≡ false)))
 
 -- After a pause or breakpoints were granted in a run that doesn't go back, the last order is that run's Hold.
 abbrev pub WaitsAreHeld : Type 0
-WaitsAreHeld =
-    (events : List Incoming) (past : History) (rest : Rest) → IsHistoryOf events past rest
-    → (before : History) (step : Step) (after : History) → past ≡ before ++ step ∷ after
-    → situation before ≡ Running → (run : Heading) → last_run before ≡ Some run → goes_back run.mode ≡ false
+WaitsAreHeld = OfSteps (λ before step.
+    situation before ≡ Running → (run : Heading) → last_run before ≡ Some run → goes_back run.mode ≡ false
     → GrantsWait before step
-    → (earlier : List PlainOrder) × (orders_of (before ++ step ∷ []) ≡ earlier ++ Hold run.run ∷ [])
+    → (earlier : List PlainOrder) × (orders_of (before ++ step ∷ []) ≡ earlier ++ Hold run.run ∷ []))

@@ -26,11 +26,11 @@ use Rattle.pl0_meaning.specs.Values.{Frame, Configuration, frame_at, next_step, 
 use Rattle.pl0_meaning.specs.Runs.{at}
 use Rattle.dap_history.specs.History.{Launched, Step, History}
 use Rattle.dap_history.specs.Readings.{situation, launched}
-use Rattle.dap_history.specs.Events.{Incoming, Rest, IsHistoryOf}
 use Rattle.dap_history.specs.Stops.{StoppedLastAt, Asks}
 use Rattle.dap_history.specs.Replies.{in_body}
 use Rattle.dap_history.specs.Verdicts.{refused_by}
 use Rattle.dap_history.specs.Initialized.{IsInitializedBy, less_by}
+use Rattle.dap_history.specs.Always.{OfHistories}
 
 -- ---- frames
 
@@ -139,14 +139,15 @@ Shows l counting c (question.Evaluate asked) result =
     (λ f. ShowsValue l.program c asked.frame_id f asked.expression result)
 
 -- A question that neither its situation nor its thread refuses is answered from the configuration that the meaning of
--- the launched program has at the position of the last stop.
+-- the launched program has at the position of the last stop: each frame asked for, with id, name, line and column, and
+-- their number; the scopes along the static links; each variable with its number, as declared; an expression's value or
+-- fault; and a refusal for a missing frame, and for a text that is no expression.
 abbrev pub AnswersShowTheProgram : Type 0
-AnswersShowTheProgram =
-    (events : List Incoming) (past : History) (rest : Rest) → IsHistoryOf events past rest
-    → (before : History) (request : Request) (question : Question) (step : Step)
+AnswersShowTheProgram = OfHistories (λ past.
+    (before : History) (request : Request) (question : Question) (step : Step)
     → Asks past before request question step → refused_by (situation before) request.body ≡ None
     → (l : Launched) × (m : ℕ) × (c : Configuration) × (counting : InitializeArguments)
     × (result : Result Shown Refusal) × (launched before ≡ Some l) × StoppedLastAt before m
     × (at l.program m ≡ Some c) × IsInitializedBy before counting
     × (step.answer ≡ Some (Answer request.seq (name_of request.body) (in_body result)))
-    × Shows l counting c question result
+    × Shows l counting c question result)

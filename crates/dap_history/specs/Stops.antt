@@ -33,7 +33,7 @@ use Rattle.dap_history.specs.Readings.{go, situation, launched, last_run, positi
 use Rattle.dbg_plan.specs.declared.mode.Mode.TheVariants as mode
 use Rattle.dap_history.specs.Replies.{in_body}
 use Rattle.dap_history.specs.Inspection.{RepliesAt, subject_in}
-use Rattle.dap_history.specs.Events.{Incoming, Rest, AreLawful, IsHistoryOf}
+use Rattle.dap_history.specs.Always.{OfHistories, OfLawfulHistories, OfLawfulSteps, OfSteps}
 
 -- why a position is due, as the client is told
 abbrev pub told_reason : Reason → StopReason
@@ -108,13 +108,13 @@ IsRightStop l before None reason m =
     × (due l.program (plan before).breakpoints (plan before).counted_from
     (if l.stop_on_entry then mode.Entry else mode.Continue) 0 ≡ Some r))
 
--- Each stop is at the first due position of its run, or where that leads. `Moves` says this again in the words of the
--- commands, without modes and due positions; a reader may skip this one.
+-- Each stop is at the first due position of its run, where the run was held, before a step that faults, at position 0,
+-- or where going back leads, and has its reason or fault. `Moves` says this again in the words of the commands, without
+-- modes and due positions; a reader may skip this one.
 abbrev pub EachStopIsRight : Type 0
-EachStopIsRight =
-    (events : List Incoming) (past : History) (rest : Rest) → AreLawful events → IsHistoryOf events past rest
-    → (before : History) (reason : StopReason) (m : ℕ) → StopsAt past before reason m
-    → (l : Launched) × (launched before ≡ Some l) × IsRightStop l before (last_run before) reason m
+EachStopIsRight = OfLawfulHistories (λ past.
+    (before : History) (reason : StopReason) (m : ℕ) → StopsAt past before reason m
+    → (l : Launched) × (launched before ≡ Some l) × IsRightStop l before (last_run before) reason m)
 
 -- ---- what a report tells
 
@@ -138,14 +138,14 @@ tells past slice.Done = event.Exited 0 ∷ event.Terminated ∷ []
 tells past (slice.Fault fault) = event.Stopped (stop.Exception (told_fault fault)) ∷ []
 tells past slice.NoMemory = []
 
--- A report that is accepted tells numbers and logs, and then its stop or the program's end.
+-- A report that is accepted tells numbers and logs, and then the stop of its run, if that stops there, or that the
+-- program exited with the code 0, if it ends there.
 abbrev pub EachReportIsTold : Type 0
-EachReportIsTold =
-    (events : List Incoming) (past : History) (rest : Rest) → IsHistoryOf events past rest
-    → (before : History) (step : Step) (after : History) (r : PlainReport) → past ≡ before ++ step ∷ after
+EachReportIsTold = OfSteps (λ before step.
+    (r : PlainReport)
     → step.item ≡ Accepted r
     → (step.answer ≡ None) × ((outputs : List EventBody) × All IsOutput outputs
-    × (step.effect.events ≡ outputs ++ tells before r.outcome))
+    × (step.effect.events ≡ outputs ++ tells before r.outcome)))
 
 -- what the start of the program tells: what position 0 logs, and perhaps a stop after that
 abbrev pub TellsFirst : List EventBody → Type 0
@@ -164,13 +164,12 @@ TellsBy s (command.Resume kind asked) events = TellsEnd s events
 TellsBy s _ events = events ≡ []
 
 -- A request tells nothing besides its answer, unless it starts the program, or asks one that stands before a fault to
--- go on.
+-- go on, which then exited with the code 1.
 abbrev pub EachReplyIsTold : Type 0
-EachReplyIsTold =
-    (events : List Incoming) (past : History) (rest : Rest) → IsHistoryOf events past rest
-    → (before : History) (step : Step) (after : History) (request : Request) → past ≡ before ++ step ∷ after
+EachReplyIsTold = OfSteps (λ before step.
+    (request : Request)
     → step.item ≡ Content (Some request)
-    → TellsBy (situation before) request.body step.effect.events
+    → TellsBy (situation before) request.body step.effect.events)
 
 -- ---- runs
 
@@ -186,13 +185,12 @@ pub record Orders (step : Step) (run : Heading) : Type 0 where
 
 -- Each run is of the launched text, under the plan in force, and starts where the program stands.
 abbrev pub EachRunStartsThere : Type 0
-EachRunStartsThere =
-    (events : List Incoming) (past : History) (rest : Rest) → AreLawful events → IsHistoryOf events past rest
-    → (before : History) (step : Step) (after : History) (run : Heading) → past ≡ before ++ step ∷ after
+EachRunStartsThere = OfLawfulSteps (λ before step.
+    (run : Heading)
     → Orders step run
     → (l : Launched) × (launched before ≡ Some l) × (run.text ≡ l.text) × (run.start ≡ position (before ++ step ∷ []))
     × (run.plan ≡ (plan (before ++ step ∷ [])).breakpoints) × (run.counted_from ≡ (plan
-    (before ++ step ∷ [])).counted_from)
+    (before ++ step ∷ [])).counted_from))
 
 -- ---- what is asked at a stop
 
@@ -231,11 +229,10 @@ pub record AnswersFrom (l : Launched) (before : History) (m : ℕ) (request : Re
 -- Elsewhere no question is answered with a body. `Shown` says what they show without `Inspection`; a reader may skip
 -- this one.
 abbrev pub QuestionsAreAnsweredThere : Type 0
-QuestionsAreAnsweredThere =
-    (events : List Incoming) (past : History) (rest : Rest) → IsHistoryOf events past rest
-    → (before : History) (request : Request) (question : Question) (step : Step)
+QuestionsAreAnsweredThere = OfHistories (λ past.
+    (before : History) (request : Request) (question : Question) (step : Step)
     → Asks past before request question step
     → (IsStopped (situation before) → (l : Launched) × (m : ℕ) × (launched before ≡ Some l) × StoppedLastAt before m
     × AnswersFrom l before m request question step)
     × ((b : Body) → step.answer ≡ Some (Answer request.seq (name_of request.body) (Ok b))
-    → IsStopped (situation before))
+    → IsStopped (situation before)))

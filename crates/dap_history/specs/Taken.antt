@@ -17,6 +17,7 @@ use Rattle.dap_history.specs.declared.situation.Situation.TheVariants.{Running}
 use Rattle.dap_history.specs.History.{Item, Content, Loaded, Accepted, Fault, InputEnd, ReadFailure, MemoryFailure, Step, History}
 use Rattle.dap_history.specs.Readings.{situation, last_run, position, ending_of}
 use Rattle.dap_history.specs.Events.{Incoming, Piece, End, ReadFailed, NoMemory, File, Report, Rest, IsTaking, IsHistoryOf}
+use Rattle.dap_history.specs.Always.{OfSteps}
 
 -- the item that the file of a launch is: its bytes, or none where it can't be read, or that the loader lacks memory
 abbrev pub file_item : Launch → Result (List ℕ) LoadFault → Item
@@ -72,8 +73,9 @@ AddsSteps past rest e steps =
     ((item : Item) × IsItem past rest e item × BeginWithItem e item steps)
     ⊎ (((item : Item) → ¬ IsItem past rest e item) × (steps ≡ []))
 
--- While a session takes items, each event that is one is taken, and nothing is taken that isn't. After that no event
--- adds anything.
+-- While a session takes items, each event that is one is taken, and nothing is taken that isn't: the end of the input,
+-- a failed read, a failed allocation, the file of a launch that waits, and a report that goes on with the last run from
+-- where the program stands are items; no other file or report is. After that no event adds anything.
 abbrev pub EventsAreTaken : Type 0
 EventsAreTaken =
     (events : List Incoming) (e : Incoming) (past new : History) (rest left : Rest) → IsHistoryOf events past rest
@@ -104,9 +106,8 @@ ends_by ReadFailure = Some (ending.Closed closed.ReadFailed)
 ends_by MemoryFailure = Some (ending.Fault session_fault.NoMemory)
 ends_by _ = None
 
--- Each item is taken while the session goes on, and ends it just where and just as that says.
+-- Each item is taken while the session goes on. `disconnect`, the end of the input and a failed read close it, a
+-- framing fault and a failed allocation end it; nothing else does.
 abbrev pub EachItemEndsOrNot : Type 0
-EachItemEndsOrNot =
-    (events : List Incoming) (past : History) (rest : Rest) → IsHistoryOf events past rest
-    → (before : History) (step : Step) (after : History) → past ≡ before ++ step ∷ after
-    → IsTaking before × (ending_of (before ++ step ∷ []) ≡ ends_by step.item)
+EachItemEndsOrNot = OfSteps (λ before step.
+    IsTaking before × (ending_of (before ++ step ∷ []) ≡ ends_by step.item))

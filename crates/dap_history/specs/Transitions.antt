@@ -10,10 +10,10 @@ use Rattle.dbg_runner.specs.declared.outcome.SliceOutcome.{SliceOutcome}
 use Rattle.dbg_runner.specs.declared.outcome.SliceOutcome.TheVariants as slice
 use Rattle.dap_history.specs.declared.situation.Situation.{Situation}
 use Rattle.dap_history.specs.declared.situation.Situation.TheVariants.{Fresh, Ready, Configuring, Running, Stopped, Faulted, Ended}
-use Rattle.dap_history.specs.History.{Item, Content, Loaded, Accepted, Step, History}
+use Rattle.dap_history.specs.History.{Item, Content, Loaded, Accepted, Step}
 use Rattle.dap_history.specs.Readings.{situation}
-use Rattle.dap_history.specs.Events.{Incoming, Rest, IsHistoryOf}
 use Rattle.dap_history.specs.Stops.{stop_in}
+use Rattle.dap_history.specs.Always.{OfHistories, OfSteps}
 
 -- ---- the table
 
@@ -73,15 +73,12 @@ after_steps s (step ∷ steps) = after_steps (after_step s step) steps
 
 -- ---- the laws
 
--- Each step of a session leads where the table says.
+-- Each step of a session leads to the situation that the table of transitions has.
 abbrev pub EachStepLeads : Type 0
-EachStepLeads =
-    (events : List Incoming) (past : History) (rest : Rest) → IsHistoryOf events past rest
-    → (before : History) (step : Step) (after : History) → past ≡ before ++ step ∷ after
-    → situation (before ++ step ∷ []) ≡ after_step (situation before) step
+EachStepLeads = OfSteps (λ before step.
+    situation (before ++ step ∷ []) ≡ after_step (situation before) step)
 
 -- So the situation is where the steps lead from Fresh, one after another.
 abbrev pub SituationIsAfterSteps : Type 0
-SituationIsAfterSteps =
-    (events : List Incoming) (past : History) (rest : Rest) → IsHistoryOf events past rest
-    → situation past ≡ after_steps Fresh past
+SituationIsAfterSteps = OfHistories (λ past.
+    situation past ≡ after_steps Fresh past)

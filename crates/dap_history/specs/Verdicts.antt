@@ -1,6 +1,6 @@
 -- States the laws of answers: which request is refused in which situation, and with what; and what kind of answer one
 -- that is granted gets. The table is that of the protocol's page, a line a row.
-use Rattle.std.specs.Prelude.{◌≡◌, ◌++◌, ◌∷◌, [], ℕ, nat_eq, if◌then◌else◌, List, map, Option, None, Some, Result, Ok, Err}
+use Rattle.std.specs.Prelude.{◌≡◌, ◌∷◌, [], ℕ, nat_eq, if◌then◌else◌, List, map, Option, None, Some, Result, Ok, Err}
 use Rattle.dap_msg.specs.Commands.{name_of}
 use Rattle.dap_msg.specs.declared.request.Request.{Request}
 use Rattle.dap_msg.specs.declared.command.Command.{Command}
@@ -20,9 +20,9 @@ use Rattle.dap_history.specs.declared.situation.Situation.{Situation}
 use Rattle.dap_history.specs.declared.situation.Situation.TheVariants.{Fresh, Ready, Configuring, Running, Stopped, Faulted, Ended}
 use Rattle.dap_history.specs.Last.{or_else}
 use Rattle.dap_history.specs.Replies.{in_body}
-use Rattle.dap_history.specs.History.{Item, Content, Loaded, Accepted, Step, History, Effect, messages}
+use Rattle.dap_history.specs.History.{Item, Content, Loaded, Accepted, Step, Effect, messages}
 use Rattle.dap_history.specs.Readings.{situation}
-use Rattle.dap_history.specs.Events.{Incoming, Rest, IsHistoryOf}
+use Rattle.dap_history.specs.Always.{OfSteps}
 
 -- ---- the table: what a command is refused with in a situation
 
@@ -104,16 +104,16 @@ IsVerdict None asked result = IsGranted asked result
 
 -- ---- the laws
 
--- Each request is answered under its own seq and command: refused where the table or its thread refuses it, with that
--- refusal; and otherwise granted. A launch that isn't refused waits for its file and is no such item:
--- `EachLaunchIsOfItsFile` says how it ends.
+-- Each request is answered under its own seq and command: refused exactly where its situation refuses it, or it names
+-- another thread than 1, with that refusal; and otherwise granted, with the kind of body that its command has, or, of a
+-- question, answered as `AnswersShowTheProgram` says. A launch that isn't refused waits for its file and is no such
+-- item: `EachLaunchIsOfItsFile` says how it ends.
 abbrev pub EachIsJudged : Type 0
-EachIsJudged =
-    (events : List Incoming) (past : History) (rest : Rest) → IsHistoryOf events past rest
-    → (before : History) (step : Step) (after : History) (request : Request) → past ≡ before ++ step ∷ after
+EachIsJudged = OfSteps (λ before step.
+    (request : Request)
     → step.item ≡ Content (Some request)
     → (result : Result Body Refusal) × (step.answer ≡ Some (Answer request.seq (name_of request.body) result))
-    × IsVerdict (refused_by (situation before) request.body) request.body result
+    × IsVerdict (refused_by (situation before) request.body) request.body result)
 
 -- the effect is none: no event, no order, and nothing is launched, put in or made to wait
 pub record IsNothing (effect : Effect) : Type 0 where
@@ -125,11 +125,9 @@ pub record IsNothing (effect : Effect) : Type 0 where
 
 -- A refusal changes nothing, and no event follows it.
 abbrev pub RefusalsChangeNothing : Type 0
-RefusalsChangeNothing =
-    (events : List Incoming) (past : History) (rest : Rest) → IsHistoryOf events past rest
-    → (before : History) (step : Step) (after : History) → past ≡ before ++ step ∷ after
-    → (seq : ℕ) (name : CommandName) (why : Refusal) → step.answer ≡ Some (Answer seq name (Err why))
-    → IsNothing step.effect
+RefusalsChangeNothing = OfSteps (λ before step.
+    (seq : ℕ) (name : CommandName) (why : Refusal) → step.answer ≡ Some (Answer seq name (Err why))
+    → IsNothing step.effect)
 
 -- the item is a request, a launch with its file, or a report
 abbrev pub SpeaksUp : Item → Type 0
@@ -141,10 +139,8 @@ SpeaksUp _ = ⊥
 -- Any other item - a content that is no request, the end of the input, a failure, a framing fault - is not answered and
 -- tells nothing.
 abbrev pub OthersTellNothing : Type 0
-OthersTellNothing =
-    (events : List Incoming) (past : History) (rest : Rest) → IsHistoryOf events past rest
-    → (before : History) (step : Step) (after : History) → past ≡ before ++ step ∷ after
-    → ¬ SpeaksUp step.item → (step.answer ≡ None) × (step.effect.events ≡ [])
+OthersTellNothing = OfSteps (λ before step.
+    ¬ SpeaksUp step.item → (step.answer ≡ None) × (step.effect.events ≡ []))
 
 -- What a step sends is its answer, if it has one, and then its events.
 abbrev pub AnswersComeFirst : Type 0

@@ -11,7 +11,7 @@ ghost use Rattle.dap_history.specs.Loading.{EachLaunchIsOfItsFile};
 ghost use Rattle.dap_history.specs.Moves.{PositionZeroIsConsidered, PausesStop, EachStopIsAsAsked, NoStopIsPassed};
 ghost use Rattle.dap_history.specs.Ends.{EachEndIsTheEnd, EachEndIsTold};
 ghost use Rattle.dap_history.specs.Interleaving.{EachLoadIsOfALaunch, EachLaunchIsLoaded, EventsAreReturned};
-ghost use Rattle.dap_history.specs.WorkedWords.{FramesBeginSo, SeqsAre};
+ghost use Rattle.dap_history.specs.WorkedWords.{FramesBeginSo, SeqsAre, LimitsAre, NamesAreShort, MistakesAreNumbered, MistakesAreOrdered};
 ghost use Rattle.dap_history.specs.Taken.{EventsAreTaken, EachItemEndsOrNot};
 ghost use Rattle.dap_history.specs.LineAnswers.{LinesAreAnswered};
 ghost use Rattle.dap_history.specs.Shown.{AnswersShowTheProgram};
@@ -116,9 +116,13 @@ pub fn reading_laws()
     ensures { ReadingsGoOn }
 {}
 
-/// How a frame begins, and which numbers a client's messages may have, computed from the definitions. It does nothing: its
-/// contract is the examples.
+/// How a frame begins, which numbers a client's messages may have, the limits, and the numbers of mistakes, computed from
+/// the definitions. It does nothing: its contract is the examples.
 pub fn worked_words()
     ensures frames { FramesBeginSo }
     ensures seqs { SeqsAre }
+    ensures limits { LimitsAre }
+    ensures names { NamesAreShort }
+    ensures mistakes { MistakesAreNumbered }
+    ensures order { MistakesAreOrdered }
 {}

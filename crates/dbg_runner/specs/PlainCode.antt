@@ -1,15 +1,12 @@
 -- Codes of orders and reports as data, by which a proof tells them apart.
-use Rattle.std.proofs.Common.{◌≡◌, ◌⊎◌, inl, inr, ℕ, List, Option, Some, None, refl}
-use Rattle.std.specs.Coded.{Coded, code_by, codes, coded_ℕ, coded_list, coded_option, coded⊎}
+use Rattle.std.proofs.Common.{◌≡◌, ◌⊎◌, inl, inr, ℕ, Option, Some, None, refl}
+use Rattle.std.specs.Coded.{Coded, code_by, codes, coded_ℕ, coded_option, coded⊎}
 use Rattle.dbg_plan.specs.Breakpoints.{breakpoint_code}
-use Rattle.dbg_plan.specs.Logs.{Log, log_code}
+use Rattle.dbg_plan.specs.Logs.{log_code}
 use Rattle.dbg_runner.specs.Plain.{Heading, PlainReport, PlainOrder, Go, Hold, Quit}
 
 pub heading_code : Coded Heading
 heading_code = Prim.hlevel (codes, breakpoint_code)
-
-pub logs_code : Coded (List Log)
-logs_code = coded_list log_code
 
 pub report_code : Coded PlainReport
 report_code = Prim.hlevel (codes, breakpoint_code, log_code)
