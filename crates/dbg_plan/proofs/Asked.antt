@@ -6,17 +6,17 @@ use Rattle.pl0_tree.specs.Steps.{step_path}
 use Rattle.pl0_meaning.specs.Values.{Frame, Configuration, frame_at, number_of, or_zero, after, comparison}
 use Rattle.pl0_meaning.specs.Frames.{AreLinked}
 use Rattle.pl0_meaning.specs.Laws.{FramesAreLinked}
-use Rattle.pl0_meaning.specs.Linking.{frame_at-top}
+use Rattle.pl0_meaning.proofs.Linking.{frame_at-top}
 use Rattle.pl0_machine.specs.declared.mark.Operand.{Operand}
 use Rattle.pl0_machine.specs.declared.mark.Operand.TheVariants.{Number, Variable, Main}
 use Rattle.pl0_machine.specs.declared.mark.Comparison.{Comparison}
-use Rattle.pl0_machine.specs.Machine.{Standing, program, configuration, frames, frames_of, depth_of, top_of, variables_of, IsNext}
+use Rattle.pl0_machine.specs.Machine.{Standing, program, configuration, frames, frames_of, depth_of, top_of, variables_of, IsNext, number_up}
 use Rattle.pl0_machine.specs.Stretches.{operand_in, Compares, HasOperand, CanAsk}
 use Rattle.dbg_plan.specs.Breakpoints.{plain_breakpoints}
 use Rattle.dbg_plan.specs.Comparisons.{expression_of, condition_of, IsOnlyOne}
 use Rattle.dbg_plan.specs.Plans.{Listed, IsPlanOf, IsBoundAt, those_of}
 use Rattle.dbg_plan.specs.Counting.{IsMetHere}
-use Rattle.dbg_plan.specs.Reads.{number_up, bound_value, bound_truth, CanRead, CanTest}
+use Rattle.dbg_plan.specs.Reads.{bound_value, bound_truth, CanRead, CanTest}
 use Rattle.dbg_plan.specs.Running.{has_arrival}
 use Rattle.dbg_plan.proofs.Here.{are_met}
 use Rattle.dbg_plan.proofs.Unwatched.{none_by_one}

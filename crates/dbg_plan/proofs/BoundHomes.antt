@@ -7,10 +7,10 @@ use Rattle.pl0_tree.specs.declared.tree.Block.{out-Block}
 use Rattle.pl0_tree.specs.declared.tree.Constant.{Constant as DeclaredConstant}
 use Rattle.pl0_tree.specs.Tree.{Block, Constant, constants}
 use Rattle.pl0_tree.specs.Plain.{plain_block, plain_constant}
-use Rattle.pl0_tree.specs.PlainParts.{plain_constants}
+use Rattle.pl0_tree.proofs.PlainParts.{plain_constants}
 use Rattle.pl0_tree.specs.Scope.{Path, block_at, Meaning, AConstant, Home, home}
 use Rattle.pl0_meaning.specs.Values.{constant_of}
-use Rattle.pl0_meaning.specs.Homes.{IsDeclaredBy, home_is}
+use Rattle.pl0_meaning.proofs.Homes.{IsDeclaredBy, home_is}
 use Rattle.pl0_names.specs.declared.names.Home.{Home as Answer}
 use Rattle.pl0_names.specs.Homes.{IsHomeAnswer, meaning_of}
 use Rattle.dbg_plan.specs.declared.located.LocatedExpression.{LocatedExpression}

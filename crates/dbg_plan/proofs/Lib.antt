@@ -57,8 +57,6 @@ pub mod MessageTexts
 pub mod LogValues
 -- A plan's breakpoints are found again in the order in which they were asked for; for `Plan::message` and `Plan::new`.
 pub mod ByNumber
--- Links that are followed one by one lead to the frame of a variable; for `variable`.
-pub mod ValuesUp
 -- Links lead to the frame that the meaning finds; for `is_met`, `log_of` and `name_value`.
 pub mod ValuesLinks
 -- What is bound has the value of the source; for `is_met`, `log_of` and `name_value`.

@@ -12,7 +12,7 @@ use Rattle.pl0_meaning.specs.contracts.RunFault as run_fault
 use Rattle.pl0_meaning.specs.declared.RunFault.{RunFault}
 use Rattle.pl0_meaning.specs.Values.{Configuration, value}
 use Rattle.pl0_meaning.specs.Frames.{AreLinked}
-use Rattle.pl0_meaning.specs.Linking.{frame_at-top}
+use Rattle.pl0_meaning.proofs.Linking.{frame_at-top}
 use Rattle.pl0_machine.specs.Machine.{Standing, program, configuration, frames, top_of, IsNext}
 use Rattle.dbg_plan.specs.declared.located.LocatedExpression.{LocatedExpression}
 use Rattle.dbg_plan.specs.declared.message.Part.{Part}

@@ -1,7 +1,7 @@
 -- Messages that an editor asks for.
 use Rattle.std.proofs.Common.{◌≡◌, ◌≢◌, ℕ, ◌+◌, ◌<◌, ◌≤◌, List, [], ◌∷◌, ◌++◌, length, get_or, append_assoc, refl, sym, ap, ◌∙◌, subst, arith}
 use Rattle.std.proofs.lemmas.List.{get_or_default, map-append}
-use Rattle.pl0_tree.specs.Unique.{expression_text_once}
+use Rattle.pl0_tree.proofs.Unique.{expression_text_once}
 use Rattle.std.specs.Str.{IsUtf8}
 use Rattle.pl0_tree.specs.Tree.{Block, Expression}
 use Rattle.pl0_tree.specs.Scope.{Path}

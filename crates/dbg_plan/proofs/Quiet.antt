@@ -7,7 +7,7 @@ use Rattle.pl0_unit.specs.declared.unit.Unit.{Unit as Compiled}
 use Rattle.pl0_meaning.specs.Values.{Configuration}
 use Rattle.pl0_meaning.specs.Runs.{Outcome, Goes, Faults, Stuck, at, led_to, written_by}
 use Rattle.pl0_meaning.specs.Laws.{FramesAreLinked}
-use Rattle.pl0_meaning.specs.Linking.{at_next}
+use Rattle.pl0_meaning.proofs.Linking.{at_next}
 use Rattle.pl0_machine.specs.declared.outcome.StepOutcome.{StepOutcome}
 use Rattle.pl0_machine.specs.declared.outcome.StepOutcome.TheVariants.{Went, Done}
 use Rattle.pl0_machine.specs.declared.mark.Comparison.{Comparison}

@@ -7,7 +7,7 @@ use Rattle.std.proofs.lemmas.Option.{same_Some}
 use Rattle.std.proofs.lemmas.Slice.Eq.{bytes_eq-Decides}
 use Rattle.pl0_tree.specs.Tree.{Condition}
 use Rattle.pl0_tree.specs.Plain.{plain_condition}
-use Rattle.pl0_tree.specs.Unique.{condition_text_once, expression_text_once}
+use Rattle.pl0_tree.proofs.Unique.{condition_text_once, expression_text_once}
 use Rattle.dbg_plan.specs.declared.breakpoint.BoundCondition.{BoundCondition}
 use Rattle.dbg_plan.specs.declared.message.LogMessage.{LogMessage}
 use Rattle.dbg_plan.specs.ReadsAs.{ReadsAs}

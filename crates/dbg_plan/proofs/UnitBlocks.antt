@@ -9,7 +9,7 @@ use Rattle.pl0_tree.specs.Blocks.{AreNestings}
 use Rattle.pl0_unit.specs.declared.unit.Unit.{Unit as Compiled}
 use Rattle.pl0_machine.specs.Machine.{program_of}
 use Rattle.pl0_syntax.proofs.StepBlocks.{number_within}
-use Rattle.pl0_syntax.specs.Tables.{steps_prop, nestings_prop}
+use Rattle.pl0_syntax.proofs.Tables.{steps_prop, nestings_prop}
 use Rattle.dbg_plan.proofs.StepLines.{tells, unit_length}
 
 pub unit_steps : (u : Compiled) → AreSteps (program_of u) u.steps.items (steps (program_of u))

@@ -7,14 +7,15 @@ use Rattle.pl0_tree.specs.Scope.{Meaning, AConstant, AVariable, AProcedure, Home
 use Rattle.pl0_meaning.specs.Values.{Frame, Configuration, frame_at, declared_number, name_number, or_zero, after, checked, operation, comparison, is_odd, value, truth}
 use Rattle.pl0_unit.specs.Code.{level}
 use Rattle.pl0_meaning.specs.Frames.{AreLinked}
-use Rattle.pl0_meaning.specs.Homes.{home_is}
-use Rattle.pl0_meaning.specs.Linking.{found, variable_found, frame_of, variable_within}
+use Rattle.pl0_meaning.proofs.Homes.{home_is}
+use Rattle.pl0_meaning.proofs.Linking.{found, variable_found, frame_of, variable_within}
+use Rattle.pl0_machine.specs.Machine.{number_up}
 use Rattle.dbg_plan.specs.declared.located.LocatedExpression.{LocatedExpression}
 use Rattle.dbg_plan.specs.declared.located.LocatedExpression.TheVariants as bound
 use Rattle.dbg_plan.specs.declared.located.LocatedCondition.{LocatedCondition}
 use Rattle.dbg_plan.specs.declared.located.LocatedCondition.TheVariants as bound_condition
 use Rattle.dbg_plan.specs.Bound.{IsDeclaredBound, IsNameBound, IsExpressionBound, IsConditionBound}
-use Rattle.dbg_plan.specs.Reads.{number_up, bound_value, bound_truth, CanRead, CanTest}
+use Rattle.dbg_plan.specs.Reads.{bound_value, bound_truth, CanRead, CanTest}
 use Rattle.dbg_plan.proofs.ValuesLinks.{leads}
 
 -- a bound expression can be read, and has this number

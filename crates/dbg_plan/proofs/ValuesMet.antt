@@ -13,7 +13,7 @@ use Rattle.pl0_meaning.specs.contracts.RunFault as run_fault
 use Rattle.pl0_meaning.specs.declared.RunFault.{RunFault}
 use Rattle.pl0_meaning.specs.Values.{Frame, Configuration, return_of, first_step, StandsBefore, truth}
 use Rattle.pl0_meaning.specs.Frames.{AreLinked}
-use Rattle.pl0_meaning.specs.Linking.{frame_at-top}
+use Rattle.pl0_meaning.proofs.Linking.{frame_at-top}
 use Rattle.pl0_machine.specs.Machine.{Standing, program, configuration, frames, depth_of, top_of, IsNext}
 use Rattle.dbg_plan.specs.declared.located.LocatedExpression.{LocatedExpression}
 use Rattle.dbg_plan.specs.declared.located.LocatedExpression.TheVariants.{Number, Variable, Negate', Binary'}

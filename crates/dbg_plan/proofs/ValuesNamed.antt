@@ -11,11 +11,11 @@ use Rattle.pl0_meaning.specs.declared.RunFault.{RunFault}
 use Rattle.pl0_meaning.specs.Frames.{AreLinked}
 use Rattle.pl0_meaning.specs.Values.{Frame, Configuration, frame_at, or_zero, name_number}
 use Rattle.pl0_machine.specs.declared.outcome.FrameView.{FrameView}
-use Rattle.pl0_machine.specs.Machine.{Shows}
+use Rattle.pl0_machine.specs.Machine.{Shows, number_up}
 use Rattle.dbg_plan.specs.declared.binding.Located.{Located}
 use Rattle.dbg_plan.specs.declared.binding.Located.TheVariants as at
 use Rattle.dbg_plan.specs.Bound.{IsNameBound}
-use Rattle.dbg_plan.specs.Reads.{number_up, bound_value, bound_of}
+use Rattle.dbg_plan.specs.Reads.{bound_value, bound_of}
 use Rattle.dbg_plan.proofs.ValuesBound.{Reads, name_reads}
 use Rattle.dbg_plan.proofs.ValuesMet.{CanRead-prop}
 

@@ -14,7 +14,7 @@ use Rattle.pl0_tree.specs.Tokens.{Token, Named, Numeral, EndOfText}
 use Rattle.pl0_tree.specs.Reading.{token_at, name_at, equal, ReadsExpression, unsigned, no_term, factors, no_factor, name, number, comparison}
 use Rattle.pl0_tree.specs.Scope.{AreLawfulOutside, IsLawfulOutside, condition_uses, use_of, IsRead}
 use Rattle.pl0_tree.specs.Faults.{IsConditionOf, IsExpressionOf, IsFirstExpressionFault, in_tokens, by_itself}
-use Rattle.pl0_tree.specs.Unique.{condition_text_once}
+use Rattle.pl0_tree.proofs.Unique.{condition_text_once}
 use Rattle.pl0_syntax.specs.Laws.{FaultExcludesExpressions}
 use Rattle.pl0_meaning.specs.WorkedRun.{called, place}
 use Rattle.dbg_plan.specs.declared.breakpoint.Rule.{Rule}

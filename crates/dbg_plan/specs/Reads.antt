@@ -1,10 +1,10 @@
 -- What the functions that evaluate and that look names up promise. No public contract cites this file.
-use Rattle.std.specs.Prelude.{◌≡◌, ℕ, zero, suc, Bool, Option, IsSome, option_and_then, Result, Ok, ℤ, neg_ℤ}
+use Rattle.std.specs.Prelude.{◌≡◌, ℕ, Bool, IsSome, Result, Ok, ℤ, neg_ℤ}
 use Rattle.pl0_tree.specs.Plain.{plain_expression}
 use Rattle.pl0_tree.specs.Tree.{Block}
 use Rattle.pl0_meaning.specs.declared.RunFault.{RunFault}
-use Rattle.pl0_meaning.specs.Values.{Configuration, frame_at, number_of, or_zero, after, checked, operation, comparison, is_odd, value}
-use Rattle.pl0_machine.specs.Machine.{parent_of}
+use Rattle.pl0_meaning.specs.Values.{Configuration, or_zero, after, checked, operation, comparison, is_odd, value}
+use Rattle.pl0_machine.specs.Machine.{number_up}
 use Rattle.dbg_plan.specs.declared.message.Part.{Part}
 use Rattle.dbg_plan.specs.declared.message.Part.TheVariants as part
 use Rattle.dbg_plan.specs.declared.binding.Located.{Located}
@@ -13,11 +13,6 @@ use Rattle.dbg_plan.specs.declared.located.LocatedExpression.{LocatedExpression}
 use Rattle.dbg_plan.specs.declared.located.LocatedExpression.TheVariants.{Number, Variable, Negate', Binary'}
 use Rattle.dbg_plan.specs.declared.located.LocatedCondition.{LocatedCondition}
 use Rattle.dbg_plan.specs.declared.located.LocatedCondition.TheVariants.{Odd, Compare}
-
--- variable k of the frame to which this many links lead from frame i
-abbrev pub number_up : Configuration → ℕ → ℕ → ℕ → Option ℤ
-number_up c zero k i = number_of (frame_at c i) k
-number_up c (suc level) k i = option_and_then (number_up c level k) (parent_of i (frame_at c i))
 
 -- the value of a bound expression in frame i
 abbrev pub bound_value : Configuration → ℕ → LocatedExpression → Result ℤ RunFault

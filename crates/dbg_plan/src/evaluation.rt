@@ -1,13 +1,13 @@
 //! The values of expressions and conditions in the frames of a machine.
 
-ghost use Rattle.std.specs.Prelude.{◌≡◌, ◌<◌, IsSome, Some, Ok};
+ghost use Rattle.std.specs.Prelude.{◌≡◌, ◌<◌, Ok};
 ghost use Rattle.pl0_tree.specs.Plain.{plain_expression};
 ghost use Rattle.pl0_meaning.specs.Values.{value, name_number, or_zero};
 ghost use Rattle.pl0_meaning.specs.Arithmetic.{IsArithmetic};
 ghost use Rattle.pl0_machine.specs.Machine.{program, frames, depth_of};
 ghost use Rattle.dbg_plan.specs.Debugged.{IsRunning};
 ghost use Rattle.dbg_plan.specs.Values.{answered};
-ghost use Rattle.dbg_plan.specs.Reads.{number_up, bound_value, bound_truth, CanRead, CanTest};
+ghost use Rattle.dbg_plan.specs.Reads.{bound_value, bound_truth, CanRead, CanTest};
 ghost use Rattle.dbg_plan.specs.Counting.{holds_now, IsMetHere};
 
 use crate::binding::{Located, locate};
@@ -41,22 +41,6 @@ fn evaluated(outcome: Result<i64, RunFault>) -> Result<i64, EvalFault>
     }
 }
 
-/// The number of a variable in the frame to which `level` links lead.
-#[inline]
-fn variable(machine: &Machine, frame: usize, level: usize, index: usize) -> i64
-    requires { IsSome (number_up (frames machine.now) level index frame) }
-    ensures { number_up (frames machine.now) level index frame ≡ Some result }
-{
-    let mut found = frame;
-    for _ in 0..level {
-        found = match machine.static_parent(found) {
-            Some(outer) => outer,
-            None => unreachable!(),
-        };
-    }
-    machine.value(found, index)
-}
-
 /// The same as `value_of`, at once for a number or a variable of the frame itself.
 #[inline(always)]
 #[cycle(value)]
@@ -87,9 +71,7 @@ pub fn value_of(
 {
     match expression {
         LocatedExpression::Number(number) => Ok(*number),
-        LocatedExpression::Variable { level, index } => Ok(variable(
-            machine, frame, *level, *index,
-        )),
+        LocatedExpression::Variable { level, index } => Ok(machine.value_up(frame, *level, *index)),
         LocatedExpression::Negate(inner) => evaluated(negate(operand_value(
             machine, frame, inner,
         )?)),
@@ -149,7 +131,7 @@ fn name_value(machine: &Machine, frame: usize, text: &str) -> i64
     let names = Names::new(&unit.tree.program, &unit.nestings);
     match locate(&names, view.block, text) {
         Located::Number(number) => number,
-        Located::Variable { level, index } => variable(machine, frame, level, index),
+        Located::Variable { level, index } => machine.value_up(frame, level, index),
     }
 }
 

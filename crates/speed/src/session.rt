@@ -1,4 +1,6 @@
-//! A session over memory, in one thread: what a client sends byte by byte, and a run before the next byte.
+//! A session over memory, in one thread: what a client sends piece by piece, and a run before the next piece.
+
+ghost use Rattle.std.specs.Prelude.{◌<◌, ◌≤◌, length};
 
 use dap_session::{Event, LoadFault, LoadLog, Loader};
 use std::alloc::Global;
@@ -26,7 +28,7 @@ pub fn run<R: Wait + Files + AllocGlobal>(rt: &R, alloc: Global, sent: &[u8]) ->
     run_session(rt, alloc, &shared, client, &mut loader, Room::AMPLE)
 }
 
-/// The next report of the run that is on, or else the next byte.
+/// The next report of the run that is on, or else the next piece.
 #[derive(Drop)]
 struct Client<'a> {
     alloc: Global,
@@ -39,11 +41,12 @@ impl Events for Client<'_> {
         if let Some(report) = self.shared.runner.next_report(self.alloc) {
             return Event::Report(report);
         }
-        let Some((byte, rest)) = self.rest.split_first() else {
+        if self.rest.is_empty() {
             return Event::End;
-        };
+        }
+        let (piece, rest) = self.rest.split_at(piece_length(self.rest));
         self.rest = rest;
-        match Vec::from_slice(self.alloc, &[*byte]) {
+        match Vec::from_slice(self.alloc, piece) {
             Ok(piece) => Event::Piece(piece),
             Err(_) => Event::NoMemory,
         }
@@ -72,5 +75,27 @@ impl<R: Files + AllocGlobal> Loader for Disk<'_, R> {
             Err(_) => Err(LoadFault::CannotRead),
         };
         self.log.note(path, answer)
+    }
+}
+
+/// How many bytes the next piece has: those of the frame in front, if its length is all that its header says, and else 1.
+/// So a run has ended before the next frame comes, and frames cost little beside what is done with them.
+fn piece_length(rest: &[u8]) -> usize
+    requires { 0 < length rest.now }
+    ensures { result ≤ length rest.now }
+{
+    let Some(mut content) = rest.strip_prefix(b"Content-Length: ") else {
+        return 1;
+    };
+    let mut length: usize = 0;
+    while let [digit @ b'0'..=b'9', more @ ..] = content {
+        length = length
+            .saturating_mul(10)
+            .saturating_add((*digit - b'0') as usize);
+        content = more;
+    }
+    match content.strip_prefix(b"\r\n\r\n") {
+        Some(content) if length <= content.len() => rest.len() - content.len() + length,
+        _ => 1,
     }
 }

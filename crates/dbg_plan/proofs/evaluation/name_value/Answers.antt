@@ -44,17 +44,17 @@ reads c =
     located_reads (program m) (frames m) c.args.frame c.frame-view.result c.args.text.now c.locate.result
     c.depth-depth.ensures.linked c.frame-view.ensures bound
 
-pub variable-requires : goal.variable-requires
-variable-requires c =
+pub value_up-requires : goal.value_up-requires
+value_up-requires c =
     variable_up (frames c.args.machine.now) c.args.frame c.locate.result c.in-Variable.level c.in-Variable.index _
-    c.in-Variable.is (reads (goal.at.variable-requires c).After-locate)
+    c.in-Variable.is (reads (goal.at.value_up-requires c).After-locate)
 
 pub returns : goal.returns
 returns c =
-    let fits : FitsSigned w64 c.variable.result = search rules in
-    to_z-of_z w64 c.variable.result fits
+    let fits : FitsSigned w64 c.value_up.result = search rules in
+    to_z-of_z w64 c.value_up.result fits
     ∙ variable_is (frames c.args.machine.now) c.args.frame c.locate.result c.in-Variable.level c.in-Variable.index
-    c.variable.result _ c.in-Variable.is (reads (goal.at.returns c).After-locate) c.variable.ensures
+    c.value_up.result _ c.in-Variable.is (reads (goal.at.returns c).After-locate) c.value_up.ensures
 
 pub returns-in-Number : goal.returns-in-Number
 returns-in-Number c =

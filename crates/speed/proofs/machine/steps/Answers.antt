@@ -1,5 +1,5 @@
 use Rattle.std.proofs.Common.{◌≡◌, ◌+◌, ◌<◌, ◌∷◌, ◌∙◌, [], length, Option, Some, ℤ, ap, sym, subst, refl, arith}
-use Rattle.pl0_meaning.specs.Linking.{at_next}
+use Rattle.pl0_meaning.proofs.Linking.{at_next}
 use Rattle.pl0_meaning.specs.Runs.{Outcome, Goes, Faults, Stuck, at, led_to}
 use Rattle.pl0_machine.specs.declared.outcome.StepOutcome.TheVariants.{Went, Done, Fault}
 use Rattle.pl0_machine.specs.Machine.{Standing, Stepped, outcome_of, program, depth_of, frames_of}
