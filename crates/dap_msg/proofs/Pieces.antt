@@ -66,6 +66,12 @@ escape_plain (x ∷ text) is =
     let parts = and_parts _ _ is in
     rw (byte_stays x parts.0, escape_plain text parts.1) refl
 
+-- a plain text and a line feed, which has an escape
+pub escape_line : (text : List ℕ) → is_plain text ≡ true → escape (text ++ 10 ∷ []) ≡ text ++ codes "\\n"
+unfolding escape_byte
+escape_line text is =
+    flat_map-append escape_byte text (10 ∷ []) ∙ ap (λ t. t ++ codes "\\n") (escape_plain text is)
+
 plain_digit : (n : ℕ) → is_plain_byte (digit_glyph false (n % 10)) ≡ true
 plain_digit n = agree_below_at (λ d. is_plain_byte (digit_glyph false d)) (λ d. true) 10 (n % 10) refl (omega arith)
 
@@ -293,12 +299,6 @@ pub log_put : (text s0 s1 s2 s3 : List ℕ) → s1 ≡ s0 ++ codes "{\"body\":{\
 unfolding escape_byte
 log_put text s0 s1 s2 s3 e1 e2 e3 = output_put (codes "console") text s0 s1 s2 s3 e1 e2 e3
 
--- the line feed has an escape
-escape_line : (v : ℤ) → escape (number_line v) ≡ signed_decimal v ++ codes "\\n"
-unfolding escape_byte
-escape_line v =
-    flat_map-append escape_byte (signed_decimal v) (10 ∷ []) ∙ ap (λ t. t ++ codes "\\n") (escape_signed v)
-
 pub number_put : (v : ℤ) (s0 s1 s2 s3 : List ℕ)
     → s1 ≡ s0 ++ codes "{\"body\":{\"category\":\"stdout\",\"output\":\"" → s2 ≡ s1 ++ signed_decimal v
     → s3 ≡ s2 ++ codes "\\n\"}," → PutsOpening (Some (output_body (codes "stdout") (number_line v))) s0 s3
@@ -306,7 +306,8 @@ unfolding escape_byte
 number_put v s0 s1 s2 s3 e1 e2 e3 =
     output_put (codes "stdout") (number_line v) s0 s1 (s2 ++ codes "\\n") s3 e1
     (ap (λ t. t ++ codes "\\n") e2 ∙ append_assoc s1 (signed_decimal v) (codes "\\n")
-    ∙ ap (λ t. s1 ++ t) (sym (escape_line v))) (e3 ∙ sym (append_assoc s2 (codes "\\n") (codes "\"},")))
+    ∙ ap (λ t. s1 ++ t) (sym (escape_line (signed_decimal v) (plain_signed v))))
+    (e3 ∙ sym (append_assoc s2 (codes "\\n") (codes "\"},")))
 
 pub exited_put : (code : ℕ) (s0 s1 s2 s3 : List ℕ) → code < 2 ^ 64 → s1 ≡ s0 ++ codes "{\"body\":{\"exitCode\":"
     → s2 ≡ s1 ++ decimal code → s3 ≡ s2 ++ codes "}," → PutsOpening (Some (exited_body code)) s0 s3

@@ -110,11 +110,18 @@ impl Draft {
         }
     }
 
-    /// Appends what stands for a text between quotes, as the library's writer gives it.
+    /// Appends what stands for a text between quotes: at once where only its last character, a line feed, needs an escape,
+    /// as in a log, and else as the library's writer gives it.
     #[inline(never)]
     fn put_escapes(&mut self, text: &str) -> Result<(), AllocError>
         ensures { OnOk result (self.new ≡ self.old ++ escape text.now) }
     {
+        if let Some(line) = text.strip_suffix('\n') {
+            if is_plain(line) {
+                self.put(line)?;
+                return self.put("\\n");
+            }
+        }
         let quoted = quoted_text(self.alloc, text)?;
         match quoted.as_str().strip_prefix('"') {
             Some(begun) => match begun.strip_suffix('"') {
