@@ -10,3 +10,7 @@ mod Conversing
 mod Leaving
 -- Items are taken one after another, and what a source gives is read; for `serve_inbox`, `serve` and `Inbox`.
 mod Taking
+-- The same, where the adapter works meanwhile; for `serve_worker`.
+mod Meanwhile
+-- What responses and events say; for `message_laws`.
+pub mod Saying

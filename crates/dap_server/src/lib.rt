@@ -41,20 +41,29 @@
 //!
 //! [`serve_inbox`] takes items of an [`Inbox`] in place of bytes, among them events that no request asked for
 //! (`ServedInbox` in `specs/ServingInbox.antt`).
+//!
+//! [`serve_worker`] lets a [`Worker`] work while it is busy and nothing has come, as an adapter does whose program runs
+//! (`ServedWorker` in `specs/Working.antt`).
 #![tactic(auto)]
 
 mod ending;
 mod inbox;
 mod laws;
 mod messages;
+mod polled;
 mod reading;
 mod reply;
 mod responder;
 mod serving;
+mod worker;
+mod working;
 
 pub use ending::{Ending, ServeFault};
 pub use inbox::{Inbox, Item};
-pub use laws::request_laws;
+pub use laws::{message_laws, request_laws};
+pub use polled::Polled;
 pub use reply::{Event, Reply};
 pub use responder::Responder;
 pub use serving::{serve, serve_inbox};
+pub use worker::Worker;
+pub use working::serve_worker;

@@ -2,7 +2,7 @@
 
 ghost use Rattle.std.specs.Prelude.{◌≡◌, true, not, codes, None, IfOk, IfErr, OnOk, option_map};
 ghost use Rattle.std.specs.Str.{bytes_eq};
-ghost use Rattle.std.specs.Io.KnownBytes.{Appends};
+ghost use Rattle.byte_streams.specs.Streams.{Appends};
 ghost use Rattle.serde_json.specs.View.{view};
 ghost use Rattle.dap_frame.specs.Frame.{IsOpen};
 ghost use Rattle.dap_server.specs.Requests.{request_of, IsReadAs};
@@ -27,7 +27,7 @@ use std::sync::Wait;
 
 /// Whether the client is still there.
 #[derive(Clone, Copy)]
-enum Client {
+pub(crate) enum Client {
     Stays,
     Left,
 }
@@ -47,9 +47,9 @@ pub fn serve<R: Responder, I: Source, O: Sink>(
     output: &mut O,
 ) -> Result<Ending, ServeFault>
     ensures served { Served R.replies responder.old responder.new
-        (I.left input.old) (I.left input.new) (O.written output.old) (O.written output.new) result }
-    ensures failures { Failures result (I.failures input.old) (I.failures input.new)
-        (O.failures output.old) (O.failures output.new) }
+        (I.supply input.old) (I.supply input.new) (O.output output.old).written (O.output output.new).written result }
+    ensures failures { Failures result (I.supply input.old).failures (I.supply input.new).failures
+        (O.output output.old).failures (O.output output.new).failures }
 {
     serve_inbox(rt, alloc, responder, input, output)
 }
@@ -68,8 +68,8 @@ pub fn serve_inbox<R: Responder, I: Inbox, O: Sink>(
     output: &mut O,
 ) -> Result<Ending, ServeFault>
     ensures served { ServedInbox R.replies I.gives responder.old responder.new inbox.old inbox.new
-        (O.written output.old) (O.written output.new) result }
-    ensures failures { OutputFailures result (O.failures output.old) (O.failures output.new) }
+        (O.output output.old).written (O.output output.new).written result }
+    ensures failures { OutputFailures result (O.output output.old).failures (O.output output.new).failures }
 {
     let mut decoder = Decoder::new(alloc);
     let mut next = 1;
@@ -99,7 +99,7 @@ pub fn serve_inbox<R: Responder, I: Inbox, O: Sink>(
 }
 
 /// Sends an event.
-fn tell<O: Sink>(
+pub(crate) fn tell<O: Sink>(
     rt: &impl Wait,
     alloc: Global,
     event: Event,
@@ -107,11 +107,12 @@ fn tell<O: Sink>(
     output: &mut O,
 ) -> Result<(), ServeFault>
     ensures ok { OnOk result (Tells (plain_event event) next.old next.new
-        (Appends (O.written output.old) (O.written output.new))) }
-    ensures count { OnOk result (O.failures output.new ≡ O.failures output.old) }
-    ensures err { IfErr result (λ fault. CannotTell fault (plain_event event) next.old (O.written output.old)
-        (O.written output.new)) }
-    ensures failed { IfErr result (λ fault. HasFailed fault (O.failures output.old) (O.failures output.new)) }
+        (Appends (O.output output.old).written (O.output output.new).written)) }
+    ensures count { OnOk result ((O.output output.new).failures ≡ (O.output output.old).failures) }
+    ensures err { IfErr result (λ fault. CannotTell fault (plain_event event) next.old (O.output output.old).written
+        (O.output output.new).written) }
+    ensures failed { IfErr result (λ fault.
+        HasFailed fault (O.output output.old).failures (O.output output.new).failures) }
 {
     let frame = match frame_of_event(alloc, event, next) {
         Ok(frame) => frame,
@@ -124,7 +125,7 @@ fn tell<O: Sink>(
 }
 
 /// Answers each request that has come whole.
-fn answer_all<R: Responder, O: Sink>(
+pub(crate) fn answer_all<R: Responder, O: Sink>(
     rt: &impl Wait,
     alloc: Global,
     responder: &mut R,
@@ -135,13 +136,14 @@ fn answer_all<R: Responder, O: Sink>(
     requires { decoder.old.fault ≡ None }
     ensures ok { IfOk result (λ client. Progress R.replies (state responder.old next.old true)
         (state responder.new next.new (stays client)) decoder.old.rest decoder.new.rest
-        (Appends (O.written output.old) (O.written output.new))) }
+        (Appends (O.output output.old).written (O.output output.new).written)) }
     ensures open { IfOk result (λ client. client ≡ Stays → IsOpen decoder.new.rest) }
     ensures sound { OnOk result (decoder.new.fault ≡ None) }
-    ensures count { OnOk result (O.failures output.new ≡ O.failures output.old) }
+    ensures count { OnOk result ((O.output output.new).failures ≡ (O.output output.old).failures) }
     ensures err { IfErr result (λ fault. Stops fault R.replies (state responder.old next.old true) decoder.old.rest
-        responder.new (O.written output.old) (O.written output.new)) }
-    ensures failed { IfErr result (λ fault. HasFailed fault (O.failures output.old) (O.failures output.new)) }
+        responder.new (O.output output.old).written (O.output output.new).written) }
+    ensures failed { IfErr result (λ fault.
+        HasFailed fault (O.output output.old).failures (O.output output.new).failures) }
 {
     for _ in rt.forever() {
         let front = match decoder.front() {
@@ -173,11 +175,12 @@ fn answer<R: Responder, O: Sink>(
     output: &mut O,
 ) -> Result<Client, ServeFault>
     ensures ok { IfOk result (λ client. Turns R.replies (state responder.old next.old true) content.now
-        (state responder.new next.new (stays client)) (Appends (O.written output.old) (O.written output.new))) }
-    ensures count { OnOk result (O.failures output.new ≡ O.failures output.old) }
+        (state responder.new next.new (stays client)) (Appends (O.output output.old).written (O.output output.new).written)) }
+    ensures count { OnOk result ((O.output output.new).failures ≡ (O.output output.old).failures) }
     ensures err { IfErr result (λ fault. FailsIn fault R.replies (state responder.old next.old true) content.now
-        responder.new (O.written output.old) (O.written output.new)) }
-    ensures failed { IfErr result (λ fault. HasFailed fault (O.failures output.old) (O.failures output.new)) }
+        responder.new (O.output output.old).written (O.output output.new).written) }
+    ensures failed { IfErr result (λ fault.
+        HasFailed fault (O.output output.old).failures (O.output output.new).failures) }
 {
     match read(alloc, content)? {
         Some(value) => answer_value(rt, alloc, &value, responder, next, output),
@@ -207,11 +210,12 @@ fn answer_value<R: Responder, O: Sink>(
 ) -> Result<Client, ServeFault>
     ensures ok { IfOk result (λ client. Answers R.replies (state responder.old next.old true)
         (request_of (view value.now)) (state responder.new next.new (stays client))
-        (Appends (O.written output.old) (O.written output.new))) }
-    ensures count { OnOk result (O.failures output.new ≡ O.failures output.old) }
+        (Appends (O.output output.old).written (O.output output.new).written)) }
+    ensures count { OnOk result ((O.output output.new).failures ≡ (O.output output.old).failures) }
     ensures err { IfErr result (λ fault. FailsAt fault R.replies (state responder.old next.old true)
-        (request_of (view value.now)) responder.new (O.written output.old) (O.written output.new)) }
-    ensures failed { IfErr result (λ fault. HasFailed fault (O.failures output.old) (O.failures output.new)) }
+        (request_of (view value.now)) responder.new (O.output output.old).written (O.output output.new).written) }
+    ensures failed { IfErr result (λ fault.
+        HasFailed fault (O.output output.old).failures (O.output output.new).failures) }
 {
     if !is_request(value) {
         return Ok(Client::Stays);
