@@ -1,0 +1,12 @@
+use Rattle.std.proofs.Common.{◌≡◌, ◌++◌, List, map}
+use Rattle.debuggee.specs.Plain.{PlainOutput, plain_breakpoint, plain_output}
+use Rattle.debuggee.specs.Runs.{Passes}
+use Rattle.debuggee.proofs.running.run.Given as goal
+
+abbrev pub invariant-loop : goal.invariant-loop
+invariant-loop g l = record {
+  told : List PlainOutput;
+  passes : Passes g.D.Debuggee.takes g.D.Debuggee.sees l.mode l.initial.debuggee
+      (map plain_breakpoint l.initial.breakpoints.items) l.debuggee (map plain_breakpoint l.breakpoints.items) told;
+  added : map plain_output l.told.items ≡ map plain_output l.initial.told.items ++ told;
+}

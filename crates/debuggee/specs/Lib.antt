@@ -1,0 +1,10 @@
+-- steps, breakpoints and outputs as data without addresses
+pub mod Plain
+-- what is due in a state
+pub mod Due
+-- where a run halts, and what is told: the contract of `run`
+pub mod Runs
+-- worked examples
+pub mod WorkedRuns
+-- runs, one after another
+pub mod Laws

@@ -1,0 +1,143 @@
+//! What is due in a state.
+
+ghost use Rattle.std.specs.Prelude.{◌≡◌, IfOk, map, option_map, string_bytes};
+ghost use Rattle.std.specs.List.{flat_map};
+ghost use Rattle.debuggee.specs.Plain.{plain_breakpoint, plain_halt, plain_output, plain_part};
+ghost use Rattle.debuggee.specs.Due.{accepts, arrives, is_asked, part_text};
+ghost use Rattle.debuggee.specs.Runs.{Arrives, ArrivesAt, ArrivesAll};
+
+use crate::breakpoint::{Breakpoint, Part};
+use crate::debuggee::{Debuggee, Evaluated};
+use crate::halt::{Halt, Output};
+use crate::mode::Mode;
+use std::alloc::{AllocError, Global};
+
+/// Counts the arrivals at breakpoints in the state where the program is, adds what messages say there, and returns why the
+/// program is to stop there, if it is.
+///
+/// # Errors
+///
+/// An allocation failed.
+pub fn arrive<D: Debuggee>(
+    alloc: Global,
+    debuggee: &D,
+    breakpoints: &mut Vec<Breakpoint>,
+    mode: Mode,
+    told: &mut Vec<Output>,
+) -> Result<Option<Halt>, AllocError>
+    ensures { IfOk result (λ halt. Arrives D.sees mode debuggee.now (map plain_breakpoint breakpoints.old.items)
+        (option_map plain_halt halt) (map plain_breakpoint breakpoints.new.items) (map plain_output told.old.items)
+        (map plain_output told.new.items)) }
+{
+    if arrive_all(alloc, debuggee, breakpoints, told)? {
+        return Ok(Some(Halt::AtBreakpoint));
+    }
+    if is_asked(debuggee, mode) {
+        return Ok(Some(Halt::AtStep));
+    }
+    Ok(None)
+}
+
+/// Whether the mode asks for the state where the program is.
+fn is_asked<D: Debuggee>(debuggee: &D, mode: Mode) -> bool
+    ensures { result ≡ is_asked D.sees mode debuggee.now }
+{
+    debuggee.place().is_some() && mode.asks(debuggee.depth())
+}
+
+/// Counts the arrivals at all breakpoints, and returns whether one stops the program.
+fn arrive_all<D: Debuggee>(
+    alloc: Global,
+    debuggee: &D,
+    breakpoints: &mut Vec<Breakpoint>,
+    told: &mut Vec<Output>,
+) -> Result<bool, AllocError>
+    ensures { IfOk result (λ stops. ArrivesAll D.sees debuggee.now (map plain_breakpoint breakpoints.old.items) stops
+        (map plain_breakpoint breakpoints.new.items) (map plain_output told.old.items) (map plain_output told.new.items)) }
+{
+    let mut stops = false;
+    for breakpoint in breakpoints.iter_mut() {
+        let here = arrive_at(alloc, debuggee, breakpoint, told)?;
+        stops = stops || here;
+    }
+    Ok(stops)
+}
+
+/// Counts an arrival at a breakpoint, if it is one, and returns whether it stops the program.
+fn arrive_at<D: Debuggee>(
+    alloc: Global,
+    debuggee: &D,
+    breakpoint: &mut Breakpoint,
+    told: &mut Vec<Output>,
+) -> Result<bool, AllocError>
+    ensures { IfOk result (λ stops. ArrivesAt D.sees debuggee.now (plain_breakpoint breakpoint.old) stops
+        (plain_breakpoint breakpoint.new) (map plain_output told.old.items) (map plain_output told.new.items)) }
+{
+    if !arrives(alloc, debuggee, breakpoint)? {
+        return Ok(false);
+    }
+    breakpoint.arrivals = breakpoint.arrivals.saturating_add(1);
+    if !is_accepted(breakpoint) {
+        return Ok(false);
+    }
+    match &breakpoint.message {
+        None => Ok(true),
+        Some(parts) => {
+            let text = text_of(alloc, debuggee, parts.as_slice())?;
+            told.push(Output::Logged(text))?;
+            Ok(false)
+        }
+    }
+}
+
+/// Whether the last arrival that was counted is accepted.
+fn is_accepted(breakpoint: &Breakpoint) -> bool
+    ensures { result ≡ accepts breakpoint.now.rule breakpoint.now.arrivals }
+{
+    match breakpoint.rule {
+        None => true,
+        Some(rule) => rule.accepts(breakpoint.arrivals),
+    }
+}
+
+/// Whether the program arrives at a breakpoint.
+fn arrives<D: Debuggee>(
+    alloc: Global,
+    debuggee: &D,
+    breakpoint: &Breakpoint,
+) -> Result<bool, AllocError>
+    ensures { IfOk result (λ here. here ≡ arrives D.sees debuggee.now (plain_breakpoint breakpoint.now)) }
+{
+    match debuggee.place() {
+        Some(place) if place == breakpoint.place => match &breakpoint.condition {
+            None => Ok(true),
+            Some(condition) => match debuggee.evaluate(alloc, 0, condition.as_str())? {
+                Evaluated::Value(_, holds) => Ok(holds),
+                Evaluated::NoValue(_) => Ok(true),
+            },
+        },
+        _ => Ok(false),
+    }
+}
+
+/// Returns the text of a message.
+fn text_of<D: Debuggee>(alloc: Global, debuggee: &D, parts: &[Part]) -> Result<String, AllocError>
+    ensures { IfOk result (λ text. string_bytes text ≡ flat_map (part_text D.sees debuggee.now)
+        (map plain_part parts.now)) }
+{
+    let mut text = String::new(alloc);
+    for part in parts {
+        match part {
+            Part::Text(own) => text.push_str(own.as_str())?,
+            Part::Expression(expression) => match debuggee.evaluate(
+                alloc,
+                0,
+                expression.as_str(),
+            )? {
+                Evaluated::Value(value, _) => text.push_str(value.as_str())?,
+                Evaluated::NoValue(why) => text.push_str(why.as_str())?,
+            },
+        }
+    }
+    Ok(text)
+}

@@ -1,0 +1,26 @@
+//! A program under a debugger, of any language: what the language gives, and a run that stops where it is first due.
+//!
+//! [`run`] promises (`Runs` in `specs/Runs.antt`), of each language and by the language's own steps: it takes one step at
+//! least, and halts at the first state in which a breakpoint stops the program (its condition holds, and its rule
+//! accepts how often it did) or that the mode asks for; or at the program's end; or at its fault. What the steps print and
+//! the messages of breakpoints say is told in order, all of it, and nothing else. `run_laws` joins the slices of a run.
+//!
+//! What the steps mean is the language's to say: its ghost member `takes` has no default. A language whose `takes` allows
+//! any step has no promise of where a run leads, or of what is printed.
+#![tactic(auto)]
+
+mod arriving;
+mod breakpoint;
+mod debuggee;
+mod halt;
+mod laws;
+mod mode;
+mod running;
+
+pub use arriving::arrive;
+pub use breakpoint::{Breakpoint, Part, Rule};
+pub use debuggee::{Debuggee, Evaluated, Step};
+pub use halt::{Halt, Output};
+pub use laws::{run_laws, worked_debuggee};
+pub use mode::Mode;
+pub use running::run;

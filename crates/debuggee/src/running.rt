@@ -1,0 +1,81 @@
+//! Running a program.
+
+ghost use Rattle.std.specs.Prelude.{IfOk, map, option_map};
+ghost use Rattle.debuggee.specs.Plain.{plain_breakpoint, plain_halt, plain_output};
+ghost use Rattle.debuggee.specs.Runs.{Added, Takes, Advances, Runs};
+
+use crate::arriving::arrive;
+use crate::breakpoint::Breakpoint;
+use crate::debuggee::{Debuggee, Step};
+use crate::halt::{Halt, Output};
+use crate::mode::Mode;
+use std::alloc::{AllocError, Global};
+
+/// How many times a slice looks at a breakpoint at most, and how many steps it takes at most. It keeps short what a
+/// request waits for, also where each look evaluates a condition.
+const LOOKS: usize = 1000;
+
+/// Runs a program for a slice: to the first state in which it is due, to its end or its fault; `None` where the slice ends
+/// before. Adds what is told.
+///
+/// # Errors
+///
+/// An allocation failed.
+pub fn run<D: Debuggee>(
+    alloc: Global,
+    debuggee: &mut D,
+    breakpoints: &mut Vec<Breakpoint>,
+    mode: Mode,
+    told: &mut Vec<Output>,
+) -> Result<Option<Halt>, AllocError>
+    ensures { IfOk result (λ halt. Runs D.takes D.sees mode debuggee.old (map plain_breakpoint breakpoints.old.items)
+        (option_map plain_halt halt) debuggee.new (map plain_breakpoint breakpoints.new.items)
+        (map plain_output told.old.items) (map plain_output told.new.items)) }
+{
+    let steps = LOOKS / breakpoints.len().max(1);
+    for _ in 1..steps {
+        match advance(alloc, debuggee, breakpoints, mode, told)? {
+            Some(halt) => return Ok(Some(halt)),
+            None => {}
+        }
+    }
+    advance(alloc, debuggee, breakpoints, mode, told)
+}
+
+/// Takes a step, and returns why the run halts after it, if it does.
+fn advance<D: Debuggee>(
+    alloc: Global,
+    debuggee: &mut D,
+    breakpoints: &mut Vec<Breakpoint>,
+    mode: Mode,
+    told: &mut Vec<Output>,
+) -> Result<Option<Halt>, AllocError>
+    ensures { IfOk result (λ halt. Added (Advances D.takes D.sees mode debuggee.old
+        (map plain_breakpoint breakpoints.old.items) (option_map plain_halt halt) debuggee.new
+        (map plain_breakpoint breakpoints.new.items)) (map plain_output told.old.items) (map plain_output told.new.items)) }
+{
+    match take(alloc, debuggee, told)? {
+        Some(halt) => Ok(Some(halt)),
+        None => arrive(alloc, debuggee, breakpoints, mode, told),
+    }
+}
+
+/// Takes a step. Adds what it prints.
+fn take<D: Debuggee>(
+    alloc: Global,
+    debuggee: &mut D,
+    told: &mut Vec<Output>,
+) -> Result<Option<Halt>, AllocError>
+    ensures { IfOk result (λ halt. Added (Takes D.takes debuggee.old (option_map plain_halt halt) debuggee.new)
+        (map plain_output told.old.items) (map plain_output told.new.items)) }
+{
+    match debuggee.step(alloc)? {
+        Step::Goes => Ok(None),
+        Step::Prints(text) => {
+            told.push(Output::Printed(text))?;
+            Ok(None)
+        }
+        Step::Ends(status) => Ok(Some(Halt::AtEnd(status))),
+        Step::Fails(why) => Ok(Some(Halt::AtFault(why))),
+    }
+}
