@@ -6,13 +6,15 @@ use byte_streams::{Reading, Writing};
 use pl0_tool::{SystemFiles, execute};
 
 /// The command lines.
-const LINES: [&[&str]; 10] = [
+const LINES: [&[&str]; 12] = [
     &["pl0", "run", "multiply.pl0"],
     &["pl0", "run", "-"],
     &["pl0", "run", "fault.pl0"],
     &["pl0", "run", "missing.pl0"],
     &["pl0", "check", "missing.pl0", "multiply.pl0", "mistake.pl0"],
     &["pl0", "list", "two.pl0"],
+    &["pl0", "list", "--names", "two.pl0"],
+    &["pl0", "list", "--names", "procedures.pl0"],
     &["pl0", "trace", "procedures.pl0"],
     &[
         "pl0",

@@ -10,10 +10,9 @@ use Rattle.pl0_tool.specs.declared.report.Report.{Report}
 use Rattle.pl0_tool.specs.declared.running.RunEnd.{RunEnd}
 use Rattle.pl0_tool.specs.Loading.{IsProgramOf}
 use Rattle.pl0_tool.specs.Running.{HasRun}
-use Rattle.pl0_tool.specs.Listing.{listing}
 use Rattle.std.specs.Prelude.{IsErrAnd, MatchResult}
 use Rattle.pl0_tool.specs.Commands.{IsReport, RunTells, TraceTells, ProgramTells, Tells, start_of, end_errors, end_ending}
-use Rattle.pl0_tool.specs.Commands.{IsTraceReport, ProgramWrites, StartTraces, StartWrites, WritesNumbers, WritesRun}
+use Rattle.pl0_tool.specs.Commands.{IsTraceReport, ListTells, ProgramWrites, StartTraces, StartWrites, WritesNumbers, WritesRun}
 use Rattle.pl0_tool.specs.Traced.{HasPart, HasTable, HasTraced}
 use Rattle.pl0_tool.specs.declared.tracing.Row.{Row}
 use Rattle.pl0_tool.specs.declared.tracing.TraceEnd.{TraceEnd}
@@ -78,7 +77,7 @@ program_writes Run file unit report before after (end, last, ran, told) = inr (e
 program_writes (Trace from steps drawn) file unit report before after (end, last, pending, traced, told) =
     inr (traced_part end drawn (start_of unit) last from steps before after pending traced)
 program_writes Check file unit report before after (told, same) = same
-program_writes Listing file unit report before after (told, same) = same
+program_writes (Listing names) file unit report before after (told, same) = same
 
 -- and of a text
 pub text_writes : (task : Task) (file text : List ℕ) (report : Report) (before after : Output)
@@ -134,13 +133,14 @@ pub checked_program : (task : Task) (file : List ℕ) (unit : Compiled) (report 
 checked_program task file unit report out is told =
     subst (λ (t : Task). ProgramTells t file unit report out out) (sym is) (told, refl)
 
-pub listed_program : {E : Type 0} (task : Task) (file : List ℕ) (unit : Compiled) (r : Result Report E) (out : Output)
-    → task ≡ Listing
-    → IfOk r (IsReport (listing unit) [] Success)
+pub listed_program : {E : Type 0} (task : Task) (names : Bool) (file : List ℕ) (unit : Compiled) (r : Result Report E)
+    (out : Output)
+    → task ≡ Listing names
+    → IfOk r (ListTells names unit)
     → MatchResult r (λ report. ProgramTells task file unit report out out) (λ e. ProgramWrites task unit out out)
-listed_program task file unit (Ok report) out is told =
+listed_program task names file unit (Ok report) out is told =
     subst (λ (t : Task). ProgramTells t file unit report out out) (sym is) (told, refl)
-listed_program task file unit (Err e) out is told =
+listed_program task names file unit (Err e) out is told =
     subst (λ (t : Task). ProgramWrites t unit out out) (sym is) refl
 
 pub run_program : {E : Type 0} (task : Task) (file : List ℕ) (unit : Compiled) (r : Result Report E)

@@ -1,10 +1,10 @@
 -- What several lemma files import, from the libraries and from the definitions.
-pub use Rattle.byte_streams.specs.Streams.{AppendsPart, FailsIn, Output, output, WritesAll}
+pub use Rattle.byte_streams.specs.Streams.{AppendsPart, FailsIn, Output, WritesAll}
 pub use Rattle.pl0_machine.specs.Machine.{depth_of, frame_of, frames, frames_of, IsNext, outcome_of, parent_of, program, program_of, Shows, Standing, Stepped, told, top_of, variables_of}
 pub use Rattle.pl0_machine.specs.Stretches.{ahead, RanOn, Stretches}
 pub use Rattle.pl0_machine.specs.declared.outcome.FrameView.{FrameView}
 pub use Rattle.pl0_machine.specs.declared.outcome.StepOutcome.TheVariants.{Done, Fault, Went}
-pub use Rattle.pl0_meaning.specs.Linking.{at_next, frame_at-below, frame_at-top, frame_within}
+pub use Rattle.pl0_meaning.proofs.Linking.{at_next, frame_at-below, frame_at-top, frame_within}
 pub use Rattle.pl0_meaning.specs.Values.{Configuration, Frame, frame_at, next_step, number_of, truth, value}
 pub use Rattle.pl0_tool.specs.Drawing.{behind, is_begun, IsHead, IsReturn}
 pub use Rattle.pl0_tool.specs.Faulting.{fault_report, first_line, frame_line, frame_lines, more_line, place_line, shown}

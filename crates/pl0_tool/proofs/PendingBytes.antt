@@ -1,13 +1,13 @@
 -- Bytes that are pending while more are put to them, and when they are written.
 use Rattle.pl0_tool.proofs.Common.{[], ap, append-nil, append_assoc, AppendsPart, arith, Err, FailsIn, Holds, List, MatchResult, Ok, Output, refl, Result, subst, sym, WritesAll, ℕ, ◌++◌, ◌<◌, ◌∙◌, ◌≡◌}
-use Rattle.std.specs.Io.KnownBytes.{Appends}
-use Rattle.std.proofs.KnownBytes.{Appends-nil, Appends-trans}
+use Rattle.byte_streams.specs.Streams.{Appends}
+use Rattle.byte_streams.proofs.Appending.{appends_none, appends_both}
 
 -- bytes were written, and then others
 pub writes_both : (before mid later : Output) (first next : List ℕ) → WritesAll first before mid
     → WritesAll next mid later → WritesAll (first ++ next) before later
 writes_both before mid later first next one two =
-    (Appends-trans before.written mid.written later.written first next one.0 two.0, two.1 ∙ one.1)
+    (appends_both before.written mid.written later.written first next one.0 two.0, two.1 ∙ one.1)
 
 -- bytes were written, and then a prefix of others
 pub writes_and_fails : (before mid later : Output) (first next : List ℕ) → WritesAll first before mid
@@ -17,7 +17,7 @@ writes_and_fails before mid later first next one fails =
     let rest = part.2 in (
       (
         first ++ part.0,
-        Appends-trans before.written mid.written later.written first part.0 one.0 part.1,
+        appends_both before.written mid.written later.written first part.0 one.0 part.1,
         (rest.0, append_assoc first part.0 rest.0 ∙ ap (λ l. first ++ l) rest.1),
       ),
       (let fewer = fails.1 in let same = one.1 in omega (arith, fewer, same)),
@@ -29,7 +29,7 @@ pub holds_flushed : (before now later : Output) (pending left text : List ℕ) �
 holds_flushed before now later pending left text held wrote empty = record {
   flushed = text;
   appended = subst (Appends before.written later.written) held.joined
-      (Appends-trans before.written now.written later.written held.flushed pending held.appended wrote.0);
+      (appends_both before.written now.written later.written held.flushed pending held.appended wrote.0);
   joined = ap (λ l. text ++ l) empty ∙ append-nil text;
   kept = wrote.1 ∙ held.kept;
 }
@@ -40,7 +40,7 @@ pub holds_written : (before now mid later : Output) (pending left text bytes : L
 holds_written before now mid later pending left text bytes held first next empty =
     let flushed = holds_flushed before now mid pending [] text held first refl in record {
       flushed = text ++ bytes;
-      appended = Appends-trans before.written mid.written later.written text bytes
+      appended = appends_both before.written mid.written later.written text bytes
           (subst (Appends before.written mid.written) (sym (append-nil flushed.flushed) ∙ flushed.joined)
           flushed.appended) next.0;
       joined = ap (λ l. (text ++ bytes) ++ l) empty ∙ append-nil (text ++ bytes);
@@ -55,7 +55,7 @@ holds_failed before now later pending text bytes held fails =
     let rest = part.2 in (
       (
         held.flushed ++ part.0,
-        Appends-trans before.written now.written later.written held.flushed part.0 held.appended part.1,
+        appends_both before.written now.written later.written held.flushed part.0 held.appended part.1,
         (
           rest.0 ++ bytes,
           append_assoc held.flushed part.0 (rest.0 ++ bytes)
@@ -77,7 +77,7 @@ holds_failed_later before now mid later pending text bytes held first fails =
     let rest = part.2 in (
       (
         text ++ part.0,
-        Appends-trans before.written mid.written later.written text part.0
+        appends_both before.written mid.written later.written text part.0
             (subst (Appends before.written mid.written) all flushed.appended) part.1,
         (rest.0, append_assoc text part.0 rest.0 ∙ ap (λ l. text ++ l) rest.1),
       ),
@@ -103,7 +103,7 @@ holds_failed_last before now later pending text held fails =
 -- all that is pending is a text of which nothing was written
 pub holds_all : (at : Output) (pending text : List ℕ) → pending ≡ text → Holds at at pending text
 holds_all at pending text is =
-    record { flushed = []; appended = Appends-nil at.written; joined = is; kept = refl }
+    record { flushed = []; appended = appends_none at.written; joined = is; kept = refl }
 
 -- more is pending
 pub holds_more : (before now : Output) (pending left text bytes : List ℕ) → left ≡ pending ++ bytes

@@ -1,7 +1,7 @@
 -- What a run of a machine writes, up to a step that writes a number, faults or ends the program.
 use Rattle.pl0_tool.proofs.Common.{[], ahead, ap, append-nil, append_assoc, arith, Assign, at_next, Block, Bool, Call, cond, Configuration, depth_of, Done, Err, FailsIn, false, Fault, Frame, frames_of, HasRun, Holds, home, If, IsLast, length, lines_between, List, nat_eq, nat_lt, None, number_lines, Ok, Option, option_and_then, option_map_or, option_to_list, outcome_of, Output, program, Ran, RanOn, refl, Result, signed_decimal, Some, Standing, Statement, Stepped, Stretches, subst, suc, sym, told, told_numbers, true, truth, value, Went, While, Write, WritesAll, zero, ℕ, ℤ, ◌++◌, ◌+◌, ◌<◌, ◌∙◌, ◌∷◌, ◌≡◌, ◌≤◌}
 use Rattle.pl0_machine.specs.Machine.{configuration}
-use Rattle.pl0_meaning.specs.SharedLemmas.{written-next}
+use Rattle.pl0_meaning.proofs.SharedLemmas.{written-next}
 use Rattle.pl0_meaning.specs.declared.RunFault.{RunFault}
 use Rattle.pl0_meaning.specs.declared.RunFault.TheVariants.{Depth, StepLimit}
 use Rattle.pl0_meaning.specs.Runs.{Outcome, Goes, Faults, Stuck, at, led_to, outcome, step_at, step, frame_step, statement_step, on_value, entered, callee, assigned, doing, opened, frame_limit, last_position, written, written_by}

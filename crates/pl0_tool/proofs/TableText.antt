@@ -8,7 +8,7 @@ use Rattle.std.proofs.lemmas.List.{drop_more}
 use Rattle.std.proofs.lemmas.Option.{slice_get_past, slice_get-get_or}
 use Rattle.pl0_tree.specs.Tree.{Block, Name, variables}
 use Rattle.pl0_tree.specs.Plain.{plain_name, plain_block}
-use Rattle.pl0_tree.specs.PlainParts.{plain_block_parts}
+use Rattle.pl0_tree.proofs.PlainParts.{plain_block_parts}
 use Rattle.pl0_tree.specs.declared.tree.Name.{Name as DeclaredName}
 use Rattle.pl0_tree.specs.declared.tree.Block.{Block as DeclaredBlock, out-Block}
 use Rattle.pl0_tree.specs.Scope.{Path, block_at}

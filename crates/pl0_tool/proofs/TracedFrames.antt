@@ -7,7 +7,7 @@ use Rattle.std.proofs.lemmas.List.{length-map}
 use Rattle.std.proofs.lemmas.Option.{slice_get-get_or}
 use Rattle.pl0_tree.specs.Tree.{Block, Name, variables}
 use Rattle.pl0_tree.specs.Plain.{plain_name, plain_block}
-use Rattle.pl0_tree.specs.PlainParts.{plain_block_parts}
+use Rattle.pl0_tree.proofs.PlainParts.{plain_block_parts}
 use Rattle.pl0_tree.specs.declared.tree.Block.{Block as DeclaredBlock, out-Block}
 use Rattle.pl0_tree.specs.declared.tree.Place.{Place}
 use Rattle.pl0_tree.specs.declared.step.Step.{Step}
@@ -17,10 +17,10 @@ use Rattle.pl0_tree.specs.Scope.{Path, block_at}
 use Rattle.pl0_tree.specs.Steps.{StepAt, steps, blocks, AreSteps}
 use Rattle.pl0_tree.specs.Blocks.{AreNestings}
 use Rattle.pl0_syntax.proofs.StepBlocks.{number_within}
-use Rattle.pl0_syntax.specs.Tables.{steps_prop, nestings_prop}
+use Rattle.pl0_syntax.proofs.Tables.{steps_prop, nestings_prop}
 use Rattle.pl0_meaning.specs.Values.{Frame, Configuration, frame_at, next_step}
 use Rattle.pl0_meaning.specs.Frames.{AreLinked}
-use Rattle.pl0_meaning.specs.Linking.{frame_of}
+use Rattle.pl0_meaning.proofs.Linking.{frame_of}
 use Rattle.pl0_unit.specs.declared.unit.Unit.{Unit as Compiled}
 use Rattle.pl0_machine.specs.declared.outcome.FrameView.{FrameView}
 use Rattle.pl0_machine.specs.Machine.{program_of, IsNext, Shows, variables_of}

@@ -36,6 +36,10 @@ number_option name least most = record (new_rule name) {
 abbrev pub machine_flag : Rule
 machine_flag = record (new_rule (codes "machine")) { long = Some (codes "machine"); action = Some SetTrue }
 
+-- the flag by which the names are listed
+abbrev pub names_flag : Rule
+names_flag = record (new_rule (codes "names")) { long = Some (codes "names"); action = Some SetTrue }
+
 -- a command with these arguments
 abbrev pub command_with : Text → List Rule → Shape
 command_with name rules = record (new_app name).top { rules = rules }
@@ -64,7 +68,7 @@ command_line =
     (command_with (codes "trace") (one_file ∷ number_option (codes "from") 0 (usize_max)
     ∷ number_option (codes "steps") 1 most_steps ∷ machine_flag ∷ [])))
     (command_with (codes "check") (files ∷ [])))
-    (command_with (codes "list") (one_file ∷ []))
+    (command_with (codes "list") (one_file ∷ names_flag ∷ []))
 
 -- ---- what is asked for
 
@@ -85,7 +89,7 @@ IsFlag given is =
 -- the task of a command, by its name and its arguments
 abbrev pub IsTask : Text → List Row → Task → Type 0
 IsTask name rows Run = name ≡ codes "run"
-IsTask name rows Listing = name ≡ codes "list"
+IsTask name rows (Listing names) = (name ≡ codes "list") × IsFlag (one_of (codes "names") rows) names
 IsTask name rows (Trace from steps drawn) =
     (name ≡ codes "trace") × IsNumber 0 (one_of (codes "from") rows) from
     × IsNumber usual_steps (one_of (codes "steps") rows) steps × IsFlag (one_of (codes "machine") rows) drawn

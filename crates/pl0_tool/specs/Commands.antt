@@ -1,10 +1,11 @@
 -- What each command writes and tells of a text.
-use Rattle.std.specs.Prelude.{◌≡◌, ◌⊎◌, ◌++◌, ℕ, Bool, List, [], codes, decimal}
+use Rattle.std.specs.Prelude.{◌≡◌, ◌⊎◌, ◌++◌, ℕ, Bool, true, false, List, [], codes, decimal}
 use Rattle.pl0_tree.specs.declared.tree.Place.{Place}
 use Rattle.pl0_tree.specs.declared.fault.FaultKind.{FaultKind}
 use Rattle.pl0_tree.specs.Faults.{IsFirstFault}
 use Rattle.pl0_unit.specs.declared.unit.Unit.{Unit as Compiled}
 use Rattle.pl0_machine.specs.Machine.{Standing}
+use Rattle.pl0_lessons.specs.NameTable.{IsNameTable}
 use Rattle.pl0_mistakes.specs.Lines.{mistake_line}
 use Rattle.byte_streams.specs.Streams.{Output}
 use Rattle.pl0_tool.specs.declared.arguments.Task.{Task}
@@ -71,6 +72,13 @@ TraceTells drawn file start from steps report before after =
     (end : TraceEnd) × (last : Standing) × (pending : List ℕ)
     × HasTraced end drawn start from steps last before after pending × IsTraceReport end file last pending report
 
+-- ---- a listing
+
+-- a program is listed, or the table of its names
+abbrev pub ListTells : Bool → Compiled → Report → Type 0
+ListTells false unit report = IsReport (listing unit) [] Success report
+ListTells true unit report = (page : List ℕ) × ∥ IsNameTable unit page ∥₁ × IsReport page [] Success report
+
 -- ---- a text
 
 -- a machine before the first step of a program
@@ -87,7 +95,7 @@ ProgramTells Run file unit report before after = RunTells file (start_of unit) r
 ProgramTells (Trace from steps drawn) file unit report before after =
     TraceTells drawn file (start_of unit) from steps report before after
 ProgramTells Check file unit report before after = IsReport [] [] Success report × (after ≡ before)
-ProgramTells Listing file unit report before after = IsReport (listing unit) [] Success report × (after ≡ before)
+ProgramTells (Listing names) file unit report before after = ListTells names unit report × (after ≡ before)
 
 -- a text's first mistake is told; or, where it is a program's, what the task tells of that
 abbrev pub Tells : Task → List ℕ → List ℕ → Report → Output → Output → Type 0
@@ -115,7 +123,7 @@ abbrev pub ProgramWrites : Task → Compiled → Output → Output → Type 0
 ProgramWrites Run unit before after = StartWrites unit before after
 ProgramWrites (Trace from steps drawn) unit before after = StartTraces drawn unit from steps before after
 ProgramWrites Check unit before after = after ≡ before
-ProgramWrites Listing unit before after = after ≡ before
+ProgramWrites (Listing names) unit before after = after ≡ before
 
 -- nothing was written of a text, or the run of its program, or a part of its trace
 abbrev pub WritesNumbers : Task → List ℕ → Output → Output → Type 0

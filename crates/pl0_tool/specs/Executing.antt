@@ -76,7 +76,7 @@ ClosesWith ending unread errors later_errors = later_errors ≡ errors
 
 -- What reading an input gave: its beginning; or nothing, where a read failed or memory ran out.
 abbrev pub HasRead : Result (List ℕ) FileFault → Supply → Supply → Type 0
-HasRead (Ok text) old later = BeginsWith text old.left later.left × (later.failures ≡ old.failures)
+HasRead (Ok text) old later = BeginsWith text old later × (later.failures ≡ old.failures)
 HasRead (Err CannotRead) old later = old.failures < later.failures
 HasRead (Err NoMemory) old later = later.failures ≡ old.failures
 HasRead (Err fault) old later = ⊥
@@ -95,13 +95,13 @@ plain_text (Err fault) = Err fault
 abbrev pub files_of : Request → List Text
 files_of asked = map (λ file. file.now) asked.files.items
 
--- By `opens` files are opened by their names, and by `supply_of` it is known what an open file has left to read.
+-- By `opens` files are opened by their names, and by `supply_of` it is known what was read of an open file.
 module _ {Files File : Type 0} (opens : Files → Text → Result File FileFault → Files → Type 0)
     (supply_of : File → Supply) where
   -- The file of this name was opened and read, or it couldn't be opened.
   abbrev pub ReadsFile : Text → Result (List ℕ) FileFault → Files → Files → Type 0
   ReadsFile name read old later =
-      ((file : File) × opens old name (Ok file) later × ((left : Supply) × HasRead read (supply_of file) left))
+      ((file : File) × opens old name (Ok file) later × ((closed : Supply) × HasRead read (supply_of file) closed))
       ⊎ ((fault : FileFault) × opens old name (Err fault) later × (read ≡ Err fault))
 
   -- The name `-` stands for the input, and each other name for a file.

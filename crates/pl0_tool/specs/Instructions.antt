@@ -5,7 +5,7 @@ use Rattle.pl0_unit.specs.declared.instruction.Instruction.TheVariants.{Operate}
 use Rattle.pl0_unit.specs.declared.instruction.Operation.{Operation}
 use Rattle.pl0_unit.specs.declared.instruction.Operation.TheVariants.{Return, Negate, Add, Subtract, Multiply, Divide, Odd, Equal, Unequal, Less, AtLeast, Greater, AtMost, Write}
 use Rattle.pl0_unit.specs.Mnemonics.{instruction_text}
-use Rattle.pl0_tool.specs.Columns.{left}
+use Rattle.pl0_lessons.specs.Columns.{left}
 
 -- what an operation is called
 abbrev pub operation_name : Operation → List ℕ

@@ -13,8 +13,6 @@ pub mod Tracing
 pub mod Faulting
 -- the lines of a text
 pub mod TextLines
--- columns of a page
-pub mod Columns
 -- how an instruction is written
 pub mod Instructions
 -- the listing of a program

@@ -6,7 +6,7 @@ use Rattle.pl0_tree.specs.declared.step.Step.{Step}
 use Rattle.pl0_unit.specs.declared.instruction.Instruction.{Instruction}
 use Rattle.pl0_unit.specs.declared.instruction.Instruction.TheVariants.{Enter, Jump}
 use Rattle.pl0_unit.specs.declared.unit.Unit.{Unit as Compiled}
-use Rattle.pl0_tool.specs.Columns.{right}
+use Rattle.pl0_lessons.specs.Columns.{right}
 use Rattle.pl0_tool.specs.TextLines.{line_feed, text_lines}
 use Rattle.pl0_tool.specs.Instructions.{listed_text}
 

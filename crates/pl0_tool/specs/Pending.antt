@@ -1,7 +1,6 @@
 -- Bytes that are still to be written.
 use Rattle.std.specs.Prelude.{◌≡◌, ℕ, List, ◌++◌}
-use Rattle.std.specs.Io.KnownBytes.{Appends}
-use Rattle.byte_streams.specs.Streams.{Output}
+use Rattle.byte_streams.specs.Streams.{Output, Appends}
 
 -- The first part of a text was written to an output since it was as before, and the rest is pending.
 pub record Holds (before now : Output) (pending text : List ℕ) : Type 0 where

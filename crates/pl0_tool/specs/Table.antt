@@ -15,7 +15,7 @@ use Rattle.pl0_unit.specs.declared.unit.Unit.{Unit as Compiled}
 use Rattle.pl0_machine.specs.Machine.{program_of}
 use Rattle.pl0_machine.specs.declared.outcome.StepOutcome.{StepOutcome}
 use Rattle.pl0_machine.specs.declared.outcome.StepOutcome.TheVariants.{Went}
-use Rattle.pl0_tool.specs.Columns.{column, left, right}
+use Rattle.pl0_lessons.specs.Columns.{column, left, right}
 use Rattle.pl0_tool.specs.TextLines.{line_feed, text_lines}
 use Rattle.pl0_tool.specs.declared.drawing.FrameHead.{FrameHead}
 use Rattle.pl0_tool.specs.declared.drawing.Drawing.{Drawing}

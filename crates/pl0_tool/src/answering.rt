@@ -1,7 +1,6 @@
 //! Doing what is asked for with each file.
 
 ghost use Rattle.std.specs.Prelude.{MatchResult};
-ghost use Rattle.byte_streams.specs.Streams.{output as output_at, supply};
 ghost use Rattle.pl0_tool.specs.Executing.{Adds, AreDone, GivesUp, HasRead, Reads, RunsOut, files_of, origins, plain_text};
 
 use crate::arguments::{Request, Task};
@@ -27,17 +26,16 @@ where
     I: Source,
     O: Sink,
     ensures { MatchResult result
-        (λ report. AreDone F.opens (λ file. supply (F.File.left file) (F.File.failures file)) request.now.task
-        (origins files.old (supply (I.left input.old) (I.failures input.old)))
-        (output_at (O.written output.old) (O.failures output.old)) (files_of request.now) report
-        (origins files.new (supply (I.left input.new) (I.failures input.new)))
-        (output_at (O.written output.new) (O.failures output.new)))
-        (λ _. GivesUp F.opens (λ file. supply (F.File.left file) (F.File.failures file))
+        (λ report. AreDone F.opens F.File.supply request.now.task
+        (origins files.old (I.supply input.old))
+        (O.output output.old) (files_of request.now) report
+        (origins files.new (I.supply input.new))
+        (O.output output.new))
+        (λ _. GivesUp F.opens F.File.supply
         request.now.task (files_of request.now)
-        (origins files.old (supply (I.left input.old) (I.failures input.old)))
-        (origins files.new (supply (I.left input.new) (I.failures input.new)))
-        (output_at (O.written output.old) (O.failures output.old))
-        (output_at (O.written output.new) (O.failures output.new))) }
+        (origins files.old (I.supply input.old))
+        (origins files.new (I.supply input.new))
+        (O.output output.old) (O.output output.new)) }
 {
     let task = request.task;
     let names = request.files.as_slice();
@@ -69,16 +67,14 @@ where
     I: Source,
     O: Sink,
     ensures { MatchResult result
-        (λ _. Adds F.opens (λ file. supply (F.File.left file) (F.File.failures file)) task name.now report.old report.new
-        (origins files.old (supply (I.left input.old) (I.failures input.old)))
-        (origins files.new (supply (I.left input.new) (I.failures input.new)))
-        (output_at (O.written output.old) (O.failures output.old))
-        (output_at (O.written output.new) (O.failures output.new)))
-        (λ _. RunsOut F.opens (λ file. supply (F.File.left file) (F.File.failures file)) task name.now
-        (origins files.old (supply (I.left input.old) (I.failures input.old)))
-        (origins files.new (supply (I.left input.new) (I.failures input.new)))
-        (output_at (O.written output.old) (O.failures output.old))
-        (output_at (O.written output.new) (O.failures output.new))) }
+        (λ _. Adds F.opens F.File.supply task name.now report.old report.new
+        (origins files.old (I.supply input.old))
+        (origins files.new (I.supply input.new))
+        (O.output output.old) (O.output output.new))
+        (λ _. RunsOut F.opens F.File.supply task name.now
+        (origins files.old (I.supply input.old))
+        (origins files.new (I.supply input.new))
+        (O.output output.old) (O.output output.new)) }
 {
     let alloc = rt.alloc();
     match text_of(rt, files, input, name) {
@@ -131,9 +127,9 @@ fn text_of<R: Wait + AllocGlobal, F: Opener, I: Source>(
     input: &mut I,
     name: &str,
 ) -> Result<Vec<u8>, FileFault>
-    ensures { Reads F.opens (λ file. supply (F.File.left file) (F.File.failures file)) name.now (plain_text result)
-        (origins files.old (supply (I.left input.old) (I.failures input.old)))
-        (origins files.new (supply (I.left input.new) (I.failures input.new))) }
+    ensures { Reads F.opens F.File.supply name.now (plain_text result)
+        (origins files.old (I.supply input.old))
+        (origins files.new (I.supply input.new)) }
 {
     if name == "-" {
         return text_in(rt, input);
@@ -146,8 +142,7 @@ fn text_of<R: Wait + AllocGlobal, F: Opener, I: Source>(
 
 /// Returns the text that a source has.
 fn text_in<R: Wait + AllocGlobal, I: Source>(rt: &R, source: &mut I) -> Result<Vec<u8>, FileFault>
-    ensures { HasRead (plain_text result)
-        (supply (I.left source.old) (I.failures source.old)) (supply (I.left source.new) (I.failures source.new)) }
+    ensures { HasRead (plain_text result) (I.supply source.old) (I.supply source.new) }
 {
     match read_beginning(rt, rt.alloc(), source) {
         Ok(text) => Ok(text),

@@ -4,7 +4,7 @@ ghost use Rattle.std.specs.Prelude.{◌≡◌, IfOk, map, false, [], codes, unwr
 ghost use Rattle.clap.specs.Lexer.{usize_max};
 ghost use Rattle.clap.specs.Words.{all_of, app_of, found_of, one_of, rows_of, rule_of};
 ghost use Rattle.pl0_tool.specs.Arguments.{IsNumber, IsParsed, IsTask, command_line};
-ghost use Rattle.pl0_tool.specs.Arguments.{files, machine_flag, most_steps, number_option, one_file};
+ghost use Rattle.pl0_tool.specs.Arguments.{files, machine_flag, most_steps, names_flag, number_option, one_file};
 
 use clap::builder::ValueParser;
 use clap::{Arg, ArgAction, ArgMatches, Command, Error};
@@ -22,7 +22,10 @@ pub enum Task {
         drawn: bool,
     },
     Check,
-    List,
+    /// Show the code under each line, or the table of names.
+    List {
+        names: bool,
+    },
 }
 
 /// What the command line asks for.
@@ -94,11 +97,13 @@ fn task_of(name: &str, given: &ArgMatches<'_>) -> Task
 {
     match name {
         "run" => Task::Run,
-        "list" => Task::List,
         "trace" => Task::Trace {
             from: number(given, "from", 0),
             steps: number(given, "steps", STEPS) as usize,
             drawn: given.get_flag("machine"),
+        },
+        "list" => Task::List {
+            names: given.get_flag("names"),
         },
         _ => Task::Check,
     }
@@ -134,8 +139,9 @@ fn command_line<'a>(alloc: Global) -> Result<Command<'a>, AllocError>
         .about("Tell the first mistake of each text, as FILE:LINE:COLUMN: error: ..")
         .arg(files(alloc))?;
     let list = Command::new(alloc, "list")
-        .about("List the machine's code under each line of a program")
-        .arg(one_file(alloc))?;
+        .about("List the machine's code under each line of a program, or its names")
+        .arg(one_file(alloc))?
+        .arg(names(alloc))?;
     Command::new(alloc, "pl0")
         .version("1.1.0")
         .about(
@@ -207,4 +213,15 @@ fn machine<'a>(alloc: Global) -> Arg<'a>
         .help(
             "Show the machine: P, B and T, and of each frame its first cell, links and return address",
         )
+}
+
+/// Returns the flag by which the names are listed.
+fn names<'a>(alloc: Global) -> Arg<'a>
+    ensures rule { rule_of result ≡ names_flag }
+    ensures own { result.global ≡ false }
+{
+    Arg::new(alloc, "names")
+        .long("names")
+        .action(ArgAction::SetTrue)
+        .help("List the names instead, with the level and address of each")
 }

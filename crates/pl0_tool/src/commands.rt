@@ -2,13 +2,10 @@
 
 ghost use Rattle.std.specs.Prelude.{◌≡◌, ◌<◌, [], IfOk, MatchResult, string_bytes};
 ghost use Rattle.pl0_machine.specs.Machine.{depth_of};
-ghost use Rattle.byte_streams.specs.Streams.{output as output_at};
 ghost use Rattle.pl0_tool.specs.Commands.{Tells, ProgramTells, RunTells, TraceTells, IsReport, start_of};
 ghost use Rattle.pl0_tool.specs.Commands.{WritesNumbers, ProgramWrites, StartTraces, StartWrites, WritesRun};
-ghost use Rattle.pl0_tool.specs.Commands.{IsTraceReport, ends_line, goes_on_line};
+ghost use Rattle.pl0_tool.specs.Commands.{IsTraceReport, ListTells, ends_line, goes_on_line};
 ghost use Rattle.pl0_tool.specs.Faulting.{fault_report};
-ghost use Rattle.pl0_tool.specs.Listing.{listing};
-ghost use Rattle.pl0_tool.specs.declared.report.Ending.TheVariants.{Success};
 
 use crate::arguments::Task;
 use crate::fault::fault_report;
@@ -19,6 +16,7 @@ use crate::table::head;
 use crate::text::load;
 use crate::tracing::{TraceEnd, trace};
 use byte_streams::Sink;
+use pl0_lessons::name_table;
 use pl0_machine::Machine;
 use pl0_meaning::RunFault;
 use pl0_mistakes::mistake_line;
@@ -44,11 +42,9 @@ pub fn perform<O: Sink>(
 ) -> Result<Report, AllocError>
     ensures { MatchResult result
         (λ report. Tells task file.now text.now report
-        (output_at (O.written output.old) (O.failures output.old))
-        (output_at (O.written output.new) (O.failures output.new)))
+        (O.output output.old) (O.output output.new))
         (λ _. WritesNumbers task text.now
-        (output_at (O.written output.old) (O.failures output.old))
-        (output_at (O.written output.new) (O.failures output.new))) }
+        (O.output output.old) (O.output output.new)) }
 {
     match load(alloc, text) {
         Ok(unit) => perform_program(rt, alloc, task, file, unit, output, room),
@@ -72,15 +68,13 @@ fn perform_program<O: Sink>(
 ) -> Result<Report, AllocError>
     ensures { MatchResult result
         (λ report. ProgramTells task file.now unit report
-        (output_at (O.written output.old) (O.failures output.old))
-        (output_at (O.written output.new) (O.failures output.new)))
+        (O.output output.old) (O.output output.new))
         (λ _. ProgramWrites task unit
-        (output_at (O.written output.old) (O.failures output.old))
-        (output_at (O.written output.new) (O.failures output.new))) }
+        (O.output output.old) (O.output output.new)) }
 {
     match task {
         Task::Check => Ok(nothing_told(alloc, Ending::Success)),
-        Task::List => list_program(alloc, &unit),
+        Task::List { names } => list_program(alloc, &unit, names),
         Task::Run => run_program(rt, alloc, file, unit, output, room),
         Task::Trace { from, steps, drawn } => {
             trace_program(rt, alloc, file, unit, from, steps, drawn, output, room)
@@ -110,10 +104,14 @@ fn fault_told(
     Ok(Report::new(output, errors, ending))
 }
 
-/// Lists a program.
-fn list_program(alloc: Global, unit: &Unit) -> Result<Report, AllocError>
-    ensures { IfOk result (IsReport (listing unit.now) [] Success) }
+/// Lists a program, or its names.
+fn list_program(alloc: Global, unit: &Unit, names: bool) -> Result<Report, AllocError>
+    ensures { IfOk result (ListTells names unit.now) }
 {
+    if names {
+        let table = name_table(alloc, unit)?;
+        return Ok(Report::new(table, Vec::new(alloc), Ending::Success));
+    }
     let listed = listing(alloc, unit)?;
     Ok(Report::new(listed, Vec::new(alloc), Ending::Success))
 }
@@ -129,11 +127,9 @@ fn run_program<O: Sink>(
 ) -> Result<Report, AllocError>
     ensures { MatchResult result
         (λ report. RunTells file.now (start_of unit) report
-        (output_at (O.written output.old) (O.failures output.old))
-        (output_at (O.written output.new) (O.failures output.new)))
+        (O.output output.old) (O.output output.new))
         (λ _. StartWrites unit
-        (output_at (O.written output.old) (O.failures output.old))
-        (output_at (O.written output.new) (O.failures output.new))) }
+        (O.output output.old) (O.output output.new)) }
 {
     let mut machine = first_machine(alloc, unit)?;
     run_whole(rt, alloc, file, &mut machine, output, room)
@@ -153,11 +149,9 @@ fn trace_program<O: Sink>(
 ) -> Result<Report, AllocError>
     ensures { MatchResult result
         (λ report. TraceTells drawn file.now (start_of unit) from steps report
-        (output_at (O.written output.old) (O.failures output.old))
-        (output_at (O.written output.new) (O.failures output.new)))
+        (O.output output.old) (O.output output.new))
         (λ _. StartTraces drawn unit from steps
-        (output_at (O.written output.old) (O.failures output.old))
-        (output_at (O.written output.new) (O.failures output.new))) }
+        (O.output output.old) (O.output output.new)) }
 {
     let mut machine = first_machine(alloc, unit)?;
     let mut page = Vec::from_slice(alloc, head(drawn).as_bytes())?;
@@ -196,11 +190,9 @@ fn run_whole<O: Sink>(
     requires { 0 < depth_of machine.old }
     ensures { MatchResult result
         (λ report. RunTells file.now machine.old report
-        (output_at (O.written output.old) (O.failures output.old))
-        (output_at (O.written output.new) (O.failures output.new)))
+        (O.output output.old) (O.output output.new))
         (λ _. WritesRun machine.old
-        (output_at (O.written output.old) (O.failures output.old))
-        (output_at (O.written output.new) (O.failures output.new))) }
+        (O.output output.old) (O.output output.new)) }
 {
     let nothing = Vec::new(alloc);
     match run_machine(rt, machine, output, &mut Vec::new(alloc), room) {

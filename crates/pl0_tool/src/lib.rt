@@ -14,7 +14,6 @@
 mod answering;
 mod arguments;
 mod blocks;
-mod columns;
 mod commands;
 mod drawing;
 mod fault;

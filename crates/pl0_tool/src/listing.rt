@@ -5,8 +5,8 @@ ghost use Rattle.pl0_tool.specs.Instructions.{listed_text, operation_name};
 ghost use Rattle.pl0_tool.specs.Listing.{listing, line_of, step_of, step_at, first_begun, enters, instruction_line, mark};
 ghost use Rattle.pl0_tool.specs.TextLines.{text_lines, with_feeds};
 
-use crate::columns::{put_left, put_right};
 use crate::lines::first_line;
+use pl0_lessons::{put_left, put_right};
 use pl0_tree::StepNumber;
 use pl0_unit::{Instruction, Operation, Unit};
 use std::alloc::{AllocError, Global};

@@ -1,7 +1,7 @@
 //! Lines that are written in large blocks.
 
 ghost use Rattle.std.specs.Prelude.{◌≡◌, ◌≢◌, ◌≤◌, ◌++◌, [], true, false, List, ℕ, length, IsTrue, OnOk, IfErr, MatchResult, if◌then◌else◌};
-ghost use Rattle.byte_streams.specs.Streams.{Output, WritesAll, FailsIn, output as output_at};
+ghost use Rattle.byte_streams.specs.Streams.{Output, WritesAll, FailsIn};
 ghost use Rattle.pl0_tool.specs.Pending.{Holds};
 
 use byte_streams::{Sink, WriteFailed, write_all};
@@ -86,11 +86,11 @@ pub fn put<O: Sink>(
     bytes: &[u8],
 ) -> Result<(), WriteFailed>
     ensures held { (before : Output) (text : List ℕ)
-        → Holds before (output_at (O.written output.old) (O.failures output.old)) pending.old.items text
+        → Holds before (O.output output.old) pending.old.items text
         → MatchResult result
-        (λ _. Holds before (output_at (O.written output.new) (O.failures output.new)) pending.new.items
+        (λ _. Holds before (O.output output.new) pending.new.items
         (text ++ bytes.now))
-        (λ _. FailsIn (text ++ bytes.now) before (output_at (O.written output.new) (O.failures output.new))) }
+        (λ _. FailsIn (text ++ bytes.now) before (O.output output.new)) }
     ensures few { length pending.new.items ≤ room }
 {
     if keep(pending, room, bytes) {
@@ -123,10 +123,10 @@ pub fn flush<O: Sink>(
 ) -> Result<(), WriteFailed>
     ensures empty { pending.new.items ≡ [] }
     ensures flushed { MatchResult result
-        (λ _. WritesAll pending.old.items (output_at (O.written output.old) (O.failures output.old))
-        (output_at (O.written output.new) (O.failures output.new)))
-        (λ _. FailsIn pending.old.items (output_at (O.written output.old) (O.failures output.old))
-        (output_at (O.written output.new) (O.failures output.new))) }
+        (λ _. WritesAll pending.old.items (O.output output.old)
+        (O.output output.new))
+        (λ _. FailsIn pending.old.items (O.output output.old)
+        (O.output output.new)) }
 {
     let written = write_all(rt, output, pending.as_slice());
     pending.clear();
@@ -145,10 +145,10 @@ pub fn spill<O: Sink>(
     room: usize,
 ) -> Result<(), WriteFailed>
     ensures held { (before : Output) (text : List ℕ)
-        → Holds before (output_at (O.written output.old) (O.failures output.old)) pending.old.items text
+        → Holds before (O.output output.old) pending.old.items text
         → MatchResult result
-        (λ _. Holds before (output_at (O.written output.new) (O.failures output.new)) pending.new.items text)
-        (λ _. FailsIn text before (output_at (O.written output.new) (O.failures output.new))) }
+        (λ _. Holds before (O.output output.new) pending.new.items text)
+        (λ _. FailsIn text before (O.output output.new)) }
     ensures few { length pending.new.items ≤ room }
 {
     if pending.len() <= room {

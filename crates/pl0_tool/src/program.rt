@@ -2,7 +2,7 @@
 
 ghost use Rattle.std.specs.Prelude.{◌≡◌, ◌≢◌, Result, IfOk, MatchBool, MatchResult, map, string_bytes};
 ghost use Rattle.std.specs.Process.{exit_status};
-ghost use Rattle.byte_streams.specs.Streams.{output as output_at, supply};
+ghost use Rattle.byte_streams.specs.Streams.{output as output_at};
 ghost use Rattle.pl0_tool.specs.declared.report.Ending.{Ending};
 ghost use Rattle.pl0_tool.specs.Executing.{Comes, Executes, ExecutesGiven, LacksMemory, Runs, given_of, origins};
 ghost use Rattle.pl0_tool.specs.Reporting.{HasTold, status_of};
@@ -46,14 +46,13 @@ where
     O: Write + IsTerminal + Drop,
     E: Sink,
     ensures { (ending : Ending) × (exit_status result ≡ status_of ending)
-        × Runs F.opens (λ file. supply (F.File.left file) (F.File.failures file)) (given_of given) ending
+        × Runs F.opens F.File.supply (given_of given) ending
         output.new.inner.is_closed
-        (origins files.old (supply (I.left input.old) (I.failures input.old)))
-        (origins files.new (supply (I.left input.new) (I.failures input.new)))
-        (output_at (O.contents output.old.inner.inner) output.old.failures)
-        (output_at (O.contents output.new.inner.inner) output.new.failures)
-        (output_at (E.written errors.old) (E.failures errors.old))
-        (output_at (E.written errors.new) (E.failures errors.new)) }
+        (origins files.old (I.supply input.old))
+        (origins files.new (I.supply input.new))
+        (output_at (O.contents output.old.taken.first.inner) output.old.taken.bytes output.old.failures)
+        (output_at (O.contents output.new.taken.first.inner) output.new.taken.bytes output.new.failures)
+        (E.output errors.old) (E.output errors.new) }
 {
     let room = if output.inner().is_terminal() {
         0
@@ -67,9 +66,7 @@ where
 
 /// Says at the end that the output failed, if it did, unless nobody reads it any more.
 fn close<E: Sink>(rt: &impl Wait, ending: Ending, is_unread: bool, errors: &mut E)
-    ensures { ClosesWith ending is_unread
-        (output_at (E.written errors.old) (E.failures errors.old))
-        (output_at (E.written errors.new) (E.failures errors.new)) }
+    ensures { ClosesWith ending is_unread (E.output errors.old) (E.output errors.new) }
 {
     if ending == Ending::Unwritten && !is_unread {
         say(rt, errors, &["pl0: cannot write the output\n"]);
@@ -93,13 +90,11 @@ where
     I: Source,
     O: Sink,
     E: Sink,
-    ensures { ExecutesGiven F.opens (λ file. supply (F.File.left file) (F.File.failures file)) (given_of given) result
-        (origins files.old (supply (I.left input.old) (I.failures input.old)))
-        (origins files.new (supply (I.left input.new) (I.failures input.new)))
-        (output_at (O.written output.old) (O.failures output.old))
-        (output_at (O.written output.new) (O.failures output.new))
-        (output_at (E.written errors.old) (E.failures errors.old))
-        (output_at (E.written errors.new) (E.failures errors.new)) }
+    ensures { ExecutesGiven F.opens F.File.supply (given_of given) result
+        (origins files.old (I.supply input.old))
+        (origins files.new (I.supply input.new))
+        (O.output output.old) (O.output output.new)
+        (E.output errors.old) (E.output errors.new) }
 {
     match given {
         Ok(given) => match collect_arguments(rt.alloc(), given) {
@@ -135,14 +130,12 @@ where
     I: Source,
     O: Sink,
     E: Sink,
-    ensures { Executes F.opens (λ file. supply (F.File.left file) (F.File.failures file))
+    ensures { Executes F.opens F.File.supply
         (map string_bytes arguments.now) result
-        (origins files.old (supply (I.left input.old) (I.failures input.old)))
-        (origins files.new (supply (I.left input.new) (I.failures input.new)))
-        (output_at (O.written output.old) (O.failures output.old))
-        (output_at (O.written output.new) (O.failures output.new))
-        (output_at (E.written errors.old) (E.failures errors.old))
-        (output_at (E.written errors.new) (E.failures errors.new)) }
+        (origins files.old (I.supply input.old))
+        (origins files.new (I.supply input.new))
+        (O.output output.old) (O.output output.new)
+        (E.output errors.old) (E.output errors.new) }
 {
     match borrow_texts(rt.alloc(), arguments) {
         Ok(arguments) => execute(rt, arguments.as_slice(), files, input, output, errors, room),
@@ -169,14 +162,12 @@ where
     I: Source,
     O: Sink,
     E: Sink,
-    ensures { Executes F.opens (λ file. supply (F.File.left file) (F.File.failures file))
+    ensures { Executes F.opens F.File.supply
         (map (λ argument. argument.now) arguments.entry.now) result
-        (origins files.old (supply (I.left input.old) (I.failures input.old)))
-        (origins files.new (supply (I.left input.new) (I.failures input.new)))
-        (output_at (O.written output.old) (O.failures output.old))
-        (output_at (O.written output.new) (O.failures output.new))
-        (output_at (E.written errors.old) (E.failures errors.old))
-        (output_at (E.written errors.new) (E.failures errors.new)) }
+        (origins files.old (I.supply input.old))
+        (origins files.new (I.supply input.new))
+        (O.output output.old) (O.output output.new)
+        (E.output errors.old) (E.output errors.new) }
 {
     match attempt(rt, arguments, files, input, output, room) {
         Ok(report) => tell(rt, &report, output, errors),
@@ -191,9 +182,7 @@ ghost use Rattle.byte_streams.specs.Streams.{WritesOrFails};
 /// Says that there is no memory.
 fn no_memory<E: Sink>(rt: &impl Wait, errors: &mut E) -> Ending
     ensures ending { result ≡ Failure }
-    ensures said { WritesOrFails memory_line
-        (output_at (E.written errors.old) (E.failures errors.old))
-        (output_at (E.written errors.new) (E.failures errors.new)) }
+    ensures said { WritesOrFails memory_line (E.output errors.old) (E.output errors.new) }
 {
     say(rt, errors, &["pl0: no memory\n"]);
     Ending::Failure
@@ -202,9 +191,7 @@ fn no_memory<E: Sink>(rt: &impl Wait, errors: &mut E) -> Ending
 /// Says that an argument is not text.
 fn not_text<E: Sink>(rt: &impl Wait, errors: &mut E) -> Ending
     ensures ending { result ≡ NotUnderstood }
-    ensures said { WritesOrFails not_text_line
-        (output_at (E.written errors.old) (E.failures errors.old))
-        (output_at (E.written errors.new) (E.failures errors.new)) }
+    ensures said { WritesOrFails not_text_line (E.output errors.old) (E.output errors.new) }
 {
     say(rt, errors, &["pl0: an argument is not text\n"]);
     Ending::NotUnderstood
@@ -213,10 +200,8 @@ fn not_text<E: Sink>(rt: &impl Wait, errors: &mut E) -> Ending
 /// Writes a report, and returns how the command ended.
 fn tell<O: Sink, E: Sink>(rt: &impl Wait, report: &Report, output: &mut O, errors: &mut E) -> Ending
     ensures { HasTold report.now result
-        (output_at (O.written output.old) (O.failures output.old))
-        (output_at (O.written output.new) (O.failures output.new))
-        (output_at (E.written errors.old) (E.failures errors.old))
-        (output_at (E.written errors.new) (E.failures errors.new)) }
+        (O.output output.old) (O.output output.new)
+        (E.output errors.old) (E.output errors.new) }
 {
     let written = write_all(rt, output, report.output.as_slice());
     let _ = write_all(rt, errors, report.errors.as_slice());
@@ -241,18 +226,16 @@ where
     I: Source,
     O: Sink,
     ensures { MatchResult result
-        (λ report. Comes F.opens (λ file. supply (F.File.left file) (F.File.failures file))
+        (λ report. Comes F.opens F.File.supply
         (map (λ argument. argument.now) arguments.entry.now) report
-        (origins files.old (supply (I.left input.old) (I.failures input.old)))
-        (origins files.new (supply (I.left input.new) (I.failures input.new)))
-        (output_at (O.written output.old) (O.failures output.old))
-        (output_at (O.written output.new) (O.failures output.new)))
-        (λ _. LacksMemory F.opens (λ file. supply (F.File.left file) (F.File.failures file))
+        (origins files.old (I.supply input.old))
+        (origins files.new (I.supply input.new))
+        (O.output output.old) (O.output output.new))
+        (λ _. LacksMemory F.opens F.File.supply
         (map (λ argument. argument.now) arguments.entry.now)
-        (origins files.old (supply (I.left input.old) (I.failures input.old)))
-        (origins files.new (supply (I.left input.new) (I.failures input.new)))
-        (output_at (O.written output.old) (O.failures output.old))
-        (output_at (O.written output.new) (O.failures output.new))) }
+        (origins files.old (I.supply input.old))
+        (origins files.new (I.supply input.new))
+        (O.output output.old) (O.output output.new)) }
 {
     match parse_arguments(rt.alloc(), arguments) {
         Ok(request) => answer(rt, &request, files, input, output, room),

@@ -3,7 +3,7 @@
 ghost use Rattle.std.specs.Prelude.{◌≡◌, ◌<◌, ◌≤◌, ◌+◌, ◌⊎◌, ◌++◌, ◌∷◌, [], List, ℕ, None, Some, MatchResult};
 ghost use Rattle.std.specs.Fmt.{signed_decimal};
 ghost use Rattle.pl0_machine.specs.Machine.{depth_of};
-ghost use Rattle.byte_streams.specs.Streams.{Output, WritesAll, FailsIn, output as output_at};
+ghost use Rattle.byte_streams.specs.Streams.{Output, WritesAll, FailsIn};
 ghost use Rattle.pl0_tool.specs.Pending.{Holds};
 ghost use Rattle.pl0_tool.specs.Running.{HasRun, HasRunSlice, slice_steps};
 
@@ -43,9 +43,7 @@ pub fn run_machine<O: Sink>(
 ) -> RunEnd
     requires alive { 0 < depth_of machine.old }
     requires nothing_pending { pending.old.items ≡ [] }
-    ensures { HasRun result machine.old machine.new
-        (output_at (O.written output.old) (O.failures output.old))
-        (output_at (O.written output.new) (O.failures output.new)) }
+    ensures { HasRun result machine.old machine.new (O.output output.old) (O.output output.new) }
 {
     meaning_laws();
     'slices: for _ in rt.forever() {
@@ -68,9 +66,7 @@ pub fn run_slice<O: Sink>(
 ) -> Option<RunEnd>
     requires alive { 0 < depth_of machine.old }
     requires nothing_pending { pending.old.items ≡ [] }
-    ensures ran { HasRunSlice result machine.old machine.new
-        (output_at (O.written output.old) (O.failures output.old))
-        (output_at (O.written output.new) (O.failures output.new)) }
+    ensures ran { HasRunSlice result machine.old machine.new (O.output output.old) (O.output output.new) }
     ensures within { machine.new.position ≤ machine.old.position + slice_steps }
     ensures empty { result ≡ None → pending.new.items ≡ [] }
 {
@@ -115,9 +111,9 @@ fn finish<O: Sink>(
 ) -> Option<RunEnd>
     ensures empty { pending.new.items ≡ [] }
     ensures written { (before : Output) (text : List ℕ)
-        → Holds before (output_at (O.written output.old) (O.failures output.old)) pending.old.items text
-        → ((result ≡ end) × WritesAll text before (output_at (O.written output.new) (O.failures output.new)))
-        ⊎ ((result ≡ Some failed) × FailsIn text before (output_at (O.written output.new) (O.failures output.new))) }
+        → Holds before (O.output output.old) pending.old.items text
+        → ((result ≡ end) × WritesAll text before (O.output output.new))
+        ⊎ ((result ≡ Some failed) × FailsIn text before (O.output output.new)) }
 {
     match flush(rt, output, pending) {
         Ok(()) => end,
@@ -138,12 +134,12 @@ fn put_line<O: Sink>(
     number: i64,
 ) -> Result<(), WriteFailed>
     ensures { (before : Output) (text : List ℕ)
-        → Holds before (output_at (O.written output.old) (O.failures output.old)) pending.old.items text
+        → Holds before (O.output output.old) pending.old.items text
         → MatchResult result
-        (λ _. Holds before (output_at (O.written output.new) (O.failures output.new)) pending.new.items
+        (λ _. Holds before (O.output output.new) pending.new.items
         (text ++ (signed_decimal number ++ (10 ∷ []))))
         (λ _. FailsIn (text ++ (signed_decimal number ++ (10 ∷ []))) before
-        (output_at (O.written output.new) (O.failures output.new))) }
+        (O.output output.new)) }
 {
     let mut digits = Buffer::new();
     put(rt, output, pending, room, digits.format(number).as_bytes())?;

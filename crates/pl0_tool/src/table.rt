@@ -5,15 +5,15 @@ ghost use Rattle.std.specs.List.{before_first, position_or_len};
 ghost use Rattle.std.specs.Fmt.{signed_decimal};
 ghost use Rattle.pl0_tree.specs.Plain.{plain_name};
 ghost use Rattle.pl0_machine.specs.Machine.{program_of};
-ghost use Rattle.pl0_tool.specs.Columns.{column, left, right};
+ghost use Rattle.pl0_lessons.specs.Columns.{column, left, right};
 ghost use Rattle.pl0_tool.specs.TextLines.{text_lines};
 ghost use Rattle.pl0_tool.specs.Table.{table, head, row_text, step_text, place_text, source, ends_source, written_text, state_text, frames_line, more_before, barred, registers_line, frame_lines, frame_line, frame_text, variables_text, more_below};
 
 use crate::blocks::frame_name;
-use crate::columns::{put_left_column, put_right, put_right_column};
 use crate::drawing::{Drawing, FrameHead};
 use crate::lines::first_line;
 use crate::tracing::{FrameRow, Row};
+use pl0_lessons::{put_left_column, put_right, put_right_column};
 use pl0_machine::StepOutcome;
 use pl0_syntax::block;
 use pl0_tree::{Name, Place, StepKind};

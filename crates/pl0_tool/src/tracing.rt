@@ -1,7 +1,6 @@
 //! Telling a run position by position.
 
 ghost use Rattle.std.specs.Prelude.{◌≡◌, ◌<◌, ◌≤◌, ◌⊎◌, ℕ, length, IfOk, MatchOption, MatchResult};
-ghost use Rattle.byte_streams.specs.Streams.{output as output_at};
 ghost use Rattle.pl0_machine.specs.Machine.{program, frame_of, depth_of, variables_of, outcome_of, Stepped};
 ghost use Rattle.pl0_tool.specs.Traced.{HasPart, HasTraced, PutsRow, StopsBefore};
 ghost use Rattle.pl0_tool.specs.Tracing.{IsFrameRow, AreFrameRows, IsRow, at_position, numbers_in};
@@ -83,11 +82,9 @@ pub fn trace<O: Sink>(
     requires head { page.old.items ≡ head drawn }
     ensures told { MatchResult result
         (λ end. HasTraced end drawn machine.old from count machine.new
-        (output_at (O.written output.old) (O.failures output.old))
-        (output_at (O.written output.new) (O.failures output.new)) page.new.items)
+        (O.output output.old) (O.output output.new) page.new.items)
         (λ _. HasPart drawn machine.old from count
-        (output_at (O.written output.old) (O.failures output.old))
-        (output_at (O.written output.new) (O.failures output.new))) }
+        (O.output output.old) (O.output output.new)) }
     ensures few { IfOk result (λ _. (length page.new.items ≤ room) ⊎ (page.new.items ≡ page.old.items)) }
 {
     if let Some(end) = go_to(rt, machine, from) {
@@ -119,10 +116,9 @@ fn tell_row<O: Sink>(
     requires { 0 < depth_of machine.old }
     ensures told { MatchResult result
         (λ told. PutsRow told drawn machine.old machine.new page.old.items page.new.items
-        (output_at (O.written output.old) (O.failures output.old))
-        (output_at (O.written output.new) (O.failures output.new)))
-        (λ _. output_at (O.written output.new) (O.failures output.new)
-        ≡ output_at (O.written output.old) (O.failures output.old)) }
+        (O.output output.old) (O.output output.new))
+        (λ _. O.output output.new
+        ≡ O.output output.old) }
     ensures few { IfOk result (λ _. length page.new.items ≤ room) }
 {
     let row = next_row(alloc, machine, drawn)?;

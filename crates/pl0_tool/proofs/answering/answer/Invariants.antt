@@ -1,16 +1,15 @@
 use Rattle.std.proofs.Common.{take}
 use Rattle.std.specs.Prelude.{map}
-use Rattle.byte_streams.specs.Streams.{output, supply}
 use Rattle.pl0_tool.specs.Executing.{AreDone, origins}
 use Rattle.pl0_tool.proofs.answering.answer.Given as goal
 
 abbrev pub invariant-loop-name : goal.invariant-loop-name
 invariant-loop-name g l =
-    AreDone g.F.Opener.opens (λ file. supply (g.F.File.Source.left file) (g.F.File.Source.failures file))
+    AreDone g.F.Opener.opens g.F.File.Source.supply
     l.request.task
-    (origins l.initial.files (supply (g.I.Source.left l.initial.input) (g.I.Source.failures l.initial.input)))
-    (output (g.O.Sink.written l.initial.output) (g.O.Sink.failures l.initial.output))
+    (origins l.initial.files (g.I.Source.supply l.initial.input))
+    (g.O.Sink.output l.initial.output)
     (map (λ name. name.now) (take l.name-index l.names))
     l.report
-    (origins l.files (supply (g.I.Source.left l.input) (g.I.Source.failures l.input)))
-    (output (g.O.Sink.written l.output) (g.O.Sink.failures l.output))
+    (origins l.files (g.I.Source.supply l.input))
+    (g.O.Sink.output l.output)

@@ -1,5 +1,4 @@
 use Rattle.std.proofs.Common.{◌≢◌, codes, inl, inr, refl, rules}
-use Rattle.byte_streams.specs.Streams.{supply}
 use Rattle.pl0_tool.proofs.answering.text_of.Goals as goal
 
 pub returns-in-Ok : goal.returns-in-Ok
@@ -12,7 +11,7 @@ returns-in-Ok g c =
         c.in-Ok.file,
         c.in-Ok.ensures,
         (
-          supply (g.F.File.Source.left read.new.source) (g.F.File.Source.failures read.new.source),
+          g.F.File.Source.supply read.new.source,
           read.ensures,
         ),
       ),

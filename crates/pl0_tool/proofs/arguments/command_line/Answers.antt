@@ -3,7 +3,7 @@ use Rattle.std.proofs.lemmas.Result.{IfOk-weaker}
 use Rattle.clap.specs.Lexer.{usize_max}
 use Rattle.clap.specs.Words.{App, Shape, app_of, new_app, with_rule, with_subcommand}
 use Rattle.clap.specs.Simple.{app_of_fields}
-use Rattle.pl0_tool.specs.Arguments.{command_with, files, machine_flag, most_steps, number_option, one_file}
+use Rattle.pl0_tool.specs.Arguments.{command_with, files, machine_flag, most_steps, names_flag, number_option, one_file}
 use Rattle.pl0_tool.specs.Arguments.{program}
 use Rattle.pl0_tool.proofs.CommandLine.{local_if_plain}
 use Rattle.pl0_tool.proofs.arguments.command_line.Goals as goal
@@ -40,8 +40,10 @@ returns c =
     c.in_ok-check.ensures.shape c.files.ensures.own ∙ ap₂ with_rule new_check c.files.ensures.rule in
     let new_list : app_of c.about-4.result ≡ new_app (codes "list") =
     ap app_of_fields c.about-4.ensures ∙ c.new-4.ensures.app in
-    let list_is : app_of c.in_ok-list.list ≡ with_rule (new_app (codes "list")) one_file =
-    c.in_ok-list.ensures.shape c.one_file-3.ensures.own ∙ ap₂ with_rule new_list c.one_file-3.ensures.rule in
+    let list_of_file : app_of c.in_ok-arg-4.field-0 ≡ with_rule (new_app (codes "list")) one_file =
+    c.in_ok-arg-4.ensures.shape c.one_file-3.ensures.own ∙ ap₂ with_rule new_list c.one_file-3.ensures.rule in
+    let list_is : app_of c.in_ok-list.list ≡ with_rule (with_rule (new_app (codes "list")) one_file) names_flag =
+    c.in_ok-list.ensures.shape c.names.ensures.own ∙ ap₂ with_rule list_of_file c.names.ensures.rule in
     let versioned : app_of c.version.result ≡ record {
       top = record (new_app (codes "pl0")).top { has_version = true };
       subs = [];

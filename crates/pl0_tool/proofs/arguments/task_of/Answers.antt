@@ -14,3 +14,13 @@ returns-in-trace c = let same = one_text-rows (found_of c.args.given.now) (codes
     (λ given. c.get_flag.ensures.none (same ∙ given)),
   ),
 )
+
+pub returns-in-list : goal.returns-in-list
+returns-in-list c = let same = one_text-rows (found_of c.args.given.now) (codes "names") in (
+  c.in-list.is,
+  (
+    (λ given. c.get_flag-in-list.ensures.value (same ∙ given)),
+    (λ given. c.get_flag-in-list.ensures.other (same ∙ given)),
+    (λ given. c.get_flag-in-list.ensures.none (same ∙ given)),
+  ),
+)

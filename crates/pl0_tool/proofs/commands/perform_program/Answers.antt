@@ -7,7 +7,8 @@ returns-in-Check g c =
 
 pub returns-in-List : goal.returns-in-List
 returns-in-List g c =
-    listed_program c.args.task c.args.file.now c.args.unit c.list_program.result _ c.in-List.is c.list_program.ensures
+    listed_program c.args.task c.in-List.names c.args.file.now c.args.unit c.list_program.result _ c.in-List.is
+    c.list_program.ensures
 
 pub returns-in-Run : goal.returns-in-Run
 returns-in-Run g c =

@@ -1,5 +1,5 @@
 use Rattle.std.proofs.lemmas.Result.{err_from_is_err_and}
-use Rattle.pl0_tool.proofs.Common.{[], ap, append_assoc, FailsIn, FitsSigned, Holds, List, MatchResult, output, rules, signed_decimal, subst, to_z-of_z, w64, ℕ, ◌++◌, ◌∙◌, ◌∷◌, ◌≡◌}
+use Rattle.pl0_tool.proofs.Common.{[], ap, append_assoc, FailsIn, FitsSigned, Holds, List, MatchResult, rules, signed_decimal, subst, to_z-of_z, w64, ℕ, ◌++◌, ◌∙◌, ◌∷◌, ◌≡◌}
 use Rattle.pl0_tool.proofs.PendingBytes.{fails_before}
 use Rattle.pl0_tool.proofs.running.put_line.Goals as goal
 
@@ -8,7 +8,7 @@ line text digits wanted is = append_assoc text digits (10 ∷ []) ∙ ap (λ d. 
 
 pub returns : goal.returns
 returns g c before text held =
-    let later = output (g.O.Sink.written c.put-2.new.output) (g.O.Sink.failures c.put-2.new.output) in
+    let later = (g.O.Sink.output c.put-2.new.output) in
     let digits = c.as_bytes.result.now in
     let fits : FitsSigned w64 c.args.number = search rules in
     let is : digits ≡ signed_decimal c.args.number =
@@ -20,7 +20,7 @@ returns g c before text held =
 
 pub returns-in_err-put : goal.returns-in_err-put
 returns-in_err-put g c before text held =
-    let later = output (g.O.Sink.written c.put.new.output) (g.O.Sink.failures c.put.new.output) in
+    let later = (g.O.Sink.output c.put.new.output) in
     let digits = c.as_bytes.result.now in
     let fits : FitsSigned w64 c.args.number = search rules in
     let is : digits ≡ signed_decimal c.args.number =

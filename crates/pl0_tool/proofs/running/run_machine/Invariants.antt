@@ -1,4 +1,4 @@
-use Rattle.pl0_tool.proofs.Common.{depth_of, lines_between, output, WritesAll, [], ◌<◌, ◌≡◌}
+use Rattle.pl0_tool.proofs.Common.{depth_of, lines_between, WritesAll, [], ◌<◌, ◌≡◌}
 use Rattle.pl0_tool.proofs.RunLines.{Came}
 use Rattle.pl0_tool.proofs.running.run_machine.Given as goal
 
@@ -6,5 +6,5 @@ abbrev pub invariant-slices : goal.invariant-slices
 invariant-slices g l =
     (0 < depth_of l.machine) × Came l.initial.machine l.machine × (l.pending.items ≡ [])
     × WritesAll (lines_between l.initial.machine l.machine)
-    (output (g.O.Sink.written l.initial.output) (g.O.Sink.failures l.initial.output))
-    (output (g.O.Sink.written l.output) (g.O.Sink.failures l.output))
+    (g.O.Sink.output l.initial.output)
+    (g.O.Sink.output l.output)

@@ -1,4 +1,4 @@
-use Rattle.pl0_tool.proofs.Common.{[], ap, Done, FailsIn, Fault, FitsSigned, Holds, lines_between, None, output, Ran, RanOn, refl, rules, signed_decimal, Some, subst, sym, to_z-of_z, w64, Went, ◌++◌, ◌∙◌, ◌+◌, ◌≡◌, ◌∷◌}
+use Rattle.pl0_tool.proofs.Common.{[], ap, Done, FailsIn, Fault, FitsSigned, Holds, lines_between, None, Ran, RanOn, refl, rules, signed_decimal, Some, subst, sym, to_z-of_z, w64, Went, ◌++◌, ◌∙◌, ◌+◌, ◌≡◌, ◌∷◌}
 use Rattle.pl0_tool.specs.Running.{slice_steps}
 use Rattle.pl0_tool.proofs.RunLines.{before_limit, came_on, failed_so, held_on, held_still, ran_on, running_on, slice_ended, slice_faulted, slice_over, wrote_on}
 use Rattle.pl0_tool.proofs.running.run_slice.Goals as goal
@@ -9,7 +9,7 @@ returns-in-None-run-clause-ran g c =
     let now = c.numbers.machine in
     let new = c.run.new.self in
     let came = c.numbers.invariant.1 in
-    let before = output (g.O.Sink.written c.args.output.now) (g.O.Sink.failures c.args.output.now) in
+    let before = (g.O.Sink.output c.args.output.now) in
     let s = c.in-None-run.ensures.0 in
     let at_limit = c.in-None-run.ensures.1 in
     let whole : new.position ≡ start.position + slice_steps = search (rules, at_limit) in
@@ -25,8 +25,8 @@ numbers-preserved-in-Some-Went-None g c =
     let came = c.numbers.invariant.1 in
     let limit = c.saturating_add-limit.result in
     let arm = c.in-Some-Went-None in
-    let before = output (g.O.Sink.written c.args.output.now) (g.O.Sink.failures c.args.output.now) in
-    let out = output (g.O.Sink.written c.numbers.output) (g.O.Sink.failures c.numbers.output) in
+    let before = (g.O.Sink.output c.args.output.now) in
+    let out = (g.O.Sink.output c.numbers.output) in
     let told : RanOn limit 0 None now (Some (Went None)) new =
     subst (λ o. RanOn limit 0 None now (Some o) new) (arm.field-0-is ∙ ap Went arm.field-0-0-is) arm.ensures in
     let ran = ran_on limit now new (Went None) told in (
@@ -46,8 +46,8 @@ returns-in-Err-clause-ran g c =
     let arm = c.in-Some-Went-Some in
     let number = arm.number in
     let fits : FitsSigned w64 number = search rules in
-    let before = output (g.O.Sink.written c.args.output.now) (g.O.Sink.failures c.args.output.now) in
-    let out = output (g.O.Sink.written c.put_line.new.output) (g.O.Sink.failures c.put_line.new.output) in
+    let before = (g.O.Sink.output c.args.output.now) in
+    let out = (g.O.Sink.output c.put_line.new.output) in
     let told : RanOn limit 0 None now (Some (Went (Some number))) new =
     subst (λ o. RanOn limit 0 None now (Some o) new) (arm.field-0-is ∙ ap Went arm.field-0-0-is) arm.ensures in
     let ran = ran_on limit now new (Went (Some number)) told in
@@ -66,8 +66,8 @@ numbers-preserved g c =
     let arm = c.in-Some-Went-Some in
     let number = arm.number in
     let fits : FitsSigned w64 number = search rules in
-    let before = output (g.O.Sink.written c.args.output.now) (g.O.Sink.failures c.args.output.now) in
-    let out = output (g.O.Sink.written c.put_line.new.output) (g.O.Sink.failures c.put_line.new.output) in
+    let before = (g.O.Sink.output c.args.output.now) in
+    let out = (g.O.Sink.output c.put_line.new.output) in
     let told : RanOn limit 0 None now (Some (Went (Some number))) new =
     subst (λ o. RanOn limit 0 None now (Some o) new) (arm.field-0-is ∙ ap Went arm.field-0-0-is) arm.ensures in
     let ran = ran_on limit now new (Went (Some number)) told in (
@@ -89,8 +89,8 @@ returns-in-Some-Done-clause-ran g c =
     let came = c.numbers.invariant.1 in
     let limit = c.saturating_add-limit.result in
     let arm = c.in-Some-Done in
-    let before = output (g.O.Sink.written c.args.output.now) (g.O.Sink.failures c.args.output.now) in
-    let mid = output (g.O.Sink.written c.numbers.output) (g.O.Sink.failures c.numbers.output) in
+    let before = (g.O.Sink.output c.args.output.now) in
+    let mid = (g.O.Sink.output c.numbers.output) in
     let ran : Ran now new Done =
     ran_on limit now new Done (subst (λ o. RanOn limit 0 None now (Some o) new) arm.field-0-is arm.ensures) in
     slice_ended start now new c.finish-in-Some-Done.result before _ came ran
@@ -106,8 +106,8 @@ returns-in-Some-Fault-clause-ran g c =
     let limit = c.saturating_add-limit.result in
     let arm = c.in-Some-Fault in
     let fault = arm.fault in
-    let before = output (g.O.Sink.written c.args.output.now) (g.O.Sink.failures c.args.output.now) in
-    let mid = output (g.O.Sink.written c.numbers.output) (g.O.Sink.failures c.numbers.output) in
+    let before = (g.O.Sink.output c.args.output.now) in
+    let mid = (g.O.Sink.output c.numbers.output) in
     let ran : Ran now new (Fault fault) =
     ran_on limit now new (Fault fault) (subst (λ o. RanOn limit 0 None now (Some o) new) arm.field-0-is arm.ensures) in
     slice_faulted start now new fault c.finish-in-Some-Fault.result before _ came ran

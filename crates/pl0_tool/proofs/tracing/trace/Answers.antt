@@ -1,5 +1,5 @@
 use Rattle.std.proofs.Common.{inl}
-use Rattle.pl0_tool.proofs.Common.{arith, ap, Done, Fault, inr, length, None, output, refl, Some, subst, Went, ◌+◌, ◌∙◌, ◌≡◌}
+use Rattle.pl0_tool.proofs.Common.{arith, ap, Done, Fault, inr, length, None, refl, Some, subst, Went, ◌+◌, ◌∙◌, ◌≡◌}
 use Rattle.pl0_machine.specs.declared.outcome.StepOutcome.{StepOutcome}
 use Rattle.pl0_tool.specs.Traced.{PutsRow}
 use Rattle.pl0_tool.proofs.TracedRows.{part_there, position_there, stands, table_there, tells_none, told_all, told_failed, told_last, told_on, told_part, traced_end, traced_fault, traced_nowhere}
@@ -34,9 +34,9 @@ returns-in-Ok-None-clause-told g c =
     let new = c.tell_row.new.machine in
     let pending = c.loop-index.page.items in
     let left = c.tell_row.new.page.items in
-    let before = output (g.O.Sink.written c.args.output.now) (g.O.Sink.failures c.args.output.now) in
-    let at = output (g.O.Sink.written c.loop-index.output) (g.O.Sink.failures c.loop-index.output) in
-    let after = output (g.O.Sink.written c.tell_row.new.output) (g.O.Sink.failures c.tell_row.new.output) in
+    let before = (g.O.Sink.output c.args.output.now) in
+    let at = (g.O.Sink.output c.loop-index.output) in
+    let after = (g.O.Sink.output c.tell_row.new.output) in
     let given : PutsRow c.in-Ok-None.field-0 c.args.drawn now new pending left at after =
     c.in-Ok-None.ensures.told in
     let is : c.in-Ok-None.field-0 ≡ None = c.in-Ok-None.field-0-is in
@@ -57,9 +57,9 @@ returns-in-Ok-Some-Done-clause-told g c =
     let new = c.tell_row.new.machine in
     let pending = c.loop-index.page.items in
     let left = c.tell_row.new.page.items in
-    let before = output (g.O.Sink.written c.args.output.now) (g.O.Sink.failures c.args.output.now) in
-    let at = output (g.O.Sink.written c.loop-index.output) (g.O.Sink.failures c.loop-index.output) in
-    let after = output (g.O.Sink.written c.tell_row.new.output) (g.O.Sink.failures c.tell_row.new.output) in
+    let before = (g.O.Sink.output c.args.output.now) in
+    let at = (g.O.Sink.output c.loop-index.output) in
+    let after = (g.O.Sink.output c.tell_row.new.output) in
     let given : PutsRow c.in-Ok-Some-Done.field-0 c.args.drawn now new pending left at after =
     c.in-Ok-Some-Done.ensures.told in
     let is : c.in-Ok-Some-Done.field-0 ≡ Some Done =
@@ -81,9 +81,9 @@ returns-in-Ok-Some-Fault-clause-told g c =
     let new = c.tell_row.new.machine in
     let pending = c.loop-index.page.items in
     let left = c.tell_row.new.page.items in
-    let before = output (g.O.Sink.written c.args.output.now) (g.O.Sink.failures c.args.output.now) in
-    let at = output (g.O.Sink.written c.loop-index.output) (g.O.Sink.failures c.loop-index.output) in
-    let after = output (g.O.Sink.written c.tell_row.new.output) (g.O.Sink.failures c.tell_row.new.output) in
+    let before = (g.O.Sink.output c.args.output.now) in
+    let at = (g.O.Sink.output c.loop-index.output) in
+    let after = (g.O.Sink.output c.tell_row.new.output) in
     let given : PutsRow c.in-Ok-Some-Fault.field-0 c.args.drawn now new pending left at after =
     c.in-Ok-Some-Fault.ensures.told in
     let is : c.in-Ok-Some-Fault.field-0 ≡ Some (Fault c.in-Ok-Some-Fault.fault) =
@@ -105,9 +105,9 @@ loop-index-preserved g c =
     let new = c.tell_row.new.machine in
     let pending = c.loop-index.page.items in
     let left = c.tell_row.new.page.items in
-    let before = output (g.O.Sink.written c.args.output.now) (g.O.Sink.failures c.args.output.now) in
-    let at = output (g.O.Sink.written c.loop-index.output) (g.O.Sink.failures c.loop-index.output) in
-    let after = output (g.O.Sink.written c.tell_row.new.output) (g.O.Sink.failures c.tell_row.new.output) in
+    let before = (g.O.Sink.output c.args.output.now) in
+    let at = (g.O.Sink.output c.loop-index.output) in
+    let after = (g.O.Sink.output c.tell_row.new.output) in
     let given : PutsRow c.in-Ok-Some-Went.field-0 c.args.drawn now new pending left at after =
     c.in-Ok-Some-Went.ensures.told in
     let is : c.in-Ok-Some-Went.field-0 ≡ Some (Went c.in-Ok-Some-Went.field-0-0-0) =

@@ -1,5 +1,5 @@
 use Rattle.std.specs.Prelude.{◌⊎◌}
-use Rattle.pl0_tool.proofs.Common.{at_position, depth_of, length, output, ◌+◌, ◌<◌, ◌≡◌, ◌≤◌}
+use Rattle.pl0_tool.proofs.Common.{at_position, depth_of, length, ◌+◌, ◌<◌, ◌≡◌, ◌≤◌}
 use Rattle.pl0_tool.proofs.TracedRows.{Tells}
 use Rattle.pl0_tool.proofs.tracing.trace.Given as goal
 
@@ -8,6 +8,6 @@ invariant-loop-index g l =
     (0 < depth_of l.machine)
     × (l.machine ≡ at_position l.initial.machine (l.from + l.index))
     × Tells l.drawn l.initial.machine l.from l.index
-    (output (g.O.Sink.written l.initial.output) (g.O.Sink.failures l.initial.output))
-    (output (g.O.Sink.written l.output) (g.O.Sink.failures l.output)) l.page.items
+    (g.O.Sink.output l.initial.output)
+    (g.O.Sink.output l.output) l.page.items
     × ((length l.page.items ≤ l.room) ⊎ (l.page.items ≡ l.initial.page.items))

@@ -1,7 +1,7 @@
 //! Columns: what stands in one is filled up with spaces.
 
 ghost use Rattle.std.specs.Prelude.{◌≡◌, ◌++◌, OnOk};
-ghost use Rattle.pl0_tool.specs.Columns.{column, left, right, spaces};
+ghost use Rattle.pl0_lessons.specs.Columns.{column, left, right, spaces};
 
 use std::alloc::AllocError;
 

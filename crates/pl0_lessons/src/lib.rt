@@ -1,0 +1,13 @@
+//! Pages that show how a program is compiled: the table of its names.
+//!
+//! Each page is what its definition says: [`name_table`] the table of names (`specs/NameTable`), with the level and
+//! address of each. The address of a procedure is read from the code: the code of a block ends with the first return
+//! from its own statement on (`ends_behind` of `proofs/Ends`).
+#![tactic(auto)]
+
+mod columns;
+mod names;
+mod standing;
+
+pub use columns::{put_left, put_left_column, put_right, put_right_column};
+pub use names::name_table;

@@ -1,0 +1,136 @@
+//! The table of a program's names.
+
+ghost use Rattle.std.specs.Prelude.{◌≡◌, ◌++◌, ◌≤◌, ℕ, IfOk, OnOk, length, map};
+ghost use Rattle.std.specs.List.{concat};
+ghost use Rattle.pl0_tree.specs.Plain.{plain_block, plain_constant, plain_name};
+ghost use Rattle.pl0_tree.specs.Scope.{Path};
+ghost use Rattle.pl0_unit.specs.Code.{CodedBlock};
+ghost use Rattle.pl0_lessons.specs.NameTable.{IsNameTable, block_rows, constant_row, listing_of, place_row, row, variable_rows};
+ghost use Rattle.pl0_lessons.specs.Standing.{BeginsAt};
+
+use crate::columns::{put_left_column, put_right_column};
+use crate::standing::behind_block;
+use pl0_tree::{Block, Constant, Name};
+use pl0_unit::{FRAME_HEAD, Unit};
+use std::alloc::{AllocError, Global};
+
+/// What stands above the columns.
+const HEAD: &str = "kind       level  address  name\n";
+
+/// Returns the table of a program's names: a row for each declaration, in the order of the text, with the level and
+/// address of a variable or a procedure, and the value of a constant.
+///
+/// # Errors
+///
+/// `AllocError`, where an allocation failed.
+pub fn name_table(alloc: Global, unit: &Unit) -> Result<Vec<u8>, AllocError>
+    ensures { IfOk result (λ page. ∥ IsNameTable unit.now page.items ∥₁) }
+{
+    let mut page = Vec::from_slice(alloc, HEAD.as_bytes())?;
+    put_block(alloc, &mut page, unit, &unit.tree.program, 0, 0)?;
+    Ok(page)
+}
+
+/// Appends the rows of the block whose code begins at an address, with this many blocks around it, and those of the
+/// blocks in it.
+fn put_block(
+    alloc: Global,
+    page: &mut Vec<u8>,
+    unit: &Unit,
+    block: &Block,
+    level: usize,
+    begins: usize,
+) -> Result<(), AllocError>
+    requires { ∥ BeginsAt (listing_of unit.now) (plain_block block.now) level begins ∥₁ }
+    ensures { OnOk result ((entry : Path → ℕ) (q : Path) (to : ℕ) → length q ≡ level →
+        CodedBlock (listing_of unit.now) entry q (plain_block block.now) begins to →
+        page.new.items ≡ page.old.items ++ block_rows entry q (plain_block block.now)) }
+{
+    put_constants(alloc, page, &block.constants)?;
+    put_variables(alloc, page, &block.variables, level)?;
+    let mut next = begins + 1;
+    for procedure in &block.procedures {
+        put_place(alloc, page, "procedure", level, next, &procedure.name)?;
+        put_block(alloc, page, unit, &procedure.block, level + 1, next)?;
+        next = behind_block(unit, next);
+    }
+    Ok(())
+}
+
+/// Appends the rows of constants.
+fn put_constants(
+    alloc: Global,
+    page: &mut Vec<u8>,
+    constants: &[Constant],
+) -> Result<(), AllocError>
+    ensures { OnOk result (page.new.items ≡ page.old.items
+        ++ concat (map constant_row (map plain_constant constants.now))) }
+{
+    for constant in constants {
+        put_constant(alloc, page, constant)?;
+    }
+    Ok(())
+}
+
+/// Appends the row of a constant.
+fn put_constant(alloc: Global, page: &mut Vec<u8>, constant: &Constant) -> Result<(), AllocError>
+    ensures { OnOk result (page.new.items ≡ page.old.items ++ constant_row (plain_constant constant.now)) }
+{
+    let name = constant.name.text.as_str();
+    let value = constant.value;
+    let text = format!(in alloc; "{name} = {value}")?;
+    put_row(page, "constant", "", "", text.as_str())
+}
+
+/// Appends the rows of the variables of a block with this many blocks around it.
+fn put_variables(
+    alloc: Global,
+    page: &mut Vec<u8>,
+    variables: &[Name],
+    level: usize,
+) -> Result<(), AllocError>
+    ensures { OnOk result (page.new.items ≡ page.old.items
+        ++ variable_rows level 0 (map plain_name variables.now)) }
+{
+    for (index, name) in variables.iter().enumerate() {
+        put_place(alloc, page, "variable", level, FRAME_HEAD + index, name)?;
+    }
+    Ok(())
+}
+
+/// Appends the row of a name that has a level and an address.
+fn put_place(
+    alloc: Global,
+    page: &mut Vec<u8>,
+    kind: &str,
+    level: usize,
+    address: usize,
+    name: &Name,
+) -> Result<(), AllocError>
+    ensures { OnOk result (page.new.items ≡ page.old.items
+        ++ place_row kind.now level address (plain_name name.now)) }
+{
+    let level = format!(in alloc; "{level}")?;
+    let address = format!(in alloc; "{address}")?;
+    let name = name.text.as_str();
+    put_row(page, kind, level.as_str(), address.as_str(), name)
+}
+
+/// Appends a row.
+fn put_row(
+    page: &mut Vec<u8>,
+    kind: &str,
+    level: &str,
+    address: &str,
+    name: &str,
+) -> Result<(), AllocError>
+    ensures { OnOk result (page.new.items ≡ page.old.items
+        ++ row kind.now level.now address.now name.now) }
+{
+    put_left_column(page, 9, kind.as_bytes())?;
+    put_right_column(page, 5, level.as_bytes())?;
+    put_right_column(page, 7, address.as_bytes())?;
+    page.extend_from_slice(name.as_bytes())?;
+    page.push(b'\n')?;
+    Ok(())
+}
