@@ -4,15 +4,16 @@ looked at.
 
 usage: codelite.py SESSION COMMAND..
 
-SESSION is factorial or endless. COMMAND starts the adapter, or the proxy before it. Ends with status 0 once all is
-pressed; the session is in the proxy's transcript. Needs codelite (17), Xvfb and xdotool. CodeLite's settings are in a
-folder that is removed afterwards. It has no window manager, and so the window's place, and that of all in it, is always
-the same.
+SESSION is factorial, endless or writes. COMMAND starts the adapter, or the proxy before it. Ends with status 0 once all
+is pressed, and CodeLite took no more memory than it may; the session is in the proxy's transcript. Needs codelite (17),
+Xvfb and xdotool. CodeLite's settings are in a folder that is removed afterwards. It has no window manager, and so the
+window's place, and that of all in it, is always the same.
 """
 from __future__ import annotations
 
 import json
 import os
+import re
 import shlex
 import socket
 import subprocess
@@ -22,9 +23,12 @@ import time
 from screen import Screen
 
 TOP = os.path.realpath(os.path.join(os.path.dirname(__file__), "..", ".."))
-LISTEN = os.path.join(TOP, "editors", "codelite", "listen.py")
+LISTEN = os.path.join(TOP, "editors", "listen.py")
 SETTINGS = os.path.join(TOP, "editors", "codelite", "debug-adapter-client.conf")
 START, REST = 60, 2.0  # seconds that CodeLite gets at most to start, and after each press
+MOST_MEMORY = 400 * 1024  # that CodeLite may take, in KiB
+MEMORY = re.compile(r"^VmHWM:\s+([0-9]+) kB$", re.MULTILINE)
+WRITES = "writes.pl0", "var n;\nwhile 0 = 0 do\nbegin\n  n := n + 1;\n  ! n\nend.\n"
 LONG = float(os.environ.get("DRIVE_SECONDS", "8"))  # seconds that the adapter gets to start
 # What CodeLite has debugged before: it takes the program only from the list of these, and no path that was typed just
 # now.
@@ -128,21 +132,40 @@ def endless(screen: Screen) -> None:
         time.sleep(REST)
 
 
+def writes(screen: Screen) -> None:
+    """A pause in a loop that writes without end, and a stop at the user's wish in the same loop."""
+    start(screen)
+    for name in (PAUSE, START_OR_CONTINUE, STOP):
+        choose(screen, name)
+        time.sleep(LONG)
+
+
+def memory(process: int) -> int:
+    """The most memory that a process had so far, in KiB."""
+    with open(f"/proc/{process}/status", encoding="ascii") as file:
+        return int(MEMORY.search(file.read())[1])
+
+
 SESSIONS = {
     "factorial": (os.path.join(TOP, "examples", "factorial.pl0"), factorial),
     "endless": (os.path.join(TOP, "demo", "endless.pl0"), endless),
+    "writes": (WRITES[0], writes),
 }
 
 
 def main() -> int:
-    program, debug = SESSIONS[sys.argv[1]]
+    place, debug = SESSIONS[sys.argv[1]]
     with Screen(1200, 800) as screen:
+        program = os.path.join(screen.folder.name, place)
+        with open(os.path.join(screen.folder.name, WRITES[0]), "w", encoding="ascii") as file:
+            file.write(WRITES[1])
         settings(screen.folder.name, program, sys.argv[2:])
         said = subprocess.DEVNULL
         codelite = subprocess.Popen(["codelite", program], env=screen.settings, stdout=said, stderr=said)
         try:
             wait_for_window(screen, program)
             debug(screen)
+            taken = memory(codelite.pid)
         finally:
             codelite.terminate()
             try:
@@ -150,7 +173,8 @@ def main() -> int:
             except subprocess.TimeoutExpired:
                 codelite.kill()
                 codelite.wait()
-    return 0
+    print(f"CodeLite took at most {taken // 1024} MB")
+    return 1 if taken > MOST_MEMORY else 0
 
 
 if __name__ == "__main__":

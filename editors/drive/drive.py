@@ -4,12 +4,12 @@
 usage: drive.py PL0DAP PL0DAP_FROM_ZERO [PL0]
 
 First, sessions that were recorded, or written by what is known of an editor, are played by replay.py: those of editors
-that number their requests from 0 to the second program; and listening.py looks at what CodeLite has beside the adapter.
-Then Emacs, Kate and CodeLite debug programs, and Neovim shows a mistake. out/ gets a transcript of each session, a
-picture of Emacs and one of Kate at a stop; with RECORD=1 docs/ does, but for sessions with a mistake. PL0 says what is
-wrong with a text: where it isn't given, the one that `make build` has made. Nothing is installed. Status 0: all that
-was wanted was done. Status 1: the adapter sent something else than a session says, or an editor failed. Status 2: only
-an editor, or what a picture needs, is missing.
+that number their requests from 0 to the second program, and Kate's by listen.py; and listening.py looks at what that
+changes. Then Emacs, Kate and CodeLite debug programs, and Neovim shows a mistake. out/ gets a transcript of each
+session, a picture of Emacs and one of Kate at a stop; with RECORD=1 docs/ does, but for sessions with a mistake or a
+loop that writes without end. PL0 says what is wrong with a text: where it isn't given, the one that `make build` has
+made. Nothing is installed. Status 0: all that was wanted was done. Status 1: the adapter sent something else than a
+session says, or an editor failed. Status 2: only an editor, or what a picture needs, is missing.
 """
 from __future__ import annotations
 
@@ -25,54 +25,58 @@ DRIVE = os.path.dirname(os.path.realpath(__file__))
 TOP = os.path.realpath(os.path.join(DRIVE, "..", ".."))
 RECORDINGS = os.path.join(TOP, "docs", "editors")
 PL0 = os.path.join(TOP, "crates", "pl0", "out", "pl0")
+LISTEN = [sys.executable, os.path.join(TOP, "editors", "listen.py"), "-"]
 PROGRAMS = (("examples", "factorial.pl0"), ("crates", "check_runs", "data", "mistake.pl0"))
 OUT = os.path.join(TOP, "out")
 MADE_IN = os.path.join(TOP, "docs") if os.environ.get("RECORD") == "1" else OUT
 PICTURES = os.path.join(MADE_IN, "pictures")
 WRITTEN = ("vscode.txt", "vscode_back.txt", "vscode_log.txt", "neovim.txt", "neovim_back.txt", "from_zero.txt")
-# Those of editors that number their requests from 0.
-FROM_ZERO = ("kate.txt", "kate_condition.txt", "kate_endless.txt", "neovim.txt", "neovim_back.txt")
+# Those of editors that number their requests from 0, of which Kate's are with listen.py.
+KATE = ("kate.txt", "kate_condition.txt", "kate_endless.txt", "kate_words.txt")
+FROM_ZERO = (*KATE, "neovim.txt", "neovim_back.txt")
 RECORDED = (
-    "emacs.txt", "emacs_back.txt", "emacs_fault.txt", "emacs_endless.txt", "emacs_refused.txt", "kate.txt",
-    "kate_condition.txt", "kate_endless.txt", "codelite.txt", "codelite_endless.txt",
+    "emacs.txt", "emacs_back.txt", "emacs_fault.txt", "emacs_endless.txt", "emacs_refused.txt", *KATE, "codelite.txt",
+    "codelite_endless.txt",
 )
 # What a session comes to: the program's end, where nothing else is said.
 AT_THE_END, BY_DISCONNECT, BY_PAUSE = '"event":"terminated"', '"command":"disconnect","request_seq"', '"reason":"pause"'
 ENDINGS = {
     "emacs_fault.txt": BY_DISCONNECT, "emacs_endless.txt": BY_DISCONNECT, "kate_endless.txt": BY_DISCONNECT,
-    "codelite_endless.txt": BY_PAUSE, "kate_mistake.txt": '"output":"2\\n"',
+    "codelite_endless.txt": BY_PAUSE, "codelite_writes.txt": BY_PAUSE, "kate_mistake.txt": '"output":"2\\n"',
+    "kate_words.txt": BY_DISCONNECT, "kate_writes.txt": BY_DISCONNECT,
 }
 HAS_DAP_MODE = "(progn (require 'package) (package-initialize) (require 'dap-ui))"
 
 
+def command_of(session: str, program: str, from_zero: str) -> list[str]:
+    """The command that serves the session of this name."""
+    return [*LISTEN * (session in KATE), from_zero if session in FROM_ZERO else program]
+
+
 def replay(program: str, from_zero: str) -> bool:
     """Whether the adapter sends what the sessions say, and listen.py changes of it what it says."""
-    written = [os.path.join(DRIVE, name) for name in WRITTEN]
-    recorded = [os.path.join(RECORDINGS, name) for name in RECORDED]
-    sessions = written + recorded
-    shifted = [session for session in sessions if os.path.basename(session) in FROM_ZERO]
-    plain = [session for session in sessions if session not in shifted]
+    played: dict[tuple[str, ...], list[str]] = {}
+    for folder, names in ((DRIVE, WRITTEN), (RECORDINGS, RECORDED)):
+        for name in names:
+            played.setdefault((*command_of(name, program, from_zero),), []).append(os.path.join(folder, name))
     play = [sys.executable, os.path.join(DRIVE, "replay.py")]
-    statuses = [
-        subprocess.run([*play, *plain, "--", program]).returncode,
-        subprocess.run([*play, *shifted, "--", from_zero]).returncode,
-        subprocess.run([sys.executable, os.path.join(DRIVE, "listening.py"), program]).returncode,
-    ]
+    statuses = [subprocess.run([*play, *sessions, "--", *command]).returncode for command, sessions in played.items()]
+    statuses.append(subprocess.run([sys.executable, os.path.join(DRIVE, "listening.py"), program]).returncode)
     return not any(statuses)
 
 
 def place_of(name: str) -> str:
-    """Where a transcript is written: not where it is kept, if it has paths of this computer."""
-    return os.path.join(OUT if name.endswith("_mistake.txt") else MADE_IN, "editors", name)
+    """Where a transcript is written: not where it is kept, if it has paths of this computer, or is long."""
+    return os.path.join(OUT if name.endswith(("_mistake.txt", "_writes.txt")) else MADE_IN, "editors", name)
 
 
-def proxy(name: str, program: str) -> list[str]:
+def proxy(name: str, *program: str) -> list[str]:
     """The command that an editor starts in place of the adapter. A former transcript of this name is removed."""
     place = place_of(name)
     os.makedirs(os.path.dirname(place), exist_ok=True)
     if os.path.exists(place):
         os.remove(place)
-    return [sys.executable, os.path.join(DRIVE, "proxy.py"), "--folder", TOP, place, program]
+    return [sys.executable, os.path.join(DRIVE, "proxy.py"), "--folder", TOP, place, *program]
 
 
 def missing_for_emacs() -> list[str]:
@@ -112,7 +116,7 @@ def drive_emacs(session: str, program: str) -> bool:
 
 def drive_kate(session: str, program: str) -> bool:
     driver, name = os.path.join(DRIVE, "kate.py"), transcript("kate", session)
-    words = [sys.executable, driver, session, picture("kate.png"), *proxy(name, program)]
+    words = [sys.executable, driver, session, picture("kate.png"), *proxy(name, *LISTEN, program)]
     return subprocess.run(words).returncode == 0 and has_ended(name)
 
 
@@ -144,8 +148,9 @@ def drive_all(program: str, from_zero: str, has_pl0: bool) -> tuple[bool, bool]:
         ("Emacs", emacs, ("factorial", "back", "fault", "endless", "refused"), drive_emacs, program),
         ("Emacs at a mistake", emacs + pl0, ("mistake",), drive_emacs, program),
         ("Emacs in a terminal", emacs + missing("xterm") + display, ("picture",), take_picture, program),
-        ("Kate", missing("kate") + display, ("factorial", "condition", "endless", "mistake"), drive_kate, from_zero),
-        ("CodeLite", missing("codelite") + display, ("factorial", "endless"), drive_codelite, program),
+        ("Kate", missing("kate") + display, ("factorial", "condition", "endless", "words", "writes", "mistake"),
+         drive_kate, from_zero),
+        ("CodeLite", missing("codelite") + display, ("factorial", "endless", "writes"), drive_codelite, program),
         ("Neovim", missing("nvim") + pl0, ("mistake",), drive_neovim, from_zero),
     ):
         if lacks:

@@ -3,10 +3,10 @@
 
 usage: kate.py SESSION PICTURE COMMAND..
 
-SESSION is factorial, condition, endless or mistake. COMMAND starts the adapter, or the proxy before it. Ends with
-status 0 once all keys are pressed; the session is in the proxy's transcript. PICTURE gets a picture of the last stop at
-a breakpoint of factorial. Needs kate (22.12), Xvfb and xdotool; the icons are those of breeze-icon-theme, where it is
-installed. Kate's settings are in a folder that is removed afterwards.
+SESSION is factorial, condition, endless, words, writes or mistake. COMMAND starts the adapter, or the proxy before it.
+Ends with status 0 once all keys are pressed; the session is in the proxy's transcript. PICTURE gets a picture of the
+last stop at a breakpoint of factorial. Needs kate (22.12), Xvfb and xdotool; the icons are those of breeze-icon-theme,
+where it is installed. Kate's settings are in a folder that is removed afterwards.
 """
 from __future__ import annotations
 
@@ -19,8 +19,14 @@ import time
 from screen import Screen
 
 TOP = os.path.realpath(os.path.join(os.path.dirname(__file__), "..", ".."))
-FACTORIAL, ENDLESS = (os.path.join(TOP, *place) for place in (("examples", "factorial.pl0"), ("demo", "endless.pl0")))
-TYPED = "typed.pl0"  # a program that the driver writes
+FACTORIAL, ENDLESS, OVERFLOW = (
+    os.path.join(TOP, *place)
+    for place in (("examples", "factorial.pl0"), ("demo", "endless.pl0"), ("demo", "overflow.pl0")))
+# Programs that the driver writes: one with a mistake, and one that writes without end.
+TYPED = {
+    "typed.pl0": "begin ! x end.\n",
+    "writes.pl0": "var n;\nwhile 0 = 0 do\nbegin\n  n := n + 1;\n  ! n\nend.\n",
+}
 START, REST = 60, 1.5  # seconds that Kate gets at most to start, and after each key
 WIDTH, HEIGHT = 1200, 740
 COMMANDS, TEXT = (600, 702), (600, 160)  # the line below the output, and the program
@@ -114,6 +120,14 @@ def factorial(screen: Screen, picture: str) -> None:
     keys("ctrl+q")
 
 
+def command(screen: Screen, text: str) -> None:
+    """Types a command into the line below the output, and goes back to the program."""
+    screen.do("mousemove", *map(str, COMMANDS), "click", "1")
+    subprocess.run(["xdotool", "type", text], check=True)
+    keys("Return")
+    screen.do("mousemove", *map(str, TEXT), "click", "1")
+
+
 def condition(screen: Screen, _picture: str) -> None:
     """A breakpoint, for which one with a condition is typed at its first stop, the stop where it holds, a step and the
     end."""
@@ -124,10 +138,7 @@ def condition(screen: Screen, _picture: str) -> None:
     action("Continue")
     action("Continue")
     action("Toggle Breakpoint")
-    screen.do("mousemove", *map(str, COMMANDS), "click", "1")
-    subprocess.run(["xdotool", "type", "b 9 when {k = 8}"], check=True)
-    keys("Return")
-    screen.do("mousemove", *map(str, TEXT), "click", "1")
+    command(screen, "b 9 when {k = 8}")
     action("Continue")
     action("Step Over")
     action("Continue")
@@ -140,7 +151,7 @@ def mistake(screen: Screen, _picture: str) -> None:
     keys("ctrl+F7")
     time.sleep(ADAPTER)
     for number in (1, 2):
-        write(os.path.join(screen.folder.name, TYPED), f"begin ! {number} end.\n")
+        write(os.path.join(screen.folder.name, "typed.pl0"), f"begin ! {number} end.\n")
         keys("F5")
         action("Stop Debugging")
         keys("ctrl+F7")
@@ -162,11 +173,40 @@ def endless(screen: Screen, _picture: str) -> None:
     keys("ctrl+q")
 
 
+def words(screen: Screen, _picture: str) -> None:
+    """A breakpoint that is refused, a run to the cursor, and a fault."""
+    focus(screen)
+    keys("ctrl+F7")
+    time.sleep(ADAPTER)
+    action("Continue")
+    command(screen, "b 5 when {x == 1}")
+    keys("ctrl+g", "4", "Return")
+    action("Run To Cursor")
+    action("Continue")
+    action("Stop Debugging")
+    keys("ctrl+q")
+
+
+def writes(screen: Screen, _picture: str) -> None:
+    """A pause in a loop that writes without end, and one more in the same loop, with a stop."""
+    focus(screen)
+    keys("ctrl+F7")
+    time.sleep(ADAPTER)
+    action("Continue")
+    for name in ("Toggle Breakpoint / Break", "Continue", "Stop Debugging", "Stop Debugging"):
+        time.sleep(2 * ADAPTER)
+        action(name)
+    time.sleep(2 * ADAPTER)
+    keys("ctrl+q")
+
+
 SESSIONS = {
     "factorial": (FACTORIAL, "9", "launch, stop at the first step", factorial),
     "condition": (FACTORIAL, "9", "launch, stop at the first step", condition),
     "endless": (ENDLESS, "1", "launch", endless),
-    "mistake": (TYPED, "1", "launch", mistake),
+    "words": (OVERFLOW, "4", "launch, stop at the first step", words),
+    "writes": ("writes.pl0", "1", "launch", writes),
+    "mistake": ("typed.pl0", "1", "launch", mistake),
 }
 
 
@@ -174,8 +214,8 @@ def main() -> int:
     place, line, configuration, debug = SESSIONS[sys.argv[1]]
     with Screen(WIDTH, HEIGHT) as screen:
         program = os.path.join(screen.folder.name, place)
-        if place == TYPED:
-            write(program, "begin ! x end.\n")
+        if place in TYPED:
+            write(program, TYPED[place])
         settings(screen.folder.name, program, configuration, sys.argv[3:])
         os.environ.update(screen.settings)
         kate = subprocess.Popen(["kate", "-s", "pl0", "-l", line, program], stderr=subprocess.DEVNULL)

@@ -1,105 +1,170 @@
 #!/usr/bin/env python3
-"""Looks that editors/codelite/listen.py changes what it says it changes, and nothing else.
+"""Looks that editors/listen.py changes what it says it changes, and nothing else.
 
 usage: listening.py PL0DAP
+       listening.py --follow SESSION GOT
 
-Messages are given to its functions. Then it stands between this script, which sends as CodeLite does, and the adapter,
-or a program that writes what it reads. Prints what is wrong, and ends with status 1 where anything is.
+Messages are given to its functions. Then it stands, as for CodeLite and as for Kate, between this script and a program:
+one that writes what it reads; one that follows a recorded session, so that each message is looked at, both ways; and
+the adapter, also while a program writes without end, and where the editor goes away meanwhile. Prints how many messages
+of recorded sessions were changed and how, then what is wrong, and ends with status 1 where anything is. With --follow
+it is the program that follows a session: it writes what the adapter sends there as soon as what stands before it has
+come, and puts what came into the file GOT.
 """
 from __future__ import annotations
 
+import collections
+import glob
 import json
 import os
+import queue
+import random
+import signal
 import socket
+import struct
 import subprocess
 import sys
 import tempfile
 import time
-from collections.abc import Iterator
+from collections.abc import Callable, Iterable, Iterator
 
-TOP = os.path.realpath(os.path.join(os.path.dirname(__file__), "..", ".."))
-CODELITE = os.path.join(TOP, "editors", "codelite")
-LISTEN = os.path.join(CODELITE, "listen.py")
-sys.path[:0] = [os.path.join(TOP, "checks"), CODELITE]
+DRIVE = os.path.dirname(os.path.realpath(__file__))
+TOP = os.path.realpath(os.path.join(DRIVE, "..", ".."))
+EDITORS = os.path.join(TOP, "editors")
+LISTEN = os.path.join(EDITORS, "listen.py")
+sys.path[:0] = [os.path.join(TOP, "checks"), EDITORS]
 import listen  # noqa: E402
-from client import Frames, frame, request  # noqa: E402
+from lib.client import ANY_HEADER, Frames, frame, name_of, put_files, request  # noqa: E402
+from replay import contents  # noqa: E402
+from soak import MOST_MEMORY as MEMORY  # noqa: E402
 
 LIMIT = 60.0  # seconds for each message, and for the end
+RUNNING, SOON = 2.0, 20.0  # for which a program writes before a pause; up to the stop, and for what is left to end
+MOST_MEMORY = 64 * 1024  # of listen.py, in KiB
+PACED = 10  # outputs
+FOLLOW = "--follow"
+# Sessions between an editor and the adapter, with nothing in between.
+SESSIONS = sorted(place for pattern in (("docs", "editors", "emacs*.txt"), ("docs", "editors", "codelite*.txt"),
+                                        ("editors", "drive", "*.txt")) for place in glob.glob(os.path.join(TOP, *pattern)))
 PROGRAM = os.path.join(TOP, "examples", "factorial.pl0")
 MISTAKE = os.path.join(TOP, "crates", "check_runs", "data", "mistake.pl0")
+WRITES = "var n; while 0 = 0 do begin n := n + 1; ! n end."
 WORDS = "FILE:2:9: error: words"
 CHECKER = f"#!/bin/sh\necho '{WORDS}' >&2\nexit 2\n"
 SOURCE = {"path": PROGRAM, "name": "factorial.pl0"}
-# What is sent, and the member of it that is changed: its value before and after.
-CHANGED = (
+# What is sent, and its arguments before and after; first as only CodeLite needs it.
+FOR_CODELITE = (
     ("initialize", {"linesStartAt1": False, "columnsStartAt1": False},
      {"linesStartAt1": True, "columnsStartAt1": True}),
     ("initialize", {"adapterID": "x"}, {"adapterID": "x", "linesStartAt1": True, "columnsStartAt1": True}),
     ("pause", {"threadId": -1}, {"threadId": 1}),
     ("next", {"threadId": -1, "granularity": "line"}, {"threadId": 1, "granularity": "line"}),
 )
+FOR_ALL = (
+    ("setBreakpoints", {"breakpoints": [{"line": 3, "hitCondition": "<=1"}, {"line": 4, "hitCondition": "3"}, 5]},
+     {"breakpoints": [{"line": 3}, {"line": 4, "hitCondition": "3"}, 5]}),
+)
 # What is passed on as it is, to the adapter and from it.
 KEPT = (
     b'{ "seq":7, "type":"request", "command":"pause", "arguments":{"threadId":1} }',
-    b'{"seq":1,"command":"initialize"}',
+    b'{"seq":1,"command":"initialize"}', b'{"seq":1,"command":"setBreakpoints","arguments":{"breakpoints":7}}',
     b'{"seq":1,"command":"initialize","arguments":null}', b'{"arguments":{"expression":"-1"},"command":"evaluate"}',
     b"[-1]", b"-1", b'"threadId"', b"", b'{"threadId":-1', b"\xff\xfe",
     b"[" * 100000, b'{"seq":[],"command":"setBreakpoints","arguments":{"breakpoints":[]}}',
 )
 FROM_ADAPTER = (
     b'{"body":{"category":"stdout","output":"1\\n"},"event":"output","seq":9,"type":"event"}',
-    b'{"body":{},"command":"launch","message":"cannotRead","request_seq":2,"seq":2,"success":false,"type":"response"}',
+    b'{"body":{},"event":"stopped","seq":9,"type":"event"}',
 )
 
 
-class Connection:
-    """A connection to the program under test, which has been started with this adapter and these folders on its
-    path."""
+class Editor:
+    """An editor's side of the program under test, which has been started with this adapter and these folders on its
+    path: over a connection, as CodeLite has it, or over standard input and output, as Kate."""
 
-    def __init__(self, *adapter: str, path: str = "/usr/bin:/bin"):
+    def __init__(self, is_codelite: bool, *adapter: str, path: str = "/usr/bin:/bin"):
         with socket.create_server(("127.0.0.1", 0)) as server:
             self.port = server.getsockname()[1]
-        words = [sys.executable, LISTEN, str(self.port), *adapter]
-        self.child = subprocess.Popen(words, stderr=subprocess.PIPE, text=True, env={**os.environ, "PATH": path})
+        self.connection = None
+        words = [sys.executable, LISTEN, str(self.port) if is_codelite else listen.STANDARD, *adapter]
+        settings = {} if is_codelite else {"stdin": subprocess.PIPE, "stdout": subprocess.PIPE}
+        self.child = subprocess.Popen(words, stderr=subprocess.PIPE, bufsize=0, env={**os.environ, "PATH": path},
+                                      **settings)
+        if is_codelite:
+            self.connect()
+        self.frames, self.seq = Frames(), 0
+
+    def connect(self) -> None:
         until = time.monotonic() + LIMIT
-        while True:
+        while self.connection is None:
             try:
-                self.socket = socket.create_connection(("127.0.0.1", self.port), timeout=LIMIT)
-                break
+                self.connection = socket.create_connection(("127.0.0.1", self.port), timeout=LIMIT)
             except ConnectionRefusedError:
                 if self.child.poll() is not None or time.monotonic() > until:
                     raise
                 time.sleep(0.05)
-        self.frames = Frames()
+
+    def write(self, piece: bytes) -> None:
+        if self.connection:
+            self.connection.sendall(piece)
+        else:
+            self.child.stdin.write(piece)
+
+    def read(self) -> bytes:
+        return self.connection.recv(4096) if self.connection else self.child.stdout.read(4096)
+
+    def end_input(self) -> None:
+        if self.connection:
+            self.connection.shutdown(socket.SHUT_WR)
+        else:
+            self.child.stdin.close()
 
     def send(self, command: str, **arguments: object) -> None:
-        """Sends a request byte by byte. Its number is that of the bytes it has: unlike any other here."""
-        content = request(len(command), command, arguments)
-        for byte in frame(content):
-            self.socket.sendall(bytes((byte,)))
+        """Sends a request byte by byte."""
+        self.seq += 1
+        for byte in frame(request(self.seq, command, arguments)):
+            self.write(bytes((byte,)))
 
     def receive(self) -> dict | None:
         """The next message; None at the end of what comes."""
         while (content := self.frames.next()) is None:
-            piece = self.socket.recv(4096)
+            piece = self.read()
             if not piece:
                 return None
             self.frames.take(piece)
         return json.loads(content)
 
+    def wait_for(self, name: str) -> dict:
+        """The next message of this name, with all before it left out."""
+        while (message := self.receive()) and name_of(message) != name:
+            pass
+        return message or {}
+
     def rest(self) -> bytes:
         """All bytes that still come, with no more sent."""
-        self.socket.shutdown(socket.SHUT_WR)
+        self.end_input()
         came = b""
-        while piece := self.socket.recv(4096):
+        while piece := self.read():
             came += piece
         return came
 
+    def die(self) -> None:
+        """Goes away with all that it hasn't read."""
+        if self.connection:
+            self.connection.setsockopt(socket.SOL_SOCKET, socket.SO_LINGER, struct.pack("ii", 1, 0))
+        self.leave()
+
+    def leave(self) -> None:
+        for one in (self.connection, self.child.stdin, self.child.stdout):
+            if one:
+                one.close()
+
     def end(self) -> tuple[int, str]:
         """The status, and what was printed to standard error."""
-        self.socket.close()
-        _, said = self.child.communicate(timeout=LIMIT)
-        return self.child.returncode, said
+        self.leave()
+        status = self.child.wait(LIMIT)
+        with self.child.stderr as said:
+            return status, said.read().decode()
 
 
 def different(what: str, wanted: object, found: object) -> Iterator[str]:
@@ -109,59 +174,206 @@ def different(what: str, wanted: object, found: object) -> Iterator[str]:
 
 def wrong_changes() -> Iterator[str]:
     """Where messages are changed otherwise than is said."""
-    session = listen.Session()
-    for command, given, wanted in CHANGED:
-        found = json.loads(session.to_adapter(request(1, command, given)))
-        yield from different(command, json.loads(request(1, command, wanted)), found)
-    for content in KEPT:
-        yield from different("to the adapter", content, session.to_adapter(content))
-    for content in KEPT + FROM_ADAPTER:
-        yield from different("to the editor", content, session.to_editor(content))
+    for is_codelite in (True, False):
+        session = listen.Session(is_codelite)
+        for command, given, wanted in FOR_CODELITE + FOR_ALL:
+            if not is_codelite and (command, given, wanted) in FOR_CODELITE:
+                wanted = given
+            found = [json.loads(one) for one in session.to_adapter(request(1, command, given))]
+            yield from different(command, [json.loads(request(1, command, wanted))], found)
+        for content in KEPT:
+            yield from different("to the adapter", [content], session.to_adapter(content))
+        for content in KEPT + FROM_ADAPTER:
+            yield from different("to the editor", [content], session.to_editor(content))
+    with open(os.path.join(EDITORS, "emacs", "pl0-dap.el"), encoding="utf-8") as file:
+        emacs = file.read()
+    for sentence in listen.REFUSALS.values():
+        if sentence.replace("`=`", "`='") not in emacs:
+            yield f"Emacs doesn't say: {sentence}"
 
 
-def wrong_streams() -> Iterator[str]:
+def wrong_streams(is_codelite: bool) -> Iterator[str]:
     """Where what is no whole frame, or a frame of an unusual form, isn't passed on as it is."""
     for text in (
         b"", b"\r\n", b"Content-Length: 5\r\n\r\nabc", b"Content-Length: x\r\n\r\n", b"Content-Length: 1\r\n",
         b"X: y\r\nContent-Length: 2\r\nZ: 1\r\n\r\n{}" * 3, b"Content-Length: 0\r\n\r\nContent-Length: 2\r\n\r\n[]",
-        b"\0" * 70000,
+        b"\0" * 60000,
     ):
-        copied = Connection("cat")
-        copied.socket.sendall(text)
+        copied = Editor(is_codelite, "cat")
+        copied.write(text)
         yield from different(f"{text[:40]!r}", text, copied.rest())
         yield from different("the end of a copy", (0, ""), copied.end())
-    ended = Connection("true")
+    ended = Editor(is_codelite, "true")
     yield from different("after the adapter's end", None, ended.receive())
     yield from different("its end", (0, ""), ended.end())
+    lacking = Editor(is_codelite, "/nothing")
+    yield from different("an adapter that isn't there", (listen.NO_ADAPTER, True),
+                         (lambda status, said: (status, "/nothing can't be started" in said))(*lacking.end()))
 
 
-def wrong_session(program: str) -> Iterator[str]:
-    """Where a session with the adapter isn't one that CodeLite can show."""
-    session = Connection(program)
-    session.send("initialize", linesStartAt1=False, columnsStartAt1=False)
+def wrong_pace() -> Iterator[str]:
+    """Where outputs that can't be joined follow each other too fast."""
+    waiting: queue.Queue[listen.Frame | None] = queue.Queue()
+    for turn in range(PACED):
+        body = {"category": ("stdout", "console")[turn % 2], "output": f"{turn}\n"}
+        content = listen.written({"body": body, "event": "output", "seq": turn + 1, "type": "event"})
+        waiting.put(listen.Frame(frame(content), content))
+    waiting.put(None)
+    begin = time.monotonic()
+    yield from different("outputs of two categories in turn", PACED, len(list(listen.joined(waiting))))
+    yield from different("at most 20 outputs a second", True, time.monotonic() - begin >= PACED / 20)
+
+
+def follow(session: str, got: str) -> None:
+    """Is the adapter of a session, and keeps what it got."""
+    frames = Frames(ANY_HEADER)
+    with open(got, "wb") as file:
+        for _, arrow, content in contents(session):
+            if arrow == "<-":
+                sys.stdout.buffer.write(frame(content))
+                sys.stdout.buffer.flush()
+                continue
+            while (came := frames.next()) is None and (piece := os.read(sys.stdin.fileno(), 4096)):
+                frames.take(piece)
+            file.write(frame(came or b""))
+        while piece := os.read(sys.stdin.fileno(), 4096):
+            frames.take(piece)
+        file.write(frames.rest)
+
+
+def as_given(content: bytes, is_codelite: bool) -> dict:
+    """A request as the adapter has to get it."""
+    message = json.loads(content)
+    arguments = message.get("arguments") or {}
+    if is_codelite and message["command"] == "initialize":
+        arguments.update(linesStartAt1=True, columnsStartAt1=True)
+    if is_codelite and arguments.get("threadId") == -1:
+        arguments["threadId"] = 1
+    for one in arguments.get("breakpoints", ()):
+        if one.get("hitCondition") == "<=1":
+            del one["hitCondition"]
+    return message
+
+
+def as_sent(content: bytes) -> dict:
+    """A message to the editor as the adapter sent it."""
+    message = json.loads(content)
+    body = message.get("body", {})
+    if name_of(message) == "setBreakpoints":
+        for one in body.get("breakpoints", ()):
+            del one["id"], one["source"]
+    if body.get("reason") == "exception":
+        del body["description"]
+    return message
+
+
+def merged(messages: Iterable[bytes]) -> list[bytes]:
+    """Messages, where outputs of one category that stand together are one, with the number of the last."""
+    found: list[bytes] = []
+    for content in messages:
+        message, last = json.loads(content), json.loads(found[-1]) if found else {}
+        if name_of(message) == name_of(last) == "output" and message["body"]["category"] == last["body"]["category"]:
+            message["body"]["output"] = last["body"]["output"] + message["body"]["output"]
+            found[-1] = json.dumps(message, separators=(",", ":")).encode()
+        else:
+            found.append(content)
+    return found
+
+
+class Compared:
+    """What is compared of recorded sessions, and how many messages were changed, and of which name."""
+
+    def __init__(self) -> None:
+        self.count = 0
+        self.changed: collections.Counter[str] = collections.Counter()
+
+    def messages(self, what: str, sent: list[bytes], came: list[bytes], wanted: Callable, found: Callable) -> Iterator[str]:
+        """Where what came isn't what was sent, but for what is changed of it."""
+        yield from different(f"{what}, messages", len(sent), len(came))
+        for one, other in zip(sent, came):
+            self.count += 1
+            if one != other:
+                self.changed[name_of(json.loads(one))] += 1
+                yield from different(what, wanted(one), found(other))
+
+    def session(self, place: str, is_codelite: bool, folder: str) -> Iterator[str]:
+        """Where a recorded session differs, which is sent in pieces of all sizes."""
+        what, got = f"{os.path.relpath(place, TOP)}{' of CodeLite' * is_codelite}", os.path.join(folder, "got")
+        sent, answers = ([content for _, arrow, content in contents(place) if arrow == wanted] for wanted in ("->", "<-"))
+        editor = Editor(is_codelite, sys.executable, os.path.realpath(__file__), FOLLOW, place, got)
+        text, chosen = b"".join(map(frame, sent)), random.Random(place)
+        while text:
+            size = chosen.choice((1, 2, 100, 5000))
+            editor.write(text[:size])
+            text = text[size:]
+        frames = Frames()
+        frames.take(editor.rest())
+        came = list(frames)
+        told = [at for at, content in enumerate(came) if json.loads(content)["seq"] == 0]
+        yield from different(f"{what}, the end", (0, "", b""), (*editor.end(), bytes(frames.rest)))
+        for at in told:
+            self.changed["told"] += 1
+            if at - 1 not in told and came[at - 1] in answers:
+                yield f"{what}: {came[at].decode()} stands behind what isn't changed"
+        with open(got, "rb") as file:
+            frames = Frames()
+            frames.take(file.read())
+        yield from self.messages(what, sent, list(frames), lambda one: as_given(one, is_codelite), json.loads)
+        yield from different(f"{what}, bytes left", b"", bytes(frames.rest))
+        came = [content for at, content in enumerate(came) if at not in told]
+        yield from self.messages(what, merged(answers), merged(came), json.loads, as_sent)
+
+    def tell(self) -> None:
+        counts = ", ".join(f"{count} {name}" for name, count in sorted(self.changed.items()))
+        print(f"{len(SESSIONS)} recorded sessions, as CodeLite's and as Kate's: {self.count} messages both ways; "
+              f"changed were {counts}", flush=True)
+
+
+def wrong_session(program: str, is_codelite: bool) -> Iterator[str]:
+    """Where a session with the adapter isn't one that the editor can show."""
+    session = Editor(is_codelite, program)
+    session.send("initialize", linesStartAt1=is_codelite is False)
     session.send("launch", program=PROGRAM)
     session.send("setBreakpoints", source=SOURCE,
-                 breakpoints=[{"line": 1}, {"line": 9, "condition": "k == 8"}, {"line": 18}])
+                 breakpoints=[{"line": 1}, {"line": 9, "condition": "k == 8"}, {"line": 18, "hitCondition": "<=1"}])
     found = [session.receive() for _ in range(4)][-1]["body"]["breakpoints"]
     wanted = [{"line": 5, "verified": True}, {"message": "badCondition", "verified": False},
               {"line": 18, "verified": True}]
     yield from different("breakpoints", [{**one, "id": at, "source": SOURCE} for at, one in enumerate(wanted, 1)],
                          found)
+    told = f"The breakpoint at line 9 stops nothing: {listen.REFUSALS['badCondition']}\n"
+    yield from different("a refused breakpoint", {"category": "console", "output": told}, session.receive()["body"])
     session.send("configurationDone")
     yield from different("configurationDone", True, session.receive()["success"])
     yield from different("a stop", "breakpoint", session.receive()["body"].get("reason"))
-    session.send("pause", threadId=-1)
+    session.send("pause", threadId=-1 if is_codelite else 1)
     yield from different("pause", True, session.receive()["success"])
     session.send("disconnect")
     yield from different("disconnect", True, session.receive()["success"])
+    if not is_codelite:
+        session.child.send_signal(signal.SIGTERM)
     yield from different("the end", (0, ""), session.end())
 
 
-def wrong_launch(program: str, path: str, message: str, said: str) -> Iterator[str]:
-    """Where a refused launch isn't answered by this message, or something else is printed."""
-    session = Connection(program, path=path)
+def wrong_fault(program: str, folder: str, is_codelite: bool) -> Iterator[str]:
+    """Where a fault isn't told in words."""
+    session = Editor(is_codelite, program)
     session.send("initialize")
-    session.send("launch", program=MISTAKE)
+    session.send("launch", program=os.path.join(folder, "fault.pl0"))
+    session.send("configurationDone")
+    yield from different("a fault", "division by zero", session.wait_for("stopped")["body"].get("description"))
+    if is_codelite:
+        yield from different("a fault", "fault: division by zero\n", session.receive()["body"]["output"])
+    session.send("disconnect")
+    yield from different("disconnect after it", True, session.receive()["success"])
+    yield from different("the end after it", (0, ""), session.end())
+
+
+def wrong_launch(program: str, launched: str, path: str, message: str, said: str) -> Iterator[str]:
+    """Where a refused launch isn't answered by this message, or something else is printed."""
+    session = Editor(True, program, path=path)
+    session.send("initialize")
+    session.send("launch", program=launched)
     _, answer = session.receive(), session.receive()
     yield from different("a refused launch", message, answer["message"])
     yield from different("the end after it", (0, said), session.end())
@@ -176,18 +388,81 @@ def wrong_port() -> Iterator[str]:
         yield f"a port that is taken: status {run.returncode}, {run.stderr}"
 
 
+def children(process: int) -> list[int]:
+    with open(f"/proc/{process}/task/{process}/children", encoding="ascii") as file:
+        return [int(word) for word in file.read().split()]
+
+
+def flood(session: Editor, folder: str, thread: int) -> tuple[list[str], float]:
+    """What a program that writes without end writes in the outputs up to a stop, and the seconds between a pause and the
+    stop."""
+    session.send("initialize")
+    session.send("launch", program=os.path.join(folder, "writes.pl0"))
+    session.send("configurationDone")
+    session.wait_for("configurationDone")
+    begin, texts, paused = time.monotonic(), [], 0.0
+    while name_of(message := session.receive() or {}) not in ("stopped", None):
+        if name_of(message) == "output":
+            texts.append(message["body"]["output"])
+        if not paused and time.monotonic() - begin > RUNNING:
+            session.send("pause", threadId=thread)
+            paused = time.monotonic()
+    return texts, time.monotonic() - paused
+
+
+def wrong_flood(program: str, folder: str, is_codelite: bool) -> Iterator[str]:
+    """Where such a program isn't paused soon, something that it wrote is lost or out of order, too much is kept, or
+    something is left over after the editor has gone."""
+    session = Editor(is_codelite, program)
+    texts, taken = flood(session, folder, -1 if is_codelite else 1)
+    numbers = "".join(texts).splitlines()
+    with open(f"/proc/{session.child.pid}/status", encoding="ascii") as file:
+        memory = int(MEMORY.search(file.read())[1])
+    print(f"a program that writes without end: {len(numbers)} numbers in {len(texts)} outputs; stopped {taken:.1f} s after "
+          f"the pause; at most {memory} KiB", flush=True)
+    yield from different("numbers in order", True, numbers == [str(one) for one in range(1, len(numbers) + 1)])
+    yield from different("a stop that comes soon", True, taken < SOON)
+    yield from different("little memory", True, memory < MOST_MEMORY)
+    session.send("continue", threadId=1)
+    session.wait_for("output")
+    (adapter,) = children(session.child.pid)
+    session.die()
+    yield from different("the end once the editor has gone", 0, session.child.wait(SOON))
+    yield from different("an adapter that is left", False, os.path.exists(f"/proc/{adapter}"))
+    session.child.stderr.close()
+
+
+def all_wrong(program: str, folder: str) -> Iterator[str]:
+    yield from wrong_changes()
+    yield from wrong_pace()
+    compared = Compared()
+    for is_codelite in (True, False):
+        yield from wrong_streams(is_codelite)
+        for place in SESSIONS:
+            yield from compared.session(place, is_codelite, folder)
+        yield from wrong_session(program, is_codelite)
+        yield from wrong_fault(program, folder, is_codelite)
+        yield from wrong_flood(program, folder, is_codelite)
+    compared.tell()
+    yield from wrong_port()
+    yield from wrong_launch(program, MISTAKE, f"{folder}:/usr/bin:/bin", WORDS, WORDS + "\n")
+    yield from wrong_launch(program, MISTAKE, folder + "/nothing", "syntax 6 2 9", "")
+    words = f"{folder}: {listen.IS_FOLDER}"
+    yield from wrong_launch(program, folder, "/usr/bin:/bin", words, words + "\n")
+
+
 def main() -> int:
+    if len(sys.argv) == 4 and sys.argv[1] == FOLLOW:
+        follow(*sys.argv[2:])
+        return 0
     if len(sys.argv) != 2:
         print(__doc__, file=sys.stderr)
         return 4
     program = os.path.abspath(sys.argv[1])
     with tempfile.TemporaryDirectory() as folder:
-        with open(os.path.join(folder, "pl0"), "w", opener=lambda *place: os.open(*place, mode=0o755),
-                  encoding="ascii") as file:
-            file.write(CHECKER)
-        found = [*wrong_changes(), *wrong_streams(), *wrong_session(program), *wrong_port()]
-        found += wrong_launch(program, f"{folder}:/usr/bin:/bin", WORDS, WORDS + "\n")
-        found += wrong_launch(program, folder + "/nothing", "syntax 6 2 9", "")
+        put_files(folder, {"pl0": CHECKER.encode(), "writes.pl0": WRITES.encode(), "fault.pl0": b"! 1 / 0."})
+        os.chmod(os.path.join(folder, "pl0"), 0o755)
+        found = list(all_wrong(program, folder))
     print("\n".join(found) or "listen.py changes what it says it changes, and nothing else")
     return 1 if found else 0
 

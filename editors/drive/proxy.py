@@ -21,7 +21,7 @@ import threading
 import time
 
 sys.path.insert(0, os.path.join(os.path.dirname(os.path.realpath(__file__)), "..", "..", "checks"))
-from client import ANY_HEADER, Frames  # noqa: E402
+from lib.client import ANY_HEADER, Frames  # noqa: E402
 
 AT_ONCE = 65536
 SIGNALS = (signal.SIGTERM, signal.SIGHUP, signal.SIGINT)

@@ -14,10 +14,12 @@ import json
 import os
 import sys
 import time
+from collections.abc import Iterator
+
+sys.path.insert(0, os.path.join(os.path.dirname(os.path.realpath(__file__)), "..", "..", "checks"))
+from lib.client import Client, frame  # noqa: E402
 
 TOP = os.path.realpath(os.path.join(os.path.dirname(__file__), "..", ".."))
-sys.path.insert(0, os.path.join(TOP, "checks"))
-from client import Client, frame  # noqa: E402
 
 LIMIT = float(os.environ.get("REPLAY_SECONDS", "10"))  # for each message, and for the end
 
@@ -26,20 +28,30 @@ def sent(content: str, is_indented: bool) -> bytes:
     return (json.dumps(json.loads(content), indent=4) + "\n").encode() if is_indented else content.encode()
 
 
-def difference(session: str, command: list[str]) -> str | None:
-    """Plays a session, and says where the adapter first differs from it."""
+def contents(session: str) -> Iterator[tuple[int, str, bytes]]:
+    """The messages of a session: the number of the line, the arrow before it, and the content."""
     with open(session, encoding="utf-8") as file:
         lines = file.read().replace("${folder}", TOP).splitlines()
-    adapter = Client(command, wait=LIMIT, stderr=None)
-    is_indented, found = False, None
+    is_indented = False
     for number, line in enumerate(lines, 1):
         arrow, _, content = line.partition(" ")
         if arrow == "->":
-            adapter.write_now(frame(sent(content, is_indented)))
-        elif arrow == "<-" and (received := adapter.content()) != content.encode():
+            yield number, arrow, sent(content, is_indented)
+        elif arrow == "<-":
+            yield number, arrow, content.encode()
+        is_indented = is_indented or line.startswith("# indented")
+
+
+def difference(session: str, command: list[str]) -> str | None:
+    """Plays a session, and says where the adapter first differs from it."""
+    adapter = Client(command, wait=LIMIT, stderr=None)
+    found = None
+    for number, arrow, content in contents(session):
+        if arrow == "->":
+            adapter.write_now(frame(content))
+        elif (received := adapter.content()) != content:
             found = f"line {number}: {received.decode() if received else 'nothing'}"
             break
-        is_indented = is_indented or line.startswith("# indented")
     adapter.end_input()
     more = None if found else adapter.content()
     status = adapter.status()

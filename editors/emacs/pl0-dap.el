@@ -8,6 +8,7 @@
 ;;; Code:
 
 (require 'dap-mode)
+(require 'dap-hydra)
 (require 'dap-ui)
 (require 'dap-utils)
 
@@ -36,7 +37,8 @@
   (setq-local font-lock-defaults '(pl0-font-lock-keywords t))
   (setq-local imenu-generic-expression '((nil "\\<procedure\\s-+\\([[:alpha:]][[:alnum:]]*\\)" 1)))
   (setq-local tab-width 2)
-  (setq-local indent-tabs-mode nil))
+  (setq-local indent-tabs-mode nil)
+  (display-line-numbers-mode 1))
 
 ;;;###autoload
 (add-to-list 'auto-mode-alist '("\\.pl0\\'" . pl0-mode))
@@ -117,6 +119,20 @@ The program is the current buffer's file.  A text with a mistake is an error."
 (defun pl0-dap-session-p (session)
   "Whether SESSION is with this adapter."
   (equal "pl0" (plist-get (dap--debug-session-launch-args session) :type)))
+
+;; At each stop all commands are shown under one letter each, until `q' or the program's end.
+(defun pl0-dap-show-keys (session)
+  "Show the keys of `dap-hydra' where SESSION is with this adapter and somebody looks."
+  (when (and (pl0-dap-session-p session) (not noninteractive))
+    (call-interactively #'dap-hydra)))
+
+(defun pl0-dap-leave-keys (session)
+  "Leave the keys of `dap-hydra' where SESSION is with this adapter."
+  (when (and (pl0-dap-session-p session) (not noninteractive))
+    (hydra-keyboard-quit)))
+
+(add-hook 'dap-stopped-hook #'pl0-dap-show-keys)
+(add-hook 'dap-terminated-hook #'pl0-dap-leave-keys)
 
 ;; A program has one thread, whose number is 1, so there is nothing to ask.
 ;;;###autoload

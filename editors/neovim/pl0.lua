@@ -2,7 +2,7 @@
 
 vim.api.nvim_create_autocmd({ "BufRead", "BufNewFile" }, { pattern = "*.pl0", command = "setfiletype pl0" })
 
--- What `pl0 check` prints of a mistake begins with its file, line and column: `:make` runs it, and `:cnext` goes there.
+-- What `pl0 check` prints of a mistake begins with its file, line and column: `:make` runs it, and goes there.
 local places = "%f:%l:%c: %trror: %m,%f:%l:%c: %m"
 
 vim.api.nvim_create_autocmd("FileType", {
