@@ -16,6 +16,7 @@ SOURCES = $(CODE) $(shell $(BUILT) -name '*.antt' -print)
 # by side, and for how many seconds `make soak` plays.
 SESSIONS ?= 500
 FROM ?=
+FAST ?=
 JOBS ?= 1
 SOAK ?= 0
 
@@ -23,8 +24,8 @@ INSTALLED = $(DESTDIR)$(PREFIX)
 MANUAL = $(INSTALLED)/share/man/man1
 NEEDS_KIT = command -v rt > /dev/null || { echo "rt, the command of the Rattle kit, isn't on the path: README.md, Try it"; exit 1; }
 
-.PHONY: try test build demo rows hostile soak sessions beside editors clients vsix refusals last-position misuse check plants gate-times \
-  pages threads install uninstall clean bench scripts-of-bench instructions release
+.PHONY: try test build demo rows hostile soak streams sessions beside editors clients vsix refusals last-position compile-fail check \
+  plants gate-times pages threads install uninstall clean bench scripts-of-bench instructions release
 
 # Two debug sessions in short form, a few minutes after a fresh clone. The program stays for an editor.
 try: $(UNPROVED)/pl0dap
@@ -40,26 +41,17 @@ test:
 $(UNPROVED)/%: $(CODE)
 	@python3 tools/unproved.py $* $@
 
+$(UNPROVED)/fast_%: $(CODE)
+	@python3 tools/unproved.py --fast $* $@
+
 build: $(PROGRAM) $(FROM_ZERO) $(PL0)
 
-# Crates of which none is below another are proved side by side.
+# Crates of which none is below another are proved side by side, and the programs built so.
 $(PROVED): $(SOURCES)
-	@python3 tools/prove.py pl0dap pl0
+	@python3 tools/prove.py pl0dap pl0dap_from_zero pl0
 	@mkdir -p $(@D) && touch $@
 
-# `rt run` builds the program and runs it; with no input it serves nobody and ends.
-$(PROGRAM): $(PROVED)
-	cd crates/pl0dap && rt run < /dev/null
-	@touch $@
-
-# The program for editors that number their requests from 0.
-$(FROM_ZERO): $(PROVED)
-	cd crates/pl0dap_from_zero && rt run < /dev/null
-	@touch $@
-
-# The program that runs, checks and lists programs from a shell.
-$(PL0): $(PROVED)
-	cd crates/pl0 && rt run -- --version
+$(PROGRAM) $(FROM_ZERO) $(PL0): $(PROVED)
 	@touch $@
 
 # The example of an adapter for another language.
@@ -74,9 +66,14 @@ $(SPEED): $(PROVED)
 
 # Two debug sessions on examples/factorial.pl0, message by message: a breakpoint with a condition, a stop, questions, a step,
 # the end; and a log point, a stop, steps back, and on again.
-demo: $(PROGRAM)
+demo: say-what-is-built $(PROGRAM)
 	python3 demo/session.py demo/factorial.session $(PROGRAM)
 	python3 demo/session.py demo/back.session $(PROGRAM)
+
+.PHONY: say-what-is-built
+say-what-is-built:
+	@$(MAKE) --silent --question $(PROGRAM) > /dev/null 2>&1 || \
+	  echo "First the program is proved and built, as by 'make build': README.md says how long that takes"
 
 # Worked inputs, whole, a byte at a time and cut at many places, with what must come out; a session that is large in
 # everything; the demo's sessions, one of which stands in docs/PROTOCOL.md; that the examples are those whose listings the gate
@@ -99,8 +96,15 @@ hostile: $(PROGRAM) $(FROM_ZERO)
 soak: $(PROGRAM) $(FROM_ZERO)
 	python3 checks/soak.py --seconds $(SOAK) $(PROGRAM) 480 20
 	python3 checks/soak.py $(FROM_ZERO) 80 20
-	python3 checks/clients.py $(PROGRAM)
-	python3 checks/clients.py $(FROM_ZERO)
+	python3 checks/slow_clients.py $(PROGRAM)
+	python3 checks/slow_clients.py $(FROM_ZERO)
+
+# Random streams, cut at each byte; clients that leave at random moments; and sessions and clients while the threads are hindered
+# where they wait for each other.
+streams: $(PROGRAM)
+	python3 checks/cuts.py $(PROGRAM) 60
+	python3 checks/leave.py $(PROGRAM) 500
+	python3 checks/hindered.py $(PROGRAM) 5
 
 # Random sessions, each message compared with what a plain model of the adapter says.
 sessions: $(PROGRAM)
@@ -148,17 +152,19 @@ threads:
 	@tools/threads/explore.sh
 
 # Whether the files, headings and functions that the pages name are there, and what the model of the threads names, whether
-# functions and lines are short, whether each lemma is used and isn't the library's, and whether each edit can be applied.
+# functions and lines are short, whether README.md has the right sizes, whether each lemma is used and isn't the library's, and
+# nothing stands in specs/ that serves proofs alone, and whether each edit can be applied.
 pages:
 	python3 tools/pages.py
+	python3 tools/sizes.py
 	python3 tools/edits.py
 	python3 tools/dead_lemmas.py
 	python3 tools/known_lemmas.py
 
 # Programs that the compiler must refuse, which the gate can't judge.
-misuse:
+compile-fail:
 	@$(NEEDS_KIT)
-	python3 misuse/check.py
+	python3 compile-fail/check.py
 
 # Each allocation, thread, read and write of the programs refused in turn, once and from there on; short, interrupted and
 # would-block reads and writes; and each allocation of the runs that step a text.
@@ -176,7 +182,7 @@ install:
 	install -D $(PROGRAM) $(INSTALLED)/bin/pl0dap
 	install -D $(FROM_ZERO) $(INSTALLED)/bin/pl0dap_from_zero
 	install -D $(PL0) $(INSTALLED)/bin/pl0
-	install -D editors/codelite/listen.py $(INSTALLED)/bin/pl0dap-listen
+	install -D editors/listen.py $(INSTALLED)/bin/pl0dap-listen
 	install -D -m 644 docs/pl0dap.1 $(MANUAL)/pl0dap.1
 	install -D -m 644 docs/pl0dap_from_zero.1 $(MANUAL)/pl0dap_from_zero.1
 	install -D -m 644 docs/pl0.1 $(MANUAL)/pl0.1
@@ -214,9 +220,11 @@ scripts-of-bench:
 	python3 bench/instructions.py $(SPEED)
 	python3 checks/soak.py $(PROGRAM) 9000 200
 
-# Instructions a step and an answer, beside those that bench/instructions.txt has.
-instructions: $(SPEED)
-	python3 bench/instructions.py $(SPEED)
+# Instructions a step and an answer, beside those that bench/instructions.txt has. With FAST=1 those of a program that nothing is
+# proved of and that is built in minutes; there up to a tenth more is no more than how it was built.
+COUNTED = $(if $(FAST),$(UNPROVED)/fast_speed,$(SPEED))
+instructions: $(COUNTED)
+	python3 bench/instructions.py $(COUNTED)
 
 # Everything that the gate leaves out, with one line each at the end and in out/release.md. It takes hours: `make release
 # FROM=plants` goes on with a run that was broken off.

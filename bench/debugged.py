@@ -6,7 +6,7 @@ usage: debugged.py PROGRAM
 
 PROGRAM is pl0dap. Programs such as students write, of bench/programs, run to their ends in a session without
 breakpoints and in the C interpreter, in turn, so that whatever else the computer does slows both. The figures to hold
-are 3.5 times the C interpreter's steps a second in the median, and 2.3 at least. Then a run of other commands, or under
+are 1.8 times the C interpreter's steps a second in the median, and 1.5 at least. Then a run of other commands, or under
 a breakpoint, is timed in turn with a run of the same text without, and `next` and `stepOut` are to take no longer.
 """
 from __future__ import annotations

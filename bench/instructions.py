@@ -22,16 +22,22 @@ import tempfile
 from typing import NamedTuple
 
 import session
-from client import Frames, frame, request
+sys.path.insert(0, os.path.join(os.path.dirname(os.path.realpath(__file__)), "..", "checks"))
+from lib.client import Frames, frame, request  # noqa: E402
 
 HERE = os.path.dirname(os.path.abspath(__file__))
 RECORD = os.path.join(HERE, "instructions.txt")
 # From how much on a figure counts as moved.
 MOVED = 0.03
 ELSEWHERE = 256
+# In how many frames of a procedure a condition asks for a variable of the last.
+DEEP = (10, 100, 1_000)
 # How often a question is asked.
 ASKED = (1, 3)
-CALLGRIND = ["valgrind", "--tool=callgrind", "--callgrind-out-file=/dev/null"]
+# callgrind counts each byte that `rep movsb` and `rep stosb` move as an instruction: so the C library uses neither.
+NO_REP = "GLIBC_TUNABLES=" + ":".join(
+    f"glibc.cpu.x86_rep_{name}_threshold=0x7fffffffffff" for name in ("movsb", "stosb"))
+CALLGRIND = ["env", NO_REP, "valgrind", "--tool=callgrind", "--callgrind-out-file=/dev/null"]
 HEAD = """# Instructions a step and an answer, as callgrind counts them. Written by `bench/instructions.py --record SPEED` from a
 # proved build of the commit that is named; compared with by `make instructions`. Each line: the figure, a tab, what it is of.
 """
@@ -77,6 +83,16 @@ def in_the_loop(*conditions: str) -> tuple[str, ...]:
     return (str(ELSEWHERE + 6), "1", *conditions)
 
 
+def below(frames: int):
+    """A loop in a procedure of a procedure that has called itself, until it has this many frames; the loop has the
+    variable `a` of the last."""
+    outer = "n := n - 1;\nif n > 0 then call outer;\nif n = 0 then begin n := 0 - 1; call inner end\n"
+    return lambda turns: (
+        f"var n;\nprocedure outer;\nvar a;\nprocedure inner;\nvar x;\nwhile x < {turns} do\nx := x + 1;\n"
+        f"begin\n{outer}end;\nbegin n := {frames}; call outer end.\n"
+    )
+
+
 def runs() -> list[Run]:
     many, few = (100_000, 300_000), (20_000, 60_000)
     count, links, divide = scaled("count", "100000000"), scaled("links", "30000000"), scaled("divide", "50000000")
@@ -94,6 +110,8 @@ def runs() -> list[Run]:
         Run("a step in slices, a false condition in the loop", "slices", loop, few, in_the_loop("x < 0")),
         Run("a step in slices, a false condition of another form", "slices", loop, few, in_the_loop("x + 1 < 0")),
         Run("a step in slices, a hit condition in the loop", "slices", loop, few, in_the_loop("", "1000000")),
+        *(Run(f"a step in slices, a false condition on a variable around, {frames:,} frames", "slices", below(frames),
+              few, ("7", "1", "a < 0")) for frames in DEEP),
         Run("a step in slices, each tenth writes", "slices", writing, few),
         Run("a step of `primes`, in slices", "slices", primes, (1_000, 3_000)),
         Run("a step of `primes`, in a call that `next` passes over", "next", called(primes), (1_000, 3_000)),

@@ -28,10 +28,9 @@ import tempfile
 import threading
 import time
 
+sys.path.insert(0, os.path.join(os.path.dirname(os.path.realpath(__file__)), "..", "checks"))
+from lib import client as protocol  # noqa: E402
 from machine import HERE, interpreter
-
-sys.path.insert(0, os.path.join(HERE, "..", "checks"))
-import client as protocol  # noqa: E402
 
 STARTS = 200
 MANY = 200
@@ -403,7 +402,7 @@ def memory(client: Client) -> str:
 
 
 def show_memory(program: str, folder: str) -> None:
-    for name, stop in (("1 frame", flat()), (f"{DEPTH:,} frames", deep())):
+    for name, stop in (("1 frame", flat()), (f"{DEPTH:,} frames", deep()), (f"{VARIABLES:,} variables", wide())):
         client = stop.reach([program], folder)
         print(f"a stop with {name}: {memory(client)}")
         client.ask("stackTrace", {"threadId": 1})

@@ -6,7 +6,8 @@ usage: shell.py PROGRAM PL0
 PROGRAM is pl0dap, whose `--check` gives the code to the C interpreter. Each of bench/programs runs to its end by all
 three in turn, so that whatever else the computer does slows all. The Pascal program is the text of the PL/0 program
 with another sign or word here and there, and numbers of 64 bits; `fpc -O2 -Co` compiles it, which looks for results
-that don't fit. The figure to hold is 4 times the C interpreter's steps a second. It needs clang and fpc.
+that don't fit. The figures to hold are 4 times the C interpreter's steps a second for `count`, and 3.5 for `links`. It
+needs clang and fpc.
 """
 from __future__ import annotations
 

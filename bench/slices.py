@@ -6,8 +6,8 @@ usage: slices.py SPEED
 SPEED is the program `speed`. It steps the machine alone; it hands a debuggee to the runner, over ports in memory; and
 it runs a debuggee in slices: without breakpoints, with one in the loop whose condition is false, and with 256 at lines
 that are never reached. All run the same text, in turn, so that whatever else the computer does slows each. The figures
-to hold: the runner at least 0.9 of the machine's steps a second, and slices without breakpoints too; with 256 elsewhere
-the same within 5 per cent; with a false condition at least a quarter.
+to hold: slices without breakpoints at least 0.85 of the machine's steps a second; with 256 elsewhere 0.85 of these;
+with a false condition 150 million.
 """
 from __future__ import annotations
 

@@ -19,9 +19,9 @@ import subprocess
 import sys
 import tempfile
 
-from making import Story, make
-from plain_session import Session
-from client import Client, frame, put_files
+from lib.making import Story, make
+from lib.plain_session import Session
+from lib.client import Client, frame, put_files
 
 GAVE_UP = re.compile(r"the session gave up: (.*)")
 # The statuses of the adapter after a framing fault, and after another one.

@@ -1,7 +1,7 @@
 #!/usr/bin/env python3
 """Plays hostile input to the adapter, and compares what comes of it with what docs/PROTOCOL.md says.
 
-usage: hostile.py PROGRAM [FROM_ZERO]
+usage: hostile.py [--stack KIB] PROGRAM [FROM_ZERO]
 
 FROM_ZERO is `pl0dap_from_zero`, to which the cases are played as well. Only the `seq` 0 differs there: it is a number
 like any other.
@@ -13,11 +13,14 @@ and the process has to end with the status and the last line on standard error t
 messages have to run from 1.
 
 Other clients ask one request at a time of a process whose output is full or closed, and keep its input open. The page
-says at which request the reason has to stand on standard error, and that the next one ends the process. Prints a line
-for each case that differs and one for all, and ends with status 1 where one differs.
+says at which request the reason has to stand on standard error, and that the next one ends the process. And the deepest
+content is played to a process with the stack that the page names, or of KIB, as one that isn't proved needs more, and
+with a large environment, which takes a part of it. Prints a line for each case that differs and one for all, and ends
+with status 1 where one differs.
 """
 from __future__ import annotations
 
+import argparse
 import os
 import resource
 import sys
@@ -26,9 +29,9 @@ import time
 from collections.abc import Callable
 from typing import NamedTuple
 
-import client
-from client import Client, frame, put_files
-from notation import said_of
+from lib import client
+from lib.client import Client, frame, put_files
+from lib.notation import said_of
 
 FRESH, READY, CONFIGURING, RUNNING, PRINTING, STOPPED, FAULTED, ENDED = (
     "fresh", "ready", "configuring", "running", "printing", "stopped", "faulted", "ended",
@@ -397,11 +400,11 @@ def ending(after: str | int) -> tuple[int, str]:
     return (2, f"pl0dap: frame {after}") if isinstance(after, int) else (0, "")
 
 
-def difference(program: str, case: Case) -> str | None:
+def difference(program: str, case: Case, adapter: Callable[[str, str], Client] = Client) -> str | None:
     """Plays a case, and says how what comes differs from what must come, or nothing."""
     with tempfile.TemporaryDirectory() as folder:
         put_files(folder, FILES)
-        play, found = Play(program, folder), None
+        play, found = Play(program, folder, adapter), None
         try:
             play.enter(case.situation)
             if case.after == NO_OUTPUT:
@@ -417,6 +420,23 @@ def difference(program: str, case: Case) -> str | None:
         play.adapter.child.kill()
         play.adapter.child.wait()
     return found
+
+
+# ---- The stack
+
+STACK, ENVIRONMENT = 256, 20000  # in KiB, and in bytes
+DEEPEST = Case("the deepest content, with little stack", READY,
+               [request(10, "threads", '{"a":' * 126 + "1" + "}" * 126)], ["ok threads/10"], HEARD)
+
+
+def with_stack(size: int) -> Callable[[str, str], Client]:
+    """Begins processes with a stack of so many KiB, and a large environment."""
+
+    def limit() -> None:
+        resource.setrlimit(resource.RLIMIT_STACK, (size * 1024, size * 1024))
+
+    environment = {**os.environ, "LARGE": "x" * ENVIRONMENT}
+    return lambda program, folder: Client(program, folder, env=environment, preexec_fn=limit)
 
 
 # ---- Outputs that nobody takes any more, and a client that asks one request at a time
@@ -541,9 +561,12 @@ FROM_ZERO = {
 }
 
 
-def differing(program: str, instead: dict[str, Case]) -> int:
+def differing(program: str, instead: dict[str, Case], stack: int) -> int:
     """How many cases differ, of which some are played instead of those of these names. Prints them."""
     wrong = 0
+    if found := difference(program, DEEPEST, with_stack(stack)):
+        wrong += 1
+        print(f"the stack, {stack} KiB, {DEEPEST.name}: {found}", flush=True)
     for topic, cases in CASES.items():
         for case in (instead.get(case.name, case) for case in cases):
             found = difference(program, case)
@@ -555,7 +578,7 @@ def differing(program: str, instead: dict[str, Case]) -> int:
         wrong += found is not None
         if found is not None:
             print(f"outputs, {case.output}, {case.situation}: {found}", flush=True)
-    sizes = {topic: len(cases) for topic, cases in CASES.items()} | {"outputs": len(MUTE)}
+    sizes = {topic: len(cases) for topic, cases in CASES.items()} | {"outputs": len(MUTE), "the stack": 1}
     counts = ", ".join(f"{size} of {topic}" for topic, size in sizes.items())
     name = os.path.basename(program)
     print(f"{name}, {sum(sizes.values())} hostile cases ({counts}): {wrong} differ from docs/PROTOCOL.md", flush=True)
@@ -563,11 +586,14 @@ def differing(program: str, instead: dict[str, Case]) -> int:
 
 
 def main() -> int:
-    if len(sys.argv) not in (2, 3):
-        print(__doc__, file=sys.stderr)
-        return 4
-    program, *from_zero = map(os.path.abspath, sys.argv[1:])
-    wrong = differing(program, {}) + sum(differing(other, FROM_ZERO) for other in from_zero)
+    parser = argparse.ArgumentParser(usage=__doc__.split("\n\n")[1].replace("usage: ", "", 1))
+    parser.add_argument("--stack", type=int, default=STACK)
+    parser.add_argument("program", type=os.path.abspath)
+    parser.add_argument("from_zero", type=os.path.abspath, nargs="?")
+    given = parser.parse_args()
+    wrong = differing(given.program, {}, given.stack)
+    if given.from_zero:
+        wrong += differing(given.from_zero, FROM_ZERO, given.stack)
     return 1 if wrong else 0
 
 

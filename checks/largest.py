@@ -16,7 +16,7 @@ import os
 import sys
 import tempfile
 
-from client import Client, put_files
+from lib.client import Client, put_files
 
 LIMIT = 65_536
 DEPTH = 1_024

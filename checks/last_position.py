@@ -16,7 +16,7 @@ import subprocess
 import sys
 import tempfile
 
-from client import Frames, frame, name_of, request
+from lib.client import Frames, frame, name_of, request
 
 TOP = pathlib.Path(__file__).resolve().parent.parent
 DECLARED = "pub const LAST_POSITION: u64 = 9007199254740991;"
@@ -35,7 +35,7 @@ REQUESTS = [
 
 def copy_crates(top: pathlib.Path) -> None:
     """The crates, with the other last position."""
-    shutil.copytree(TOP / "crates", top / "crates", ignore=shutil.ignore_patterns("out", "must-fail", "plants"))
+    shutil.copytree(TOP / "crates", top / "crates", ignore=shutil.ignore_patterns("out", "must-fail", "plants.txt"))
     for name in ("crates.txt", "HANDLES"):
         shutil.copy(TOP / name, top)
     machine = top / "crates/pl0_machine/src/machine.rt"

@@ -18,7 +18,7 @@ import sys
 import threading
 import time
 
-from client import Frames, frame, request
+from lib.client import Frames, frame, request
 
 REQUESTS = 5000
 # How long nothing is sent, and then nothing read, in seconds.

@@ -26,15 +26,15 @@ TYPES = os.path.join(NODE_PACKAGES, "@vscode", "debugprotocol")
 MISSING = 2
 
 sys.path.append(DRIVE)
-from drive import FROM_ZERO, RECORDED, RECORDINGS, WRITTEN  # noqa: E402
+from drive import RECORDED, RECORDINGS, WRITTEN, command_of  # noqa: E402
 
 
-def recorder(name: str, program: str) -> tuple[str, list[str]]:
+def recorder(name: str, *program: str) -> tuple[str, list[str]]:
     """The place of a new transcript, and the command that stands between a client and the program, and writes it."""
     place = os.path.join(MADE, name)
     if os.path.exists(place):
         os.remove(place)
-    return place, [sys.executable, os.path.join(DRIVE, "proxy.py"), place, program]
+    return place, [sys.executable, os.path.join(DRIVE, "proxy.py"), place, *program]
 
 
 def script(name: str) -> list[str]:
@@ -63,7 +63,7 @@ def play_editors(program: str, from_zero: str) -> tuple[int, list[str]]:
     status, places = 0, []
     for folder, names in ((DRIVE, WRITTEN), (RECORDINGS, RECORDED)):
         for name in names:
-            place, command = recorder(name, from_zero if name in FROM_ZERO else program)
+            place, command = recorder(name, *command_of(name, program, from_zero))
             session = os.path.join(folder, name)
             status |= run(sys.executable, os.path.join(DRIVE, "replay.py"), session, "--", *command)
             places.append(place)

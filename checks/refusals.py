@@ -30,8 +30,7 @@ import sys
 import tempfile
 from collections.abc import Iterator
 
-import feeding
-import notation
+from lib import feeding, notation
 import rows
 
 HERE = os.path.dirname(os.path.abspath(__file__))

@@ -22,11 +22,13 @@ import pathlib
 import platform
 import re
 import shutil
+import signal
 import subprocess
 import sys
+import threading
 import time
 from concurrent.futures import Future, ThreadPoolExecutor
-from typing import NamedTuple
+from typing import NamedTuple, NoReturn
 
 TOP = pathlib.Path(__file__).resolve().parent.parent
 OUT = TOP / "out"
@@ -37,8 +39,10 @@ PASSED, FAILED, PARTLY, MISSING = "passed", "FAILED", "not whole", "not run"
 CORES = sorted(os.sched_getaffinity(0))
 # How many cores the checks in clones have, where as many are left.
 CLONE_CORES = 2
-# The checks that are running, so that they can be ended.
+# The checks that are running, each in a session of its own, so that they can be ended with all that they began.
 RUNNING: set[subprocess.Popen] = set()
+# Whether the release was broken off, so that no further check begins.
+BROKEN_OFF = threading.Event()
 
 
 class Check(NamedTuple):
@@ -62,7 +66,7 @@ CHECKS = [
     Check("pages", "names on pages, lengths of functions and lines"),
     Check("rows", "worked inputs and sessions, both programs"),
     Check("hostile", "hostile inputs, both programs"),
-    Check("misuse", "programs that the compiler must refuse"),
+    Check("compile-fail", "programs that the compiler must refuse"),
     Check("clients", "other clients of the protocol"),
     Check("threads", "the model of the threads, in every interleaving"),
     Check("last-position", "the last position, in a copy of the crates"),
@@ -71,6 +75,7 @@ CHECKS = [
     Check("sessions", "2,000 random sessions beside a plain model", ("SESSIONS=2000",), is_long=True, beside="rows"),
     Check("refusals", "each allocation, thread, read and write refused or hindered, all programs", is_long=True),
     Check("soak", "sessions that leave nothing over, for an hour", ("SOAK=3600",), is_long=True, beside="pages"),
+    Check("streams", "streams cut at each byte, clients that leave, threads hindered", is_long=True),
     Check("plants", "planted bugs, whole", ("JOBS=2",), is_long=True),
     Check("test-again", "all tests in a fresh clone, on two cores", target="test", beside="build", in_clone=True),
     Check("gate-times", "the merge gate from nothing, within its budget", ("BESIDE=1",), is_long=True, beside="build",
@@ -151,6 +156,8 @@ def run(check: Check) -> dict[str, object]:
     target = check.target or check.name
     if not has_target(target):
         return {"result": MISSING, "minutes": 0.0, "last": "the Makefile has no such target"}
+    if BROKEN_OFF.is_set():
+        return {"result": MISSING, "minutes": 0.0, "last": "the release was broken off"}
     LOGS.mkdir(parents=True, exist_ok=True)
     command = ["make", "--no-print-directory", target, *check.variables]
     commands = set(output(*command, "--dry-run").splitlines())
@@ -158,8 +165,8 @@ def run(check: Check) -> dict[str, object]:
     # A process has the cores of the thread that begins it.
     os.sched_setaffinity(0, cores_of(check))
     with open(log, "w", encoding="utf-8") as file:
-        with subprocess.Popen(command, cwd=folder, stdin=subprocess.DEVNULL, stdout=file,
-                              stderr=subprocess.STDOUT) as child:
+        with subprocess.Popen(command, cwd=folder, stdin=subprocess.DEVNULL, stdout=file, stderr=subprocess.STDOUT,
+                              start_new_session=True) as child:
             RUNNING.add(child)
             status = child.wait()
             RUNNING.remove(child)
@@ -168,6 +175,19 @@ def run(check: Check) -> dict[str, object]:
     is_partly = bool(failures) and all(number in check.partly for number in failures)
     result = PASSED if status == 0 else PARTLY if is_partly else FAILED
     return {"result": result, "minutes": (time.monotonic() - begin) / 60, "last": last_line(text, commands)}
+
+
+def break_off(why: str) -> NoReturn:
+    """Ends the checks that are running, and the release."""
+    BROKEN_OFF.set()
+    for child in set(RUNNING):
+        if child.poll() is None:
+            os.killpg(child.pid, signal.SIGTERM)
+    sys.exit(why)
+
+
+def on_signal(number: int, _frame: object) -> None:
+    break_off(f"ended by {signal.Signals(number).name}")
 
 
 def line(name: str, found: dict) -> str:
@@ -218,9 +238,7 @@ def run_all(checks: list[Check], who: dict[str, str], results: dict[str, dict]) 
             STATE.write_text(json.dumps({"who": who, "results": results}, indent=1), encoding="utf-8")
             PAGE.write_text(page(who, results), encoding="utf-8")
             if identity()["commit"] != who["commit"] or changed():
-                for child in set(RUNNING):
-                    child.terminate()
-                sys.exit(f"the tree changed while {check.name} ran: what was found is of no commit")
+                break_off(f"the tree changed while {check.name} ran: what was found is of no commit")
 
 
 def main() -> int:
@@ -233,6 +251,8 @@ def main() -> int:
     who.update({"computer": computer(), "begun": time.strftime("%Y-%m-%d %H:%M UTC", time.gmtime()),
                 "load": f"{os.getloadavg()[0]:.2f}"})
     OUT.mkdir(exist_ok=True)
+    for number in (signal.SIGINT, signal.SIGTERM, signal.SIGHUP):
+        signal.signal(number, on_signal)
     print("\n".join(f"{name}: {what}" for name, what in who.items()), flush=True)
     run_all(CHECKS[NAMES.index(sys.argv[1]) if sys.argv[1:] else 0:], who, results)
     print("\n".join(["", *(line(name, found) for name, found in results.items())]))

@@ -19,9 +19,9 @@ import sys
 from collections.abc import Iterator
 from typing import NamedTuple
 
-import notation
-from client import Client, frame, request
-from worked import differences
+from lib import notation
+from lib.client import Client, frame, request
+from lib.worked import differences
 
 TOP = os.path.join(os.path.dirname(os.path.abspath(__file__)), "..")
 

@@ -22,11 +22,11 @@ import tempfile
 import time
 from collections.abc import Callable
 
-from interleavings import Following, Item, Write, breach, items_of
-from making import Part, Story, ending, make
-from plain_pl0 import Machine, Program, RunFault
-from plain_session import GOING_BACK, RESUMING, FrameFault, Frames, Session, request_of
-from client import Client, put_files
+from lib.interleavings import Following, Item, Write, breach, items_of
+from lib.making import Part, Story, ending, make
+from lib.plain_pl0 import Machine, Program, RunFault
+from lib.plain_session import GOING_BACK, RESUMING, FrameFault, Frames, Session, request_of
+from lib.client import Client, put_files
 
 WORD = re.compile(rb"\s+|[A-Za-z0-9]+|[^\sA-Za-z0-9]+")
 # How often a session whose output may differ from one time to the next is played before it counts as lawful.

@@ -27,7 +27,7 @@ import tempfile
 import threading
 import time
 
-from client import Client, Wrong, name_of, put_files
+from lib.client import Client, Wrong, name_of, put_files
 
 MOST_SECONDS = 300
 MOST_SECONDS_EACH = 30

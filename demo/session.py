@@ -3,7 +3,7 @@
 
 usage: session.py [--short] SESSION PROGRAM [ARGUMENT..]
 
-SESSION is written as checks/notation.py says. Requests are sent when all messages that stand before them have come;
+SESSION is written as checks/lib/notation.py says. Requests are sent when all messages that stand before them have come;
 where some are joined by `+`, at once. The input ends after the last of them.
 
 With --short, each message is printed by what it says, and not as it is. The status is that of the program, or 1 where a
@@ -16,9 +16,9 @@ import json
 import os
 import sys
 
-sys.path.insert(0, os.path.join(os.path.dirname(os.path.abspath(__file__)), "..", "checks"))
-from client import Client, name_of  # noqa: E402
-from notation import Exchange, detail, sessions  # noqa: E402
+sys.path.insert(0, os.path.join(os.path.dirname(os.path.realpath(__file__)), "..", "checks"))
+from lib.client import Client, name_of  # noqa: E402
+from lib.notation import Exchange, detail, sessions  # noqa: E402
 
 
 def short(content: str) -> str:

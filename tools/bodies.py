@@ -5,6 +5,8 @@ import pathlib
 import re
 from typing import NamedTuple
 
+from edits import Edit
+
 FUNCTION = re.compile(r"( *)(?:pub(?:\([^)]*\))? )?(?:const )?fn (\w+)")
 
 
@@ -32,19 +34,19 @@ class Function(NamedTuple):
         return re.fullmatch(name, path) is not None
 
 
-class Edit(NamedTuple):
+class BodyEdit(NamedTuple):
     """An edit that changes nothing but the bodies of functions."""
 
-    path: pathlib.Path
+    name: str
     changes: tuple[Change, ...]
     functions: frozenset[Function]
 
 
-def changes_of(path: pathlib.Path, crate: pathlib.Path) -> list[Change] | None:
+def changes_of(edit: Edit, crate: pathlib.Path) -> list[Change] | None:
     """What an edit changes; None where one of its texts doesn't stand exactly once in a file as it is."""
     found: list[Change] = []
     file = old = ""
-    for line in path.read_text(encoding="utf-8").splitlines():
+    for line in edit.text.splitlines():
         kind, _, text = line.partition(" ")
         if kind == "file:":
             file = text
@@ -100,21 +102,21 @@ def function_at(change: Change, crate: pathlib.Path) -> Function | None:
     return Function(change.file, around[0])
 
 
-def edit_of_bodies(path: pathlib.Path, crate: pathlib.Path) -> Edit | None:
+def edit_of_bodies(edit: Edit, crate: pathlib.Path) -> BodyEdit | None:
     """The edit, if it changes bodies alone, each line once."""
-    changes = changes_of(path, crate)
+    changes = changes_of(edit, crate)
     if not changes or any(not change.file.startswith("src/") for change in changes):
         return None
     functions = [function_at(change, crate) for change in changes]
     lines = {(change.file, change.line) for change in changes}
     if None in functions or len(lines) < len(changes):
         return None
-    return Edit(path, tuple(changes), frozenset(one for one in functions if one))
+    return BodyEdit(edit.name, tuple(changes), frozenset(one for one in functions if one))
 
 
-def apart(edits: list[Edit], most: int) -> list[list[Edit]]:
+def apart(edits: list[BodyEdit], most: int) -> list[list[BodyEdit]]:
     """The edits in groups of at most so many, in each of which no two change one function."""
-    groups: list[list[Edit]] = []
+    groups: list[list[BodyEdit]] = []
     for edit in edits:
         fitting = (group for group in groups
                    if len(group) < most and all(not edit.functions & other.functions for other in group))
@@ -126,7 +128,7 @@ def apart(edits: list[Edit], most: int) -> list[list[Edit]]:
     return groups
 
 
-def apply(edits: list[Edit], crate: pathlib.Path) -> dict[pathlib.Path, str]:
+def apply(edits: list[BodyEdit], crate: pathlib.Path) -> dict[pathlib.Path, str]:
     """Makes the changes of all these edits, and returns the files as they were."""
     before: dict[pathlib.Path, str] = {}
     for change in (change for edit in edits for change in edit.changes):

@@ -1,12 +1,14 @@
 #!/usr/bin/env python3
-"""Finds lemmas and definitions that nothing names.
+"""Finds lemmas that nothing uses, and what stands in specs/ and need not be believed.
 
-usage: tools/dead_lemmas.py [--specs] [CRATE..]
+usage: tools/dead_lemmas.py [CRATE..]
 
-A name is used where an answer to a goal, an invariant, a source or a worked example leads to it, through other lemmas
-and definitions. Names are followed through imports, so two lemmas of one name aren't taken for each other. Prints a
-line for each dead lemma of the crates, or of all if none is given; with --specs for each dead definition too. Says on
-standard error how many these are, and in how many lines. Ends with status 1 where there is one.
+A lemma is used where an answer to a goal, an invariant, a source or a worked example leads to it, through other lemmas
+and definitions. To what stands in specs/ a contract, another line of a source or a worked example has to lead, through
+definitions alone: what serves proofs alone belongs into proofs/. Names are followed through imports, so two lemmas of
+one name aren't taken for each other. Prints a line for each lemma and definition of the crates, or of all if none is
+given, that isn't used so. Says on standard error how many these are, and in how many lines. Ends with status 1 where
+there is one.
 """
 import re
 import sys
@@ -123,10 +125,9 @@ def imports(path: str, items: str | None, alias: str | None) -> Iterator[tuple[s
 
 
 class Tree:
-    """All files, and which paragraphs are alive."""
+    """Files, and which of their paragraphs are alive."""
 
-    def __init__(self) -> None:
-        files = sorted(TOP.glob("crates/*/proofs/**/*.antt")) + sorted(TOP.glob("crates/*/specs/**/*.antt"))
+    def __init__(self, files: list[Path]) -> None:
         self.modules = {module.name: module for module in map(Module, files)}
         self.alive: set[tuple[str, int]] = set()
         self.work: list[tuple[str, int]] = []
@@ -186,10 +187,11 @@ class Tree:
         for path in re.findall(r"crate::((?:proofs|specs)(?:::\w+)+)", text):
             self.reach(self.meant(f"Rattle.{crate}.{path.replace('::', '.')}"))
 
-    def dead(self, crates: list[str], specs: bool) -> Iterator[tuple[Module, Paragraph]]:
+    def dead(self, crates: list[str], kind: str) -> Iterator[tuple[Module, Paragraph]]:
+        """The paragraphs of proofs/ or of specs/ that aren't alive."""
         for module in self.modules.values():
-            crate, kind = module.name.split(".")[1:3]
-            if crates and crate not in crates or kind == "specs" and not specs:
+            crate, own_kind = module.name.split(".")[1:3]
+            if crates and crate not in crates or own_kind != kind:
                 continue
             for index, paragraph in enumerate(module.paragraphs):
                 if paragraph.names and (module.name, index) not in self.alive:
@@ -197,9 +199,12 @@ class Tree:
 
 
 def main() -> int:
-    tree = Tree()
-    tree.live()
-    dead = list(tree.dead([word for word in sys.argv[1:] if word != "--specs"], "--specs" in sys.argv))
+    files = sorted(TOP.glob("crates/*/proofs/**/*.antt")) + sorted(TOP.glob("crates/*/specs/**/*.antt"))
+    believed = [file for file in files if "specs" in file.parts or WORKED.search(str(file))]
+    whole, definitions = Tree(files), Tree(believed)
+    whole.live()
+    definitions.live()
+    dead = [*whole.dead(sys.argv[1:], "proofs"), *definitions.dead(sys.argv[1:], "specs")]
     for module, paragraph in dead:
         print(f"{module.file}:{paragraph.line} {' '.join(sorted(paragraph.names))}")
     print(f"{len(dead)} dead, {sum(paragraph.lines for _, paragraph in dead)} lines", file=sys.stderr)

@@ -24,17 +24,19 @@ from pages import VERSIONS
 from scratch import TOP
 
 PROVED = ("pl0dap", "pl0dap_from_zero", "pl0")
-PAGES = ("docs/EDITORS.md", "docs/PL0.md", "docs/pictures/emacs.png", "LICENSE")
+PAGES = ("docs/EDITORS.md", "docs/PL0.md", "docs/TEACHING.md", "docs/pictures/emacs.png", "LICENSE")
 FOLDERS = ("editors", "examples")
 LEFT_OUT = shutil.ignore_patterns("drive", "*.py", "__pycache__")
 INSTALL = """# pl0dap {version}, for Linux on x86-64
 
 A debug adapter for PL/0, the program `pl0`, and files for editors.
 
-    cp -r bin share ~/.local
+    mkdir -p ~/.local && cp -r bin share ~/.local
 
-This is what `make install` does; `~/.local/bin` has to be in your `PATH`. `docs/EDITORS.md` says what to do in each editor;
-what it calls `out/pl0.vsix` is `editors/pl0.vsix` here. `docs/PL0.md` describes the language. Where a link leads to no file
+This is what `make install` does. `~/.local/bin` has to be in your `PATH`, which `echo $PATH` shows: Debian puts it there
+when you log in next, now that the folder exists. `docs/EDITORS.md` says what to do in each editor; what it calls
+`out/pl0.vsix` is `editors/pl0.vsix` here, and `editors/listen.py` is `bin/pl0dap-listen`. `docs/PL0.md` describes the
+language, and `docs/TEACHING.md` has lessons, of which 1, 3 and 4 need no more than this. Where a link leads to no file
 here, it leads to a page of the repository. The programs need glibc {glibc} or later, `pl0dap-listen` Python 3.8 or later.
 
 To remove it:

@@ -1,25 +1,22 @@
 #!/usr/bin/env python3
 """Checks what pages and sources say about themselves and each other: names, lengths of functions and of lines.
 
-usage: pages.py [--laws | --size]
+usage: pages.py
 
 In README.md, CHANGELOG.md and docs/*.md a link has to lead to a file, and to a heading where it names one. A name in
 backquotes that ends like a source file or a script has to be that of a file of the repository, or the end of its path;
 names that stand for others, such as `src/NAME.rt`, aren't looked at. A name that stands with its file, as in "`NAME`
 (`FILE`)", "(`NAME`, `FILE`)", "`NAME`: `FILE`" and "`NAME` in `FILE`", or before its file in a row of a table, has to
-be declared in that file. Prose has lines of at most 124 columns. In docs/PROMISES.md stand the name of each law of a
-session's history and of each of its clauses. The version in the first line of the program's help is that of the manual
-pages, of the extension, and of the newest changes. In the model of the threads each process and inline names, in the
-comment before it, what it stands for: `@ FILE: NAME, NAME`. The files and their functions, types and variants have to
-be there, and a size, `@size FILE: NAME (VALUE)`, has to be the constant's.
+be declared in that file. Prose has lines of at most 124 columns. The tables of laws in docs/PROMISES.md have to be
+those that laws.py writes. The version in the first line of the program's help is that of the manual pages, of the
+extension, and of the newest changes. In the model of the threads each process and inline names, in the comment before
+it, what it stands for: `@ FILE: NAME, NAME`. The files and their functions, types and variants have to be there, and a
+size, `@size FILE: NAME (VALUE)`, has to be the constant's.
 
 In sources no function has over 40 lines, contracts not counted, but those of LONG_FUNCTIONS. Lines of contracts,
 definitions and proofs have at most 120 columns, but for imports, which the kit keeps on one line, and names of goals.
 
-Prints what is wrong, and ends with status 1 where anything is. With --laws it prints instead, for each law function
-that proofs answer, each of its clauses, what that says, and the lemmas by which it is answered, with their files. With
---size it prints the figures that README.md has in thousands, lines that aren't blank: of code with its contracts, of
-definitions and of proofs, without the crates of tests; and of code in these.
+Prints what is wrong, and ends with status 1 where anything is.
 """
 from __future__ import annotations
 
@@ -28,6 +25,7 @@ import re
 import sys
 from collections.abc import Iterator
 
+from laws import wrong_laws
 from scratch import TOP
 
 COLUMNS = 124
@@ -37,6 +35,8 @@ FUNCTION_LINES = 40
 LONG_FUNCTIONS = {
     ("crates/adapter/src/serving.rt", "serve_over"):
         "nine parameters with their bounds, on 19 lines; four tasks, of which one proof speaks",
+    ("crates/dap_server/src/working.rt", "serve_worker"):
+        "an arm for each item that comes, and one for the adapter's work, as the proof has cases",
     ("crates/pl0_machine/src/finish.rt", "take_turn"):
         "one line for each of 38 operations",
     ("crates/pl0_machine/src/take.rt", "take"):
@@ -48,13 +48,6 @@ LINK = re.compile(r"\]\(([^)#]*)(?:#([^)]*))?\)")
 NAME = re.compile(r"`([\w./*-]+\.(?:rt|antt|py|edit|session|md|lua|json|el|txt|c))`")
 # What stands for a name, and what begins a file of a user's own.
 STANDS_FOR = re.compile(r"NAME|MODULE|\bName\b|\bX\.|/F/|^\.")
-# A law function with its clauses, and one of these; the answer to a goal of one, and a lemma file with what is used of
-# it.
-LAW = re.compile(r"^pub fn (\w+_laws)\(.*\)\n((?:    (?:ensures|//| ) .*\n)+)", re.MULTILINE)
-CLAUSE = re.compile(r"^    ensures (\w*) ?\{ (.*?) \}$", re.MULTILINE | re.DOTALL)
-ANSWER = re.compile(r"^returns(?:-clause-(\w+))? c =(.*?)(?=^pub |\Z)", re.MULTILINE | re.DOTALL)
-LEMMAS = re.compile(r"^use Rattle\.(\w+)\.proofs\.(?!Common\.)([\w.]+)\.\{(.*)\}$", re.MULTILINE)
-HISTORY_LAWS = TOP / "crates" / "dap_history" / "src" / "laws.rt"
 VERSION = r"(\d+\.\d+\.\d+)"
 # Where the version stands, and what says it there: first where it is defined.
 VERSIONS = {
@@ -89,9 +82,6 @@ NAMED = [
     re.compile(rf"({WORDS}) in ({FILES})"),
     re.compile(rf"\| (?:[^|`]* )?({WORDS}) \| ({FILES}) \|"),
 ]
-# What a crate's size counts; and the crates of tests: these, what they stand on, stored runs, and benchmarks.
-SIZED = ("src/**/*.rt", "specs/**/*.antt", "proofs/**/*.antt")
-OF_TESTS = ("*_tests", "*_runs", "test_kit", "sample_programs", "speed")
 MODEL = TOP / "tools" / "threads" / "threads.pml"
 # What a part of the model stands for, below crates/; the size of a queue in the code; and a part of the model.
 STANDS_BESIDE = re.compile(r"@ (\S+\.rt): ([\w:]+(?:, [\w:]+)*)")
@@ -172,32 +162,6 @@ def misplaced(page: pathlib.Path, files: list[pathlib.Path]) -> Iterator[str]:
             for name in re.findall(r"`([\w:]+)`", names):
                 if held and not any(declares(text, name.split("::")[-1]) for text in held):
                     yield f"{page.relative_to(TOP)}:{number}: {name} isn't in {places}"
-
-
-def wrong_laws() -> Iterator[str]:
-    """The laws of a session's history, and their clauses, that docs/PROMISES.md doesn't name."""
-    page = (TOP / "docs" / "PROMISES.md").read_text(encoding="utf-8")
-    for law, clauses in LAW.findall(HISTORY_LAWS.read_text(encoding="utf-8")):
-        for name in (law, *(clause for clause, _ in CLAUSE.findall(clauses))):
-            if name and f"`{name}`" not in page:
-                yield f"docs/PROMISES.md: {name} of {law} isn't named"
-
-
-def answered_laws() -> Iterator[tuple[str, str, str, str]]:
-    """Each clause of a law that its proofs answer: the law, the clause, what it says, and the lemmas with their
-    files."""
-    for answers in sorted(TOP.glob("crates/*/proofs/**/*_laws/Answers.antt")):
-        crate, text = answers.relative_to(TOP).parts[1], answers.read_text(encoding="utf-8")
-        sources = "".join(file.read_text(encoding="utf-8")
-                          for file in sorted((TOP / "crates" / crate / "src").rglob("*.rt")))
-        says = dict(CLAUSE.findall(dict(LAW.findall(sources)).get(answers.parent.name, "")))
-        used = [(name.strip(), f"{of}/proofs/{path.replace('.', '/')}.antt")
-                for of, path, names in LEMMAS.findall(text) if of == crate for name in names.split(",")]
-        for clause, body in ANSWER.findall(text):
-            lemmas = [f"{name} ({file})" for name, file in used
-                      if re.search(rf"(?<![\w-]){re.escape(name)}(?![\w-])", body)]
-            said = says.get(clause, "") if clause else " ".join(says.values())
-            yield answers.parent.name, clause or " ".join(says), said, ", ".join(lemmas)
 
 
 def long_logic() -> Iterator[str]:
@@ -295,28 +259,7 @@ def long_contracts() -> Iterator[str]:
                 yield f"{file.relative_to(TOP)}:{number}: {len(line)} columns"
 
 
-def lines_of(crates: list[pathlib.Path], files: str) -> int:
-    """How many lines of these files of crates aren't blank."""
-    texts = (file.read_text(encoding="utf-8") for crate in crates for file in crate.glob(files))
-    return sum(bool(line.strip()) for text in texts for line in text.splitlines())
-
-
-def size() -> str:
-    """The size of the crates, as README.md has it in thousands of lines."""
-    crates = [crate for crate in (TOP / "crates").iterdir() if (crate / "src").is_dir()]
-    tests = [crate for crate in crates if any(crate.match(name) for name in OF_TESTS)]
-    others = [crate for crate in crates if crate not in tests]
-    code, definitions, proofs = (lines_of(others, files) for files in SIZED)
-    return f"code {code}, definitions {definitions}, proofs {proofs}; tests {lines_of(tests, SIZED[0])}"
-
-
 def main() -> int:
-    if sys.argv[1:] == ["--laws"]:
-        print("\n".join("\t".join(row) for row in answered_laws()))
-        return 0
-    if sys.argv[1:] == ["--size"]:
-        print(size())
-        return 0
     files = [file for file in TOP.rglob("*")
              if file.is_file() and not {"out", ".git", "__pycache__"} & set(file.relative_to(TOP).parts)]
     found = [one for page in pages() for one in (*wrong(page, files), *misplaced(page, files))]

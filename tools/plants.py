@@ -3,12 +3,12 @@
 
 usage: plants.py [--jobs N] [--outdated] [CRATE..]
 
-The edits of `crates/CRATE/plants/` have the form of those of `must-fail/`. For each crate that is named they are tried
-in a copy of it, over the work that is kept in `out/`; N crates are tried side by side. A function's proof rests on its
-own body, and on no other. So those that change bodies alone are tried many at once, no two in one function: each that
-has a function which isn't proved any more is refused. All others are given to a copy of the crate in place of its
-must-fail edits, and `rt must-fail` tries them one by one. Prints a line for each edit, and at the end one that counts
-those that were refused, those that got through and those that were not judged.
+The edits are the blocks of `crates/CRATE/plants.txt` (edits.py). For each crate that is named they are tried in a copy of
+it, over the work that is kept in `out/`; N crates are tried side by side. A function's proof rests on its own body, and
+on no other. So those that change bodies alone are tried many at once, no two in one function: each that has a function
+which isn't proved any more is refused. All others are given to a copy of the crate in place of its must-fail edits, and
+`rt must-fail` tries them one by one. Prints a line for each edit, and at the end one that counts those that were
+refused, those that got through and those that were not judged.
 
 What was found is written to tools/plants.txt: a row for each crate, with a checksum of the kit's logic, of the crate
 with its plants, and of the sources and definitions of the crates below, all without lines of comments, but for those
@@ -33,7 +33,8 @@ from concurrent.futures import ThreadPoolExecutor
 from subprocess import PIPE, STDOUT
 from typing import NamedTuple
 
-from bodies import Edit, apart, apply, edit_of_bodies
+from bodies import BodyEdit, apart, apply, edit_of_bodies
+from edits import Edit, plants_of
 from scratch import TOP, crate_lines, crate_names, libraries, scratch_copy
 
 ANSWER = re.compile(r"rt: must-fail \S+/(\S+)\.edit: (refused|NOT REFUSED|BAD EDIT)(.*)")
@@ -45,7 +46,7 @@ TAKEN_AWAY = re.compile(r"has no field|is not in scope|has no `|was not admitted
 # What a line of comments begins with, by the ending of the file's name.
 COMMENTS = {".rt": b"//", ".antt": b"--"}
 # A text that an edit takes away.
-QUOTED = re.compile(rb"^old: *(\S.*?) *$", re.MULTILINE)
+QUOTED = re.compile(r"^old: *(\S.*?) *$", re.MULTILINE)
 # How many edits are tried at once.
 AT_ONCE = 12
 RECORD = TOP / "tools" / "plants.txt"
@@ -85,17 +86,17 @@ def content(file: pathlib.Path, quoted: frozenset[bytes] = frozenset()) -> bytes
                     or any(text in line for text in quoted))
 
 
-def quoted_by(plants: list[pathlib.Path]) -> frozenset[bytes]:
+def quoted_by(plants: list[Edit]) -> frozenset[bytes]:
     """The texts that edits take away."""
-    return frozenset(text for path in plants for text in QUOTED.findall(path.read_bytes()))
+    return frozenset(text.encode() for plant in plants for text in QUOTED.findall(plant.text))
 
 
 def sum_of(name: str) -> str:
     """A checksum of all that decides what becomes of a crate's plants."""
     found = hashlib.sha256(logic_of_kit().encode())
     crates, quoted = TOP / "crates", quoted_by(plants_of(name))
-    contents = [(file, content(file, quoted))
-                for file in files_below(crates / name, "src", "specs", "proofs", "plants")]
+    contents = [(file, content(file, quoted)) for file in files_below(crates / name, "src", "specs", "proofs")]
+    contents += [(crates / name / "plants" / f"{plant.name}.edit", plant.text.encode()) for plant in plants_of(name)]
     contents += [(file, content(file)) for library in libraries(name)
                  for file in files_below(crates / library, "src", "specs")]
     for file, text in contents:
@@ -125,20 +126,16 @@ def verdict(answer: str, rest: str) -> str:
     return "GOT THROUGH" if answer == "NOT REFUSED" else f"CAN'T BE TRIED{rest}"
 
 
-def plants_of(name: str) -> list[pathlib.Path]:
-    return sorted((TOP / "crates" / name / "plants").glob("*.edit"))
-
-
-def says_little(edit: Edit, printed: str) -> bool:
+def says_little(edit: BodyEdit, printed: str) -> bool:
     """Whether all that is said of the edit's functions is that their proofs name something that it took away."""
     of_edit = [text for file, text in AT_A_PROOF.findall(printed)
                if any(f"/{one.name}/" in file for one in edit.functions)]
     return bool(of_edit) and all(TAKEN_AWAY.search(text) for text in of_edit)
 
 
-def refused_at_once(edits: list[Edit], crate: pathlib.Path) -> set[pathlib.Path]:
-    """Those of the edits that are refused in a check of the crate with all of them; none where that judges nothing, or
-    where a function isn't proved that none of them changes."""
+def refused_at_once(edits: list[BodyEdit], crate: pathlib.Path) -> set[str]:
+    """The names of those edits that are refused in a check of the crate with all of them; none where that judges
+    nothing, or where a function isn't proved that none of them changes."""
     work, before = crate / "out" / "incremental", apply(edits, crate)
     kept = crate / "out" / "kept"
     subprocess.run(["cp", "-a", "--reflink=auto", work, kept], check=True)
@@ -154,45 +151,45 @@ def refused_at_once(edits: list[Edit], crate: pathlib.Path) -> set[pathlib.Path]
     is_open = {path for path, said in judged if not said.startswith("proved") and not RESTS_ON_ANOTHER.match(said)}
     if "logic=not-proved" not in run.stdout or len(set(named)) < len(named) or not is_open <= set(named):
         return set()
-    return {edit.path for edit, paths in by_edit.items() if paths & is_open and not says_little(edit, run.stdout)}
+    return {edit.name for edit, paths in by_edit.items() if paths & is_open and not says_little(edit, run.stdout)}
 
 
-def refused_together(plants: list[pathlib.Path], crate: pathlib.Path) -> set[pathlib.Path]:
-    """Those of the plants that are refused with others, in a copy of the crate that is proved as it is."""
+def refused_together(plants: list[Edit], crate: pathlib.Path) -> set[str]:
+    """The names of those plants that are refused with others, in a copy of the crate that is proved as it is."""
     edits = [edit for edit in (edit_of_bodies(plant, crate) for plant in plants) if edit]
     check = ["rt", "check", "--jobs", "1"]
     if not edits or subprocess.run(check, cwd=crate, stdout=PIPE, stderr=STDOUT).returncode != 0:
         return set()
-    found: set[pathlib.Path] = set()
+    found: set[str] = set()
     groups = apart(edits, AT_ONCE)
     while groups:
         group = groups.pop()
         refused = refused_at_once(group, crate)
         found |= refused
-        left = [edit for edit in group if edit.path not in refused]
+        left = [edit for edit in group if edit.name not in refused]
         if len(left) > 1:
             groups += [left] if refused else [left[::2], left[1::2]]
     return found
 
 
-def tried_alone(plants: list[pathlib.Path], crate: pathlib.Path) -> str:
+def tried_alone(plants: list[Edit], crate: pathlib.Path) -> str:
     """What `rt must-fail` prints of a copy of the crate that has these plants alone."""
     edits = crate / "must-fail"
     shutil.rmtree(edits, ignore_errors=True)
     edits.mkdir()
     for plant in plants:
-        shutil.copy(plant, edits)
+        (edits / f"{plant.name}.edit").write_text(plant.text, encoding="utf-8")
     return subprocess.run(["rt", "must-fail", crate.name], cwd=crate.parent.parent, stdout=PIPE, stderr=STDOUT,
                           text=True).stdout
 
 
-def tried(name: str, plants: list[pathlib.Path]) -> str:
+def tried(name: str, plants: list[Edit]) -> str:
     """A line for each plant, as `rt must-fail` prints it."""
     with scratch_copy(name) as top:
         crate = top / "crates" / name
         refused = refused_together(plants, crate)
-        lines = [f"rt: must-fail {name}/{plant.name}: refused, with others" for plant in plants if plant in refused]
-        rest = [plant for plant in plants if plant not in refused]
+        lines = [f"rt: must-fail {name}/{plant}.edit: refused, with others" for plant in sorted(refused)]
+        rest = [plant for plant in plants if plant.name not in refused]
         return "\n".join([*lines, tried_alone(rest, crate) if rest else ""])
 
 

@@ -1,15 +1,15 @@
 #!/usr/bin/env python3
 """Proves the libraries of programs, side by side where none stands below another, those with the longest chain above
-them first.
+them first; and then the programs, which it builds side by side.
 
-usage: prove.py CRATE..
+usage: prove.py PROGRAM..
 
 While `rt` works on a crate it keeps others from all crates below it, so a checkout proves nearly one crate at a time.
 So a few copies of the crates are made, in a temporary folder; in each a library at a time is proved, and what `rt`
-keeps of it in `out/` is brought to the checkout, from where the other copies take it: `rt run` then finds all libraries
-proved. COPIES says how many, by default one a processor, as far as there is memory: each takes up to 5 GB. Prints a
-line for each library as it is proved, and what `rt` printed where one isn't: then the status is 1, and those above it
-aren't tried.
+keeps of it in `out/` is brought to the checkout, from where the other copies take it; so is a program, once it is built.
+COPIES says how many, by default one a processor, as far as there is memory: each takes up to 5 GB. Prints a line for each
+library as it is proved and each program as it is built, and what `rt` printed where one isn't: then the status is 1, and
+those above it aren't tried.
 """
 from __future__ import annotations
 
@@ -32,16 +32,20 @@ PROVED, WORK = "rlib", "incremental"
 
 
 class Proof(NamedTuple):
-    """How a library's proof went: its status, what was printed, and the minutes."""
+    """How the proof of a library or program went: its status, what was printed, and the minutes."""
 
     status: int
     text: str
     minutes: float
 
 
-def libraries_of(programs: list[str]) -> list[str]:
-    """The libraries below these crates, each once."""
-    return list(dict.fromkeys(library for program in programs for library in libraries(program)))
+def with_libraries(programs: list[str]) -> list[str]:
+    """These programs, and the libraries below them, each once."""
+    return [*dict.fromkeys(library for program in programs for library in libraries(program)), *programs]
+
+
+def is_program(name: str) -> bool:
+    return (TOP / "crates" / name / "src" / "main.rt").is_file()
 
 
 def lines_of(crate: str) -> int:
@@ -60,7 +64,7 @@ def chains(names: list[str]) -> dict[str, int]:
 
 def copy_to(folder: pathlib.Path) -> pathlib.Path:
     """Copies the repository's crates, without what was built of them."""
-    ignored = shutil.ignore_patterns("out", "must-fail", "plants")
+    ignored = shutil.ignore_patterns("out", "must-fail", "plants.txt")
     shutil.copytree(TOP / "crates", folder / "crates", ignore=ignored)
     for name in ("crates.txt", "HANDLES"):
         shutil.copy(TOP / name, folder)
@@ -91,25 +95,35 @@ def bring(name: str, part: str, source: pathlib.Path, target: pathlib.Path) -> N
         subprocess.run(["cp", "-a", "--reflink=auto", kept, place], check=True)
 
 
+def bring_program(name: str, source: pathlib.Path) -> None:
+    """Copies a program to the checkout from a copy of the repository in which it was built."""
+    place = TOP / "crates" / name / "out"
+    place.mkdir(exist_ok=True)
+    shutil.copy(source / "crates" / name / "out" / name, place)
+
+
 def prove(top: pathlib.Path, name: str, processors: int) -> Proof:
-    """Proves a library in a copy of the repository, over what the checkout keeps of those below, and brings it
-    there."""
+    """Proves a library, or builds a program, in a copy of the repository, over what the checkout keeps of the libraries
+    below, and brings it there. `rt run` builds a program and runs it, here for its help."""
     begin = time.monotonic()
     for library in [*libraries(name), name]:
         bring(library, PROVED, TOP, top)
     bring(name, WORK, TOP, top)
+    command = ["rt", "run", "--", "--help"] if is_program(name) else ["rt", "lib", "--jobs", str(processors)]
     run = subprocess.run(
-        ["rt", "lib", "--jobs", str(processors)], cwd=top / "crates" / name, stdin=subprocess.DEVNULL,
+        command, cwd=top / "crates" / name, stdin=subprocess.DEVNULL,
         stdout=subprocess.PIPE, stderr=subprocess.STDOUT, text=True, errors="replace",
     )
     if run.returncode == 0:
         bring(name, PROVED, top, TOP)
         bring(name, WORK, top, TOP)
+        if is_program(name):
+            bring_program(name, top)
     return Proof(run.returncode, run.stdout, (time.monotonic() - begin) / 60)
 
 
 class Proving:
-    """Libraries that wait for a proof, those that are proved, and copies in which nothing is proved now."""
+    """Libraries and programs that wait for a proof, those that are proved, and copies in which nothing is proved now."""
 
     def __init__(self, names: list[str], copies: list[pathlib.Path]):
         self.chains, self.copies = chains(names), copies
@@ -121,7 +135,7 @@ class Proving:
         return sorted(found, key=lambda name: -self.chains[name])
 
     def ends(self, name: str, proof: Proof) -> None:
-        how = "proved" if proof.status == 0 else "not proved"
+        how = ("built" if is_program(name) else "proved") if proof.status == 0 else "not proved"
         print(f"{name:16} {how} in {proof.minutes:.1f} minutes", flush=True)
         if proof.status == 0:
             self.proved.add(name)
@@ -130,7 +144,7 @@ class Proving:
             print("\n".join(f"  {line}" for line in proof.text.splitlines()), flush=True)
 
     def run(self) -> None:
-        """Proves libraries until none is left, or one isn't proved."""
+        """Proves libraries and programs until none is left, or one isn't proved."""
         running: dict[concurrent.futures.Future, tuple[str, pathlib.Path]] = {}
         with concurrent.futures.ThreadPoolExecutor(len(self.copies)) as pool:
             while True:
@@ -162,14 +176,14 @@ def main() -> int:
         sys.exit(__doc__)
     if shutil.which("rt") is None:
         sys.exit("rt, the command of the Rattle kit, isn't on the path: README.md, Try it")
-    begin, names = time.monotonic(), libraries_of(programs)
+    begin, names = time.monotonic(), with_libraries(programs)
     with tempfile.TemporaryDirectory(prefix="pl0dap-") as folder:
         copies = [copy_to(pathlib.Path(folder, str(number))) for number in range(number_of_copies())]
-        print(f"{len(names)} libraries are proved, in {len(copies)} copies of the crates", flush=True)
+        print(f"{len(names)} libraries and programs are proved, in {len(copies)} copies of the crates", flush=True)
         proving = Proving(names, copies)
         proving.run()
     minutes = (time.monotonic() - begin) / 60
-    print(f"{len(proving.proved)} of {len(names)} libraries are proved, in {minutes:.1f} minutes", flush=True)
+    print(f"{len(proving.proved)} of {len(names)} libraries and programs are proved, in {minutes:.1f} minutes", flush=True)
     return 1 if proving.failed else 0
 
 

@@ -9,8 +9,9 @@ they were when it last passed: the sources of its crate and of the libraries bel
 program, and all pages, examples, scripts and stored runs. The pages are looked at each time. With PART only these are
 run, and the programs that they need.
 
-Prints a line for each part as it ends, and all that a part printed that fails. The last line is `unproved: N passed, M
-failed`, where each test of a crate counts, and each other part once. The status is 0 where nothing failed, else 1.
+Prints a line for each part as it ends, every half minute what runs, and all that a part printed that fails. The last
+line is `unproved: N passed, M failed`, where each test of a crate counts, and each other part once. The status is 0
+where nothing failed, else 1.
 SIDE_BY_SIDE parts run at once, by default all processors but one, as far as there is memory: each takes up to 3 GB.
 """
 from __future__ import annotations
@@ -36,6 +37,8 @@ STATE = UNPROVED / "passed.json"
 # How much memory a part takes, in GB, and how many seconds each test has, which is built with checks and not optimized.
 PART_MEMORY = 3
 TEST_SECONDS = "300"
+# How many seconds may pass without a line.
+SILENT_SECONDS = 30
 # What scripts read besides their program.
 READ = ("checks", "demo", "docs", "examples", "tools", "README.md", "CHANGELOG.md", "crates.txt")
 STORED = ("data", "stdout", "stdin", "args")
@@ -94,7 +97,7 @@ PARTS = [
     script("sessions", "pl0dap", "60"),
     script("rows", "pl0dap"),
     script("pl0_pages", "pl0"),
-    script("hostile", "pl0dap"),
+    script("hostile", "pl0dap", "--stack", "1024"),
     script("nonblocking", "pl0dap"),
     Part("pages", "", ("make", "--no-print-directory", "pages")),
 ]
@@ -191,7 +194,7 @@ class Tests:
     """A run of some parts, of which some run side by side."""
 
     def __init__(self, parts: list[Part], record: Record):
-        self.waiting, self.record = list(parts), record
+        self.waiting, self.record, self.begin = list(parts), record, time.monotonic()
         self.outcomes: dict[str, Outcome] = {}
 
     def ends(self, part: Part, outcome: Outcome) -> None:
@@ -212,13 +215,21 @@ class Tests:
             else:
                 yield part
 
+    def tell_running(self, names: list[str], side_by_side: int) -> None:
+        """Prints what runs, and how many parts come then."""
+        minutes = (time.monotonic() - self.begin) / 60
+        waiting = len(names[side_by_side:]) + len(self.waiting)
+        print(f"  {minutes:.1f} minutes: {', '.join(names[:side_by_side])}; then {waiting} more", flush=True)
+
     def run(self, side_by_side: int) -> None:
         running: dict[concurrent.futures.Future, tuple[Part, str]] = {}
         with concurrent.futures.ThreadPoolExecutor(side_by_side) as pool:
             while self.waiting or running:
                 for part in self.ready():
                     running[pool.submit(run, part)] = part, checksum(part, self.record.kit)
-                done, _ = concurrent.futures.wait(running, return_when=concurrent.futures.FIRST_COMPLETED)
+                done, _ = concurrent.futures.wait(running, SILENT_SECONDS, concurrent.futures.FIRST_COMPLETED)
+                if not done:
+                    self.tell_running([part.name for part, _ in running.values()], side_by_side)
                 for one in done:
                     part, files = running.pop(one)
                     self.record.note(part, files, one.result())
@@ -248,16 +259,16 @@ def main() -> int:
         sys.exit("rt, the command of the Rattle kit, isn't on the path: README.md, Try it")
     UNPROVED.mkdir(parents=True, exist_ok=True)
     kit = subprocess.run(["rt", "version"], capture_output=True, text=True, check=True).stdout
-    begin, some = time.monotonic(), Tests(parts, Record(kit))
-    print("Nothing is proved here: tests run on what is built without a proof. `make check` is the merge gate.",
-          flush=True)
+    some, at_once = Tests(parts, Record(kit)), side_by_side()
+    print("Nothing is proved here: tests run on what is built without a proof. `make check` is the merge gate.\n"
+          f"As far as processors and free memory go, {at_once} at once:", flush=True)
     try:
-        some.run(side_by_side())
+        some.run(at_once)
     finally:
         for child in set(RUNNING):
             child.terminate()
     used = resource.getrusage(resource.RUSAGE_CHILDREN)
-    minutes, work = (time.monotonic() - begin) / 60, (used.ru_utime + used.ru_stime) / 60
+    minutes, work = (time.monotonic() - some.begin) / 60, (used.ru_utime + used.ru_stime) / 60
     print(f"{minutes:.1f} minutes, {work:.0f} of the processors; the largest process took "
           f"{used.ru_maxrss / 2**20:.1f} GB. Nothing was proved.")
     passed, failed = (sum(one[place] for one in some.outcomes.values()) for place in (0, 1))

@@ -1,7 +1,7 @@
 #!/usr/bin/env python3
 """Times two builds of the program in turn: whether one answers sooner than the other.
 
-usage: turns.py PROGRAM OTHER
+usage: two_builds.py PROGRAM OTHER
 
 What is timed is what `session.py` times of starts, questions at a stop, ways to a stop and runs of a loop. Each request
 goes to one program and then to the other, beside `answer.c` where it can, so that whatever else the computer does slows

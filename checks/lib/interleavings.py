@@ -9,8 +9,8 @@ from __future__ import annotations
 import dataclasses
 import json
 
-from plain_pl0 import Program
-from plain_session import FrameFault, Frames, Session, request_of
+from lib.plain_pl0 import Program
+from lib.plain_session import FrameFault, Frames, Session, request_of
 
 
 @dataclasses.dataclass

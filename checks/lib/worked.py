@@ -7,10 +7,10 @@ import pathlib
 import tempfile
 from collections.abc import Iterator
 
-from client import Client, put_files
-from notation import Session, of_session_tests, said_of, session, sessions, short
+from lib.client import Client, put_files
+from lib.notation import Session, of_session_tests, said_of, session, sessions, short
 
-HERE = os.path.dirname(os.path.abspath(__file__))
+HERE = os.path.dirname(os.path.dirname(os.path.abspath(__file__)))
 SESSION_TESTS = pathlib.Path(HERE).parent / "crates" / "session_tests" / "src" / "rows"
 
 # The texts of programs with a mistake, and the message of the refusal.

@@ -1,7 +1,7 @@
 #!/usr/bin/env python3
 """Shows what the adapter does with clients that read, write and leave as they like.
 
-usage: clients.py PROGRAM [SECONDS]
+usage: slow_clients.py PROGRAM [SECONDS]
 
 Each client has a process of its own; all are there at the same time. One stops reading while a program logs at each
 turn of a loop, and reads again after 1.5 times SECONDS, 3 where none are given: no message may be missing. Two go away
@@ -21,7 +21,7 @@ import tempfile
 import time
 from collections.abc import Callable
 
-from client import Client, Wrong, frame, put_files
+from lib.client import Client, Wrong, frame, put_files
 from soak import LOOP, MOST_MEMORY, THREAD, THREADS, open_files, threads
 
 LOG_POINT = '{"source":{"path":"loop.pl0"},"breakpoints":[{"line":3,"logMessage":"x is {x}"}]}'

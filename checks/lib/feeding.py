@@ -12,10 +12,10 @@ import select
 import threading
 from typing import NamedTuple
 
-import notation
-import rows
-from client import Client, Frames, frame
+from lib import notation
+from lib.client import Client, Frames, frame
 
+TOP = os.path.join(os.path.dirname(os.path.abspath(__file__)), "..", "..")
 # A session that has not ended after this many seconds is killed, which shows in its status.
 MOST_SECONDS = 20
 # The session's own thread, the reader, the runner and the writer.
@@ -91,7 +91,7 @@ class Talk(Client):
     """A process that is fed, which may give up."""
 
     def __init__(self, command: list[str], notice: Notice | None, patience: int, **settings):
-        super().__init__(command, rows.TOP, **settings)
+        super().__init__(command, TOP, **settings)
         self.notice = notice
         self.looks = LOOKS * patience
         self.written: list[bytes] = []

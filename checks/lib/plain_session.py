@@ -10,7 +10,7 @@ import json
 import os
 import re
 
-from plain_pl0 import Block, Machine, Program, RunFault, Statement, TextFault, read_alone, read_program
+from lib.plain_pl0 import Block, Machine, Program, RunFault, Statement, TextFault, read_alone, read_program
 
 LARGEST_SEQ = 2**53 - 1
 LARGEST_LINE = 2**31 - 1

@@ -18,7 +18,7 @@ import json
 import re
 from typing import NamedTuple
 
-from client import frame, name_of, request
+from lib.client import frame, name_of, request
 
 CAPABILITIES = {
     "supportsConditionalBreakpoints": True,

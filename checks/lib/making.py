@@ -10,9 +10,9 @@ import json
 import random
 import tempfile
 
-from plain_pl0 import Block, Machine, Program, RunFault, Statement, TextFault, read_program
-from plain_session import FITTING, RESUMING, Session
-from client import frame, put_files
+from lib.plain_pl0 import Block, Machine, Program, RunFault, Statement, TextFault, read_program
+from lib.plain_session import FITTING, RESUMING, Session
+from lib.client import frame, put_files
 
 MOST_STEPS = 4000
 NAMES = ["a", "b", "c", "n", "x", "y", "main", "P2", "p", "q", "r"]

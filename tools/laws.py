@@ -1,0 +1,100 @@
+#!/usr/bin/env python3
+"""Reads the laws of functions that do nothing: what each clause says, where, and by which lemmas it is answered.
+
+usage: laws.py [--write]
+
+Prints for each law function that proofs answer each of its clauses, what that says, and the lemmas by which it is
+answered, with their files. With --write it writes instead what docs/PROMISES.md says of the laws of a session's history,
+between `<!--laws-->` and `<!--end-->`: for each function a table of its clauses, with the definition of each, and the
+comment in front of this.
+"""
+from __future__ import annotations
+
+import re
+import sys
+from collections.abc import Iterator
+from typing import NamedTuple
+
+from scratch import TOP
+
+PAGE = TOP / "docs" / "PROMISES.md"
+PLACE = re.compile(r"(?<=<!--laws-->\n).*?(?=<!--end-->)", re.DOTALL)
+HISTORY = TOP / "crates" / "dap_history"
+# The functions of which the page has tables.
+TABLES = ("history_laws", "run_laws", "command_laws")
+# A law function with its clauses, and one of these; the answer to a goal of one, and a lemma file with what is used of
+# it; a definition with the comment in front of it.
+LAW = re.compile(r"^pub fn (\w+_laws)\(.*\)\n((?:    (?:ensures|//| ) .*\n)+)", re.MULTILINE)
+CLAUSE = re.compile(r"^    ensures (\w*) ?\{ (.*?) \}$", re.MULTILINE | re.DOTALL)
+ANSWER = re.compile(r"^returns(?:-clause-(\w+))? c =(.*?)(?=^pub |\Z)", re.MULTILINE | re.DOTALL)
+LEMMAS = re.compile(r"^use Rattle\.(\w+)\.proofs\.(?!Common\.)([\w.]+)\.\{(.*)\}$", re.MULTILINE)
+DEFINITION = re.compile(r"((?:^--(?! ----).*\n)+)(?:abbrev )?(?:pub )?(\w+) : Type 0$", re.MULTILINE)
+
+
+class Law(NamedTuple):
+    """A clause of a law function, and what it says."""
+
+    function: str
+    clause: str
+    says: str
+
+
+def laws_of(crate: str) -> list[Law]:
+    """The clauses of a crate's law functions, in their order."""
+    sources = sorted((TOP / "crates" / crate / "src").rglob("*.rt"))
+    laws = [law for source in sources for law in LAW.findall(source.read_text(encoding="utf-8"))]
+    return [Law(function, clause, says) for function, clauses in laws for clause, says in CLAUSE.findall(clauses)]
+
+
+def answered_laws() -> Iterator[tuple[str, str, str, str]]:
+    """Each clause of a law that its proofs answer: the law, the clause, what it says, and the lemmas with their
+    files."""
+    for answers in sorted(TOP.glob("crates/*/proofs/**/*_laws/Answers.antt")):
+        crate, function = answers.relative_to(TOP).parts[1], answers.parent.name
+        text = answers.read_text(encoding="utf-8")
+        says = {law.clause: law.says for law in laws_of(crate) if law.function == function}
+        used = [(name.strip(), f"{of}/proofs/{path.replace('.', '/')}.antt")
+                for of, path, names in LEMMAS.findall(text) if of == crate for name in names.split(",")]
+        for clause, body in ANSWER.findall(text):
+            lemmas = [f"{name} ({file})" for name, file in used
+                      if re.search(rf"(?<![\w-]){re.escape(name)}(?![\w-])", body)]
+            said = says.get(clause, "") if clause else " ".join(says.values())
+            yield function, clause or " ".join(says), said, ", ".join(lemmas)
+
+
+def comments() -> dict[str, tuple[str, str]]:
+    """The statements that the definitions of a session's history make: the file of each, and the comment before it."""
+    found = {}
+    for file in sorted((HISTORY / "specs").glob("*.antt")):
+        for lines, name in DEFINITION.findall(file.read_text(encoding="utf-8")):
+            found[name] = file.name, " ".join(line.removeprefix("--").strip() for line in lines.splitlines())
+    return found
+
+
+def tables() -> str:
+    """What the page says of the laws of a session's history."""
+    laws, said = laws_of(HISTORY.name), comments()
+    parts = []
+    for function in TABLES:
+        rows = [f"| `{law.clause}` | `{law.says}` (`{said[law.says][0]}`) | {said[law.says][1]} |"
+                for law in laws if law.function == function]
+        parts.append("\n".join([f"| `{function}` | Definition | It says |", "|---|---|---|", *rows]))
+    return "\n\n".join(parts) + "\n"
+
+
+def wrong_laws() -> Iterator[str]:
+    """Whether the page has other tables than these."""
+    if PLACE.findall(PAGE.read_text(encoding="utf-8")) != [tables()]:
+        yield "docs/PROMISES.md: the laws aren't as in dap_history: tools/laws.py --write"
+
+
+def main() -> int:
+    if sys.argv[1:] == ["--write"]:
+        PAGE.write_text(PLACE.sub(lambda _: tables(), PAGE.read_text(encoding="utf-8")), encoding="utf-8")
+    else:
+        print("\n".join("\t".join(row) for row in answered_laws()))
+    return 0
+
+
+if __name__ == "__main__":
+    sys.exit(main())
