@@ -1,4 +1,5 @@
 -- Tokens that end with the end of a text are read, or have a fault.
+use Rattle.pl0_tree.specs.Faults.{level_limit}
 use Rattle.pl0_parser.proofs.Common.{[], AComparison, ACondition, advance, AFactor, AName, AnEnd, AnExpression, ANumber, ap, AStatement, ATerm, Bool, cond, Choice, choice, comparison_choice, condition_choice, ConstantPart, constant_part_choice, else_behind, end_choice, EndOfText, Equal, Expect, Expected, expression_choice, factor_choice, false, FaultKind, Faulty, first_refusal, followed_by, front_piece, Goal, if◌then◌else◌, inl, inr, is_space, IsText, IsTokenFault, List, Mark, mark_choice, mark_number, Marked, more_constants_choice, more_factors_choice, more_statements_choice, more_terms_choice, more_variables_choice, MoreConstants, MoreFactors, MoreStatements, MoreTerms, MoreVariables, name_choice, Named, number_choice, Numeral, Option, Pass, Place, procedure_part_choice, ProcedurePart, Reading, refl, Refuse, refusal_after, Some, statement_choice, subst, suc, sym, Symbol, symbols, Take, term_choice, Token, token_at, tokens_from, true, variable_part_choice, VariablePart, zero, ℕ, ◌++◌, ◌==◌, ◌∙◌, ◌∷◌, ◌≡◌, ◌⊎◌, Begin, If, While, Procedure, Open, Const, Var, Comma, Semicolon, Plus, Minus, Times, Odd, behind, pred, start_place, tokens_of}
 use Rattle.std.specs.Prelude.{None}
 use Rattle.pl0_parser.proofs.Goals.{MeetsAll}
@@ -247,21 +248,21 @@ tokens_ended (b ∷ bytes) p zero = ended_at (is_space b) p b bytes (tokens_ende
 -- ---- read, or faulty
 
 module _ {T : Type 0} (Reads : Reading T) (goals : ℕ → List Goal) (are : AreTextGoals (IsText Reads) goals)
-    (last : EndsLast (goals 64))
-    (read : (at : ℕ → Place) (s : List Symbol) → MeetsAll (goals 64) s → (tree : T) × Reads 64 (placed at s) tree)
+    (last : EndsLast (goals level_limit))
+    (read : (at : ℕ → Place) (s : List Symbol) → MeetsAll (goals level_limit) s → (tree : T) × Reads level_limit (placed at s) tree)
   where
     by_refusal : (tokens : List Token) → IsEnded tokens → (o : Option (FaultKind × Place))
-        → first_refusal (goals 64) tokens ≡ o
-        → ((tree : T) × Reads 64 tokens tree)
+        → first_refusal (goals level_limit) tokens ≡ o
+        → ((tree : T) × Reads level_limit tokens tree)
         ⊎ ((kind : FaultKind) × (place : Place) × IsTokenFault (IsText Reads) tokens kind place)
     by_refusal tokens ended (Some found) is =
         inr (found.0, found.1, first_fault (IsText Reads) goals are tokens found.0 found.1 is)
     by_refusal tokens (front, p, same) None is =
-        let all = subst (λ ts. MeetsAll (goals 64) (symbols ts)) (sym same)
-        (all_met (goals 64) front p last (ap (first_refusal (goals 64)) (sym same) ∙ is)) in
+        let all = subst (λ ts. MeetsAll (goals level_limit) (symbols ts)) (sym same)
+        (all_met (goals level_limit) front p last (ap (first_refusal (goals level_limit)) (sym same) ∙ is)) in
         let (tree, reads) = read (place_of tokens) (symbols tokens) all in
-        inl (tree, subst (λ ts. Reads 64 ts tree) (placed_again tokens) reads)
+        inl (tree, subst (λ ts. Reads level_limit ts tree) (placed_again tokens) reads)
 
     pub read_or_faulty : IsReadOrFaulty Reads
     read_or_faulty text =
-        by_refusal (tokens_of text) (tokens_ended text start_place 0) (first_refusal (goals 64) (tokens_of text)) refl
+        by_refusal (tokens_of text) (tokens_ended text start_place 0) (first_refusal (goals level_limit) (tokens_of text)) refl

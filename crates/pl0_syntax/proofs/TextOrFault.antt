@@ -1,4 +1,5 @@
 -- No text is without both a program and a first fault, nor is an editor's.
+use Rattle.pl0_tree.specs.Faults.{level_limit}
 use Rattle.pl0_syntax.proofs.Common.{AreLawfulOutside, arith, Block, condition_uses, declarations, expression_uses, IsConditionNameFault, IsExpressionNameFault, IsFirstIn, IsNameFaultOutside, IsReadAs, Reading, ReadsConditionText, ReadsExpressionText, get_or, Home, inl, inr, IsBefore, IsFirstOf, IsLawful, IsNameFault, IsTokenFault, IsText, length, limit, List, Option, order, Path, Place, ReadsProgram, refl, Some, suc, tokens_of, Use, zero, ℕ, ◌<◌, ◌∙◌, ◌≡◌, ◌≤◌, ◌⊎◌, Allows, TooManyNames, Twice, Unknown, TooEarly, WrongKind}
 use Rattle.std.specs.Prelude.{None, slice_get}
 use Rattle.std.proofs.lemmas.Option.{slice_get_cases}
@@ -174,7 +175,7 @@ module _ {T : Type 0} (Reads : Reading T) (IsWrong : T → FaultKind → Place �
   has_one : (text : List ℕ) → NotNeither (IsFirstIn Reads IsWrong text) (IsReadAs Reads IsRight text)
   has_one text (no_tree, no_fault_of) = by_length (cases_lt limit (length text))
     where
-      by_tokens : length text ≤ limit → ((tree : T) × Reads 64 (tokens_of text) tree)
+      by_tokens : length text ≤ limit → ((tree : T) × Reads level_limit (tokens_of text) tree)
           ⊎ ((kind : FaultKind) × (place : Place) × IsTokenFault (IsText Reads) (tokens_of text) kind place) → ⊥
       by_tokens short (inr fault) = no_fault_of fault.0 fault.1 (in_tokens short fault.2)
       by_tokens short (inl (tree, reads)) =
