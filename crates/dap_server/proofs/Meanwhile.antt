@@ -6,7 +6,7 @@ use Rattle.byte_streams.specs.Streams.{StreamLog, Appends}
 use Rattle.dap_frame.specs.Frame.{IsOpen}
 use Rattle.dap_server.specs.Messages.{PlainEvent, frames_of}
 use Rattle.dap_server.specs.Conversation.{State, state, Replies, Progress}
-use Rattle.dap_server.specs.Inbox.{PlainItem, Bytes, Unasked, Gives, TakesOne, Tells}
+use Rattle.dap_server.specs.Inbox.{PlainItem, Bytes, Event, Gives, TakesOne, Tells}
 use Rattle.dap_server.specs.ServingInbox.{ServingEndsBy, EndsWithin}
 use Rattle.dap_server.specs.Working.{Works, Polls, Comes, begins, takes, works_on, Working, EndsInWork, ServedWorker, TellsAll}
 use Rattle.dap_server.specs.declared.ending.Ending.{Ending}
@@ -58,12 +58,12 @@ pub working_event : {S I : Type 0} (replies : Replies S) (works : Works S) (busy
     : Polls I) (a b : State S) (next : ℕ)
     (rest : List ℕ) (inbox mid left : I) (event : PlainEvent) (old now new : StreamLog)
     → Working replies works busy gives polls a b rest inbox mid (Appends old now) → Comes (busy b.adapter) gives
-    polls mid (Unasked event) left
+    polls mid (Event event) left
     → b.present ≡ true → IsOpen rest → Tells event b.next next (Appends now new)
     → Working replies works busy gives polls a (state b.adapter next true) rest inbox left (Appends old new)
 working_event replies works busy gives polls a b next rest inbox mid left event old now new first gave there is_open
     tells =
-    working_item replies works busy gives polls a b (state b.adapter next true) rest rest inbox mid left (Unasked
+    working_item replies works busy gives polls a b (state b.adapter next true) rest rest inbox mid left (Event
     event) tells.texts
     old now new first gave there is_open (tells.texts_are, ap (λ n. state b.adapter n true) tells.numbered, refl)
     tells.written

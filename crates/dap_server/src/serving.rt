@@ -83,10 +83,10 @@ pub fn serve_inbox<R: Responder, I: Inbox, O: Sink>(
                 let client = answer_all(rt, alloc, responder, &mut decoder, &mut next, output)?;
                 match client {
                     Client::Stays => {}
-                    Client::Left => return Ok(Ending::Left),
+                    Client::Left => return Ok(Ending::Disconnected),
                 }
             }
-            Item::Unasked(event) => match tell(rt, alloc, event, &mut next, output) {
+            Item::Event(event) => match tell(rt, alloc, event, &mut next, output) {
                 Ok(()) => {}
                 Err(fault) => return Err(fault),
             },

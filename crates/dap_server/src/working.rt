@@ -56,10 +56,10 @@ pub fn serve_worker<W: Worker, I: Polled, O: Sink>(
                 let client = answer_all(rt, alloc, worker, &mut decoder, &mut next, output)?;
                 match client {
                     Client::Stays => {}
-                    Client::Left => return Ok(Ending::Left),
+                    Client::Left => return Ok(Ending::Disconnected),
                 }
             }
-            Some(Item::Unasked(event)) => match tell(rt, alloc, event, &mut next, output) {
+            Some(Item::Event(event)) => match tell(rt, alloc, event, &mut next, output) {
                 Ok(()) => {}
                 Err(fault) => return Err(fault),
             },

@@ -109,7 +109,7 @@ impl Inbox for Arrivals {
         match self.arrivals.recv(rt) {
             Ok(Arrival::Item(item)) => item,
             Ok(Arrival::Halted(halt, event)) => match self.halts.send(rt, halt) {
-                Ok(()) => Item::Unasked(event),
+                Ok(()) => Item::Event(event),
                 Err(_) => Item::NoMemory,
             },
             Err(_) => Item::End,

@@ -109,7 +109,7 @@ fn tell<R: Wait>(rt: &R, went: Went, arrivals: &Sender<Arrival, Global>) -> Told
     };
     for event in events {
         if arrivals
-            .send(rt, Arrival::Item(Item::Unasked(event)))
+            .send(rt, Arrival::Item(Item::Event(event)))
             .is_err()
         {
             return Told::Left;

@@ -6,9 +6,9 @@ use Rattle.dap_frame.specs.Frame.{IsOpen}
 use Rattle.dap_frame.specs.Stream.{Stream}
 use Rattle.dap_server.specs.Messages.{plain_event}
 use Rattle.dap_server.specs.Conversation.{state, Progress}
-use Rattle.dap_server.specs.Inbox.{Bytes, Unasked, End, Failed, NoMemory}
+use Rattle.dap_server.specs.Inbox.{Bytes, Event, End, Failed, NoMemory}
 use Rattle.dap_server.specs.Working.{Working}
-use Rattle.dap_server.specs.declared.ending.Ending.TheVariants.{InputEnded, Left}
+use Rattle.dap_server.specs.declared.ending.Ending.TheVariants.{Disconnected, InputEnded}
 use Rattle.dap_server.specs.declared.ending.ServeFault.TheVariants as fault
 use Rattle.dap_server.proofs.Conversing.{is_done, not_empty}
 use Rattle.dap_server.proofs.Taking.{open_first}
@@ -128,7 +128,7 @@ returns-in-Left-clause-served g c =
     c.args.worker.now
     c.answer_all.new.responder left c.answer_all.new.decoder.rest c.args.inbox.now c.next_item.new.inbox
     (g.O.Sink.output c.args.output.now).written (g.O.Sink.output c.answer_all.new.output).written
-    (g.O.Sink.output c.answer_all.new.output).written (Ok Left)
+    (g.O.Sink.output c.answer_all.new.output).written (Ok Disconnected)
     (working_bytes g.W.Responder.replies g.W.Worker.works g.W.Worker.busy g.I.Inbox.gives g.I.Polled.polls (state
     c.args.worker.now 1 true)
     (state c.loop.worker c.loop.next true) left c.loop.decoder.rest
@@ -176,9 +176,9 @@ loop-preserved g c = record {
       working_event g.W.Responder.replies g.W.Worker.works g.W.Worker.busy g.I.Inbox.gives g.I.Polled.polls (state
       c.args.worker.now 1 true)
       (state c.loop.worker c.loop.next true) c.tell.new.next c.loop.decoder.rest c.args.inbox.now c.loop.inbox
-      c.next_item.new.inbox (plain_event c.in-Some-Unasked.event) (g.O.Sink.output c.args.output.now).written
+      c.next_item.new.inbox (plain_event c.in-Some-Event.event) (g.O.Sink.output c.args.output.now).written
       (g.O.Sink.output c.loop.output).written (g.O.Sink.output c.tell.new.output).written c.loop.invariant.working
-      (rw c.in-Some-Unasked.field-0-is at c.in-Some-Unasked.ensures) refl c.loop.invariant.is_open
+      (rw c.in-Some-Event.field-0-is at c.in-Some-Event.ensures) refl c.loop.invariant.is_open
       c.in-Ok-tell.ensures.ok;
 }
 
@@ -188,9 +188,9 @@ returns-in-Err-tell-clause-served g c =
     worker_ended_by g.W.Responder.replies g.W.Worker.works g.W.Worker.busy g.I.Inbox.gives g.I.Polled.polls
     c.args.worker.now c.loop.worker here
     c.loop.decoder.rest c.args.inbox.now c.loop.inbox c.next_item.new.inbox
-    (Unasked (plain_event c.in-Some-Unasked.event)) (g.O.Sink.output c.args.output.now).written
+    (Event (plain_event c.in-Some-Event.event)) (g.O.Sink.output c.args.output.now).written
     (g.O.Sink.output c.loop.output).written (g.O.Sink.output c.tell.new.output).written (Err c.in-Err-tell.fault)
-    c.loop.invariant.working (rw c.in-Some-Unasked.field-0-is at c.in-Some-Unasked.ensures) refl
+    c.loop.invariant.working (rw c.in-Some-Event.field-0-is at c.in-Some-Event.ensures) refl
     c.loop.invariant.is_open
     (c.in-Err-tell.fault, refl, refl, c.in-Err-tell.ensures.err)
 
