@@ -8,9 +8,11 @@ mod Asked
 mod Conversing
 -- Little is left where the client leaves; for `serve`.
 mod Leaving
--- Items are taken one after another, and what a source gives is read; for `serve_inbox`, `serve` and `Inbox`.
+-- Items are taken one after another, and what a source gives is read; for `serve` and `Inbox`.
 mod Taking
--- The same, where the adapter works meanwhile; for `serve_worker`.
+-- Items are taken, and the adapter works meanwhile; for `converse`.
 mod Meanwhile
+-- A session that only waits is one over an inbox; for `serve_inbox`.
+mod Waiting
 -- What responses and events say; for `message_laws`.
 pub mod Saying

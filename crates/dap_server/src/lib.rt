@@ -50,6 +50,7 @@ mod ending;
 mod inbox;
 mod laws;
 mod messages;
+mod pace;
 mod polled;
 mod reading;
 mod reply;

@@ -14,11 +14,13 @@ ghost use Rattle.dap_server.specs.Serving.{stays, FailsAt, FailsIn, HasFailed, F
 ghost use Rattle.dap_server.specs.declared.serving.Client.TheVariants.{Stays};
 
 use crate::ending::{Ending, ServeFault};
-use crate::inbox::{Inbox, Item};
+use crate::inbox::Inbox;
 use crate::messages::{frame_of_event, frames_of};
+use crate::pace::Waiting;
 use crate::reading::{command_of, is_request, seq_of};
 use crate::reply::Event;
 use crate::responder::Responder;
+use crate::working::converse;
 use byte_streams::{Sink, Source, WriteFailed, write_all};
 use dap_frame::Decoder;
 use serde_json::Value;
@@ -71,31 +73,7 @@ pub fn serve_inbox<R: Responder, I: Inbox, O: Sink>(
         (O.output output.old).written (O.output output.new).written result }
     ensures failures { OutputFailures result (O.output output.old).failures (O.output output.new).failures }
 {
-    let mut decoder = Decoder::new(alloc);
-    let mut next = 1;
-    for _ in rt.forever() {
-        match inbox.next(rt, alloc) {
-            Item::Bytes(bytes) => {
-                match decoder.feed(bytes.as_slice()) {
-                    Ok(()) => {}
-                    Err(_) => return Err(ServeFault::NoMemory),
-                }
-                let client = answer_all(rt, alloc, responder, &mut decoder, &mut next, output)?;
-                match client {
-                    Client::Stays => {}
-                    Client::Left => return Ok(Ending::Disconnected),
-                }
-            }
-            Item::Event(event) => match tell(rt, alloc, event, &mut next, output) {
-                Ok(()) => {}
-                Err(fault) => return Err(fault),
-            },
-            Item::End => return Ok(Ending::InputEnded),
-            Item::Failed => return Err(ServeFault::Input),
-            Item::NoMemory => return Err(ServeFault::NoMemory),
-        }
-    }
-    unreachable!()
+    converse::<Waiting, R, I, O>(rt, alloc, responder, inbox, output)
 }
 
 /// Sends an event.

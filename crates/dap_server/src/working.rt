@@ -5,13 +5,15 @@ ghost use Rattle.byte_streams.specs.Streams.{Appends};
 ghost use Rattle.dap_server.specs.Messages.{plain_event};
 ghost use Rattle.dap_server.specs.Serving.{HasFailed};
 ghost use Rattle.dap_server.specs.ServingInbox.{OutputFailures};
-ghost use Rattle.dap_server.specs.Working.{ServedWorker, TellsAll, CannotTellAll, ComesNext};
+ghost use Rattle.dap_server.specs.Working.{ServedWorker, TellsAll, CannotTellAll};
 
 use crate::ending::{Ending, ServeFault};
-use crate::inbox::{Inbox, Item};
+use crate::inbox::Item;
 use crate::messages::frames_of_events;
+use crate::pace::{Pace, Polling};
 use crate::polled::Polled;
 use crate::reply::Event;
+use crate::responder::Responder;
 use crate::serving::{Client, answer_all, tell};
 use crate::worker::Worker;
 use byte_streams::{Sink, WriteFailed, write_all};
@@ -37,12 +39,27 @@ pub fn serve_worker<W: Worker, I: Polled, O: Sink>(
         (O.output output.old).written (O.output output.new).written result }
     ensures failures { OutputFailures result (O.output output.old).failures (O.output output.new).failures }
 {
+    converse::<Polling, W, I, O>(rt, alloc, worker, inbox, output)
+}
+
+/// Serves a client at this pace.
+pub(crate) fn converse<P: Pace<R, I>, R: Responder, I, O: Sink>(
+    rt: &impl Wait,
+    alloc: Global,
+    responder: &mut R,
+    inbox: &mut I,
+    output: &mut O,
+) -> Result<Ending, ServeFault>
+    ensures served { ServedWorker R.replies P.works P.busy P.gives P.polls responder.old responder.new inbox.old inbox.new
+        (O.output output.old).written (O.output output.new).written result }
+    ensures failures { OutputFailures result (O.output output.old).failures (O.output output.new).failures }
+{
     let mut decoder = Decoder::new(alloc);
     let mut next = 1;
     for _ in rt.forever() {
-        match next_item(rt, alloc, worker, inbox) {
+        match P::next_item(rt, alloc, responder, inbox) {
             None => {
-                let events = worker.work(alloc)?;
+                let events = P::work(alloc, responder)?;
                 match tell_all(rt, alloc, events, &mut next, output) {
                     Ok(()) => {}
                     Err(fault) => return Err(fault),
@@ -53,7 +70,7 @@ pub fn serve_worker<W: Worker, I: Polled, O: Sink>(
                     Ok(()) => {}
                     Err(_) => return Err(ServeFault::NoMemory),
                 }
-                let client = answer_all(rt, alloc, worker, &mut decoder, &mut next, output)?;
+                let client = answer_all(rt, alloc, responder, &mut decoder, &mut next, output)?;
                 match client {
                     Client::Stays => {}
                     Client::Left => return Ok(Ending::Disconnected),
@@ -69,23 +86,6 @@ pub fn serve_worker<W: Worker, I: Polled, O: Sink>(
         }
     }
     unreachable!()
-}
-
-/// Returns the next item: the one that is there now, if there is one, or, where the adapter isn't busy, the one that is
-/// waited for.
-fn next_item<W: Worker, I: Polled>(
-    rt: &impl Wait,
-    alloc: Global,
-    worker: &W,
-    inbox: &mut I,
-) -> Option<Item>
-    ensures { ComesNext (W.busy worker.now) I.gives I.polls inbox.old result inbox.new }
-{
-    if worker.is_busy() {
-        inbox.poll(rt, alloc)
-    } else {
-        Some(inbox.next(rt, alloc))
-    }
 }
 
 /// Sends events.
