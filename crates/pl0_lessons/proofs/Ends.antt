@@ -1,7 +1,6 @@
 -- Where the code of a block ends: behind the first return from its own statement on.
 use Rattle.std.proofs.Common.{◌≡◌, ◌≢◌, ◌∙◌, ◌⊎◌, ℕ, zero, suc, ◌+◌, ◌<◌, ◌≤◌, Bool, true, false, List, length, ◌∷◌, Option, Some, None, ap, refl, inl, inr, arith}
 use Rattle.std.specs.Prelude.{slice_get}
-use Rattle.std.proofs.lemmas.Option.{slice_get_within}
 use Rattle.pl0_tree.specs.declared.tree.Operator.{Operator}
 use Rattle.pl0_tree.specs.declared.tree.Operator.TheVariants as operator
 use Rattle.pl0_tree.specs.declared.tree.Relation.{Relation}

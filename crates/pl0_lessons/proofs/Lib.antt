@@ -1,4 +1,8 @@
 -- where the code of a block ends
 pub mod Ends
--- the names of a block, one by one
+-- the procedures of a block, one after the other, as a page puts them
+pub mod PutBlocks
+-- the names of a block, from those of its parts
 pub mod NamesOfBlocks
+-- what is drawn of a node, from what is drawn of those below it
+pub mod DrawnNodes

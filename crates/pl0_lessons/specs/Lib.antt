@@ -3,6 +3,10 @@
 pub mod Columns
 -- the table of a program's names
 pub mod NameTable
+-- the tree of a program
+pub mod ProgramTree
 -- What only proofs and inner contracts cite.
 -- where the code of a block stands
 pub mod Standing
+-- what is drawn of a part of a program
+pub mod Dealt

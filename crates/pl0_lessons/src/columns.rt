@@ -41,7 +41,7 @@ pub fn put_left(page: &mut Vec<u8>, width: usize, text: &[u8]) -> Result<(), All
 }
 
 /// Appends this many spaces.
-fn put_spaces(page: &mut Vec<u8>, count: usize) -> Result<(), AllocError>
+pub(crate) fn put_spaces(page: &mut Vec<u8>, count: usize) -> Result<(), AllocError>
     ensures { OnOk result (page.new.items ≡ page.old.items ++ spaces count) }
 {
     for put in 0..count {

@@ -1,13 +1,16 @@
-//! Pages that show how a program is compiled: the table of its names.
+//! Pages that show how a program is compiled: the table of its names, and its tree.
 //!
 //! Each page is what its definition says: [`name_table`] the table of names (`specs/NameTable`), with the level and
-//! address of each. The address of a procedure is read from the code: the code of a block ends with the first return
-//! from its own statement on (`ends_behind` of `proofs/Ends`).
+//! address of each; [`program_tree`] the tree (`specs/ProgramTree`), with the instruction that finds each name that is
+//! used. The address of a procedure is read from the code: the code of a block ends with the first return from its own
+//! statement on (`ends_behind` of `proofs/Ends`).
 #![tactic(auto)]
 
 mod columns;
 mod names;
 mod standing;
+mod tree;
 
 pub use columns::{put_left, put_left_column, put_right, put_right_column};
 pub use names::name_table;
+pub use tree::program_tree;

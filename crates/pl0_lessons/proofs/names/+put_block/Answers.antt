@@ -1,4 +1,4 @@
-use Rattle.std.proofs.Common.{◌∙◌, ◌+◌, ◌++◌, ◌∷◌, ◌<◌, ◌≤◌, map, ap, arith, codes, drop, length, rules, subst, sym}
+use Rattle.std.proofs.Common.{◌∙◌, ◌+◌, ◌++◌, ◌∷◌, ◌<◌, ◌≤◌, map, ap, refl, arith, codes, drop, length, rules, subst, sym}
 use Rattle.std.proofs.Math.Logic.{∥∥₁_elim, ∥∥₁_map}
 use Rattle.std.proofs.lemmas.List.{drop_all}
 use Rattle.std.specs.Coded.{le_prop}
@@ -8,8 +8,10 @@ use borrow.Author.Rules.{get_or_read}
 use Rattle.pl0_tree.specs.declared.tree.Block.TheFolds as folds
 use Rattle.pl0_tree.specs.declared.tree.Procedure.{out-Procedure}
 use Rattle.pl0_tree.specs.Plain.{plain_block, plain_constant, plain_name}
-use Rattle.pl0_lessons.specs.NameTable.{constant_row, listing_of, place_row, variable_rows}
-use Rattle.pl0_lessons.proofs.NamesOfBlocks.{Put, next_coded, next_of, put_all, put_next, put_none, within_code}
+use Rattle.pl0_tree.specs.Plain.{in_a_row}
+use Rattle.pl0_lessons.specs.NameTable.{block_rows, constant_row, listing_of, place_row, procedure_rows, variable_rows}
+use Rattle.pl0_lessons.proofs.NamesOfBlocks.{whole_rows}
+use Rattle.pl0_lessons.proofs.PutBlocks.{Put, next_coded, next_of, put_all, put_next, put_none, within_code}
 use Rattle.pl0_lessons.proofs.names.+put_block.Goals as goal
 
 pub overflow_add-next : goal.overflow_add-next
@@ -36,9 +38,11 @@ overflow_add-level below c =
 pub loop-procedure-init : goal.loop-procedure-init
 loop-procedure-init below c = λ entry q to deep coded.
     let u = listing_of c.args.unit.now in
+    let b = c.args.block.now in
+    let rows = procedure_rows entry q in
     let page = c.put_variables.new.page.items in
-    subst (λ items. Put u entry q 0 items items c.args.begins (c.args.begins + 1) page page)
-    (sym c.deref-procedure-items.ensures.value) (put_none u entry q c.args.block.now c.args.begins to page coded)
+    subst (λ items. Put u entry q rows b 0 items items c.args.begins (c.args.begins + 1) page page)
+    (sym c.deref-procedure-items.ensures.value) (put_none u entry q rows b c.args.begins to page coded)
 
 pub put_block-requires : goal.put_block-requires
 put_block-requires below c =
@@ -50,7 +54,8 @@ put_block-requires below c =
     let coded = ∥∥₁_map c.requires (λ there.
     let put = c.loop-procedure.invariant there.entry there.path there.to there.deep there.coded in
     let next =
-    next_coded u there.entry there.path i (drop i kept) (drop (i + 1) kept) kept p c.args.begins c.loop-procedure.next
+    next_coded u there.entry there.path (procedure_rows there.entry there.path) c.args.block.now i (drop i kept)
+    (drop (i + 1) kept) kept p c.args.begins c.loop-procedure.next
     c.put_variables.new.page.items c.loop-procedure.page.items is put in
     record {
       entry = there.entry;
@@ -65,17 +70,21 @@ put_block-requires below c =
 pub loop-procedure-preserved : goal.loop-procedure-preserved
 loop-procedure-preserved below c = λ entry q to deep coded.
     let u = listing_of c.args.unit.now in
+    let b = c.args.block.now in
     let i = c.loop-procedure.procedure-index in
     let kept = c.deref-procedure-items.result.now in
     let p = c.procedure-item.result in
+    let x = plain_name (out-Procedure p).name in
     let next = c.loop-procedure.next in
     let page = c.loop-procedure.page.items in
-    put_next u entry q i (drop i kept) (drop (i + 1) kept) kept p c.args.begins next c.behind_block-next.result
-    c.put_variables.new.page.items page c.put_place.new.page.items c.put_block.new.page.items
+    put_next u entry q (procedure_rows entry q) b i (drop i kept) (drop (i + 1) kept) kept p c.args.begins next
+    c.behind_block-next.result c.put_variables.new.page.items page c.put_place.new.page.items
+    c.put_block.new.page.items
+    (λ k. place_row (codes "procedure") (length q) k x)
+    (block_rows entry (i ∷ q) (plain_block (out-Procedure p).block))
     (next_of kept i p (omega arith) c.procedure-item.is)
-    (c.loop-procedure.invariant entry q to deep coded)
-    (c.in_ok-put_place.ensures
-    ∙ ap (λ k. page ++ place_row (codes "procedure") k next (plain_name (out-Procedure p).name)) (sym deep))
+    (c.loop-procedure.invariant entry q to deep coded) refl
+    (c.in_ok-put_place.ensures ∙ ap (λ k. page ++ place_row (codes "procedure") k next x) (sym deep))
     (λ end inner. c.in_ok-put_block.ensures entry (i ∷ q) end (omega (arith, deep)) inner)
     (λ end inner. c.behind_block-next.ensures entry (i ∷ q) (plain_block (out-Procedure p).block) end inner)
 
@@ -85,13 +94,16 @@ returns below c = λ entry q to deep coded.
     let b = c.args.block.now in
     let i = c.loop-procedure.procedure-index in
     let kept = c.deref-procedure-items.result.now in
-    put_all u entry q b i (drop i kept) kept c.args.begins c.loop-procedure.next c.args.page.now.items
-    c.put_constants.new.page.items c.put_variables.new.page.items c.loop-procedure.page.items
-    (drop_all i kept (omega arith)) c.deref-procedure-items.ensures.value
-    (c.loop-procedure.invariant entry q to deep coded)
+    let rows = procedure_rows entry q in
+    whole_rows entry q b c.args.page.now.items c.put_constants.new.page.items c.put_variables.new.page.items
+    c.loop-procedure.page.items
     (c.in_ok-put_constants.ensures
     ∙ ap (λ cs. c.args.page.now.items ++ concat (map constant_row (map plain_constant cs))) c.deref.ensures.value)
     (c.in_ok-put_variables.ensures
     ∙ ap (λ k. c.put_constants.new.page.items ++ variable_rows k 0 (map plain_name c.deref-2.result.now)) (sym deep)
     ∙ ap (λ vs. c.put_constants.new.page.items ++ variable_rows (length q) 0 (map plain_name vs))
     c.deref-2.ensures.value)
+    (put_all u entry q rows b i (drop i kept) kept c.args.begins c.loop-procedure.next
+    c.put_variables.new.page.items c.loop-procedure.page.items (drop_all i kept (omega arith)) refl
+    (c.loop-procedure.invariant entry q to deep coded)
+    ∙ ap (λ ps. c.put_variables.new.page.items ++ rows 0 (in_a_row ps)) c.deref-procedure-items.ensures.value)

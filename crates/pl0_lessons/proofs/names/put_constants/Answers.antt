@@ -2,7 +2,7 @@ use Rattle.std.proofs.Common.{◌∙◌, ◌+◌, ◌++◌, ap, append_assoc, ar
 use Rattle.std.specs.List.{concat}
 use Rattle.pl0_tree.specs.Plain.{plain_constant}
 use Rattle.pl0_lessons.specs.NameTable.{constant_row}
-use Rattle.pl0_lessons.proofs.NamesOfBlocks.{next_of}
+use Rattle.pl0_lessons.proofs.PutBlocks.{next_of}
 use Rattle.pl0_lessons.proofs.names.put_constants.Goals as goal
 
 pub loop-constant-preserved : goal.loop-constant-preserved
