@@ -7,6 +7,9 @@ Counts lines that aren't blank: of code with its contracts, of definitions and o
 and of code in these; the files that git tracks; and the files of those crates that have to know of one operator, the
 sign `/`, worked examples not counted. README.md has the lines in hundreds: the status is 1 where one of its figures is
 more than a fiftieth away.
+
+Counts the words of README.md and of each page in docs/, as `wc -w` does: what stands between blanks. The status is 1
+where README.md has more than README_WORDS, or all have more than ALL_WORDS.
 """
 from __future__ import annotations
 
@@ -26,6 +29,26 @@ SAID = re.compile(
 )
 # The operation, or the token, of the operator; not the fault of dividing by 0.
 OPERATOR = re.compile(r"Divide(?!ByZero)|Slash")
+
+# How many words README.md has at most, and all pages together.
+README_WORDS = 1_150
+ALL_WORDS = 28_500
+
+
+def words_of_pages() -> dict[str, int]:
+    """How many words each page has, manual pages too; those with the most first."""
+    pages = [TOP / "README.md", *(page for page in (TOP / "docs").iterdir() if page.suffix in (".md", ".1"))]
+    words = {page.name: len(page.read_text(encoding="utf-8").split()) for page in pages}
+    return dict(sorted(words.items(), key=lambda page: (-page[1], page[0])))
+
+
+def are_short(words: dict[str, int]) -> bool:
+    """Whether the pages have as many words as they may have; what is said of them is printed."""
+    print(f"words: {sum(words.values()):,} of at most {ALL_WORDS:,}: "
+          + ", ".join(f"{name} {count:,}" for name, count in words.items()))
+    if words["README.md"] > README_WORDS:
+        print(f"README.md has more than {README_WORDS:,} words")
+    return words["README.md"] <= README_WORDS and sum(words.values()) <= ALL_WORDS
 
 
 def files_of(crates: list[pathlib.Path], *patterns: str) -> list[str]:
@@ -59,7 +82,7 @@ def main() -> int:
     if len(figures) < 4 or any(abs(figure - count) * 50 > count for figure, count in zip(figures, lines)):
         print(f"README.md says {figures}")
         return 1
-    return 0
+    return 0 if are_short(words_of_pages()) else 1
 
 
 if __name__ == "__main__":
