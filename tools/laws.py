@@ -5,13 +5,14 @@ usage: laws.py [--write]
 
 Prints for each law function that proofs answer each of its clauses, what that says, and the lemmas by which it is
 answered, with their files. With --write it writes instead what docs/PROMISES.md says of the laws of a session's history,
-between `<!--laws-->` and `<!--end-->`: for each function a table of its clauses, with the definition of each, and the
+between `<!--laws-->` and `<!--end-->`: for each function a list of its clauses, with the definition of each, and the
 comment in front of this.
 """
 from __future__ import annotations
 
 import re
 import sys
+import textwrap
 from collections.abc import Iterator
 from typing import NamedTuple
 
@@ -20,8 +21,9 @@ from scratch import TOP
 PAGE = TOP / "docs" / "PROMISES.md"
 PLACE = re.compile(r"(?<=<!--laws-->\n).*?(?=<!--end-->)", re.DOTALL)
 HISTORY = TOP / "crates" / "dap_history"
-# The functions of which the page has tables.
-TABLES = ("history_laws", "run_laws", "command_laws")
+# The functions of which the page has lists, and how long its lines are.
+LISTS = ("history_laws", "run_laws", "command_laws")
+COLUMNS = 122
 # A law function with its clauses, and one of these; the answer to a goal of one, and a lemma file with what is used of
 # it; a definition with the comment in front of it.
 LAW = re.compile(r"^pub fn (\w+_laws)\(.*\)\n((?:    (?:ensures|//| ) .*\n)+)", re.MULTILINE)
@@ -71,26 +73,31 @@ def comments() -> dict[str, tuple[str, str]]:
     return found
 
 
-def tables() -> str:
+def item(law: Law, file: str, comment: str) -> str:
+    """What the page says of a clause."""
+    text = f"- `{law.clause}`: `{law.says}` (`{file}`). {comment}"
+    return textwrap.fill(text, COLUMNS, subsequent_indent="  ", break_long_words=False, break_on_hyphens=False)
+
+
+def lists() -> str:
     """What the page says of the laws of a session's history."""
     laws, said = laws_of(HISTORY.name), comments()
     parts = []
-    for function in TABLES:
-        rows = [f"| `{law.clause}` | `{law.says}` (`{said[law.says][0]}`) | {said[law.says][1]} |"
-                for law in laws if law.function == function]
-        parts.append("\n".join([f"| `{function}` | Definition | It says |", "|---|---|---|", *rows]))
+    for function in LISTS:
+        items = [item(law, *said[law.says]) for law in laws if law.function == function]
+        parts.append("\n".join([f"`{function}`:", "", *items]))
     return "\n\n".join(parts) + "\n"
 
 
 def wrong_laws() -> Iterator[str]:
-    """Whether the page has other tables than these."""
-    if PLACE.findall(PAGE.read_text(encoding="utf-8")) != [tables()]:
+    """Whether the page has other lists than these."""
+    if PLACE.findall(PAGE.read_text(encoding="utf-8")) != [lists()]:
         yield "docs/PROMISES.md: the laws aren't as in dap_history: tools/laws.py --write"
 
 
 def main() -> int:
     if sys.argv[1:] == ["--write"]:
-        PAGE.write_text(PLACE.sub(lambda _: tables(), PAGE.read_text(encoding="utf-8")), encoding="utf-8")
+        PAGE.write_text(PLACE.sub(lambda _: lists(), PAGE.read_text(encoding="utf-8")), encoding="utf-8")
     else:
         print("\n".join("\t".join(row) for row in answered_laws()))
     return 0

@@ -7,7 +7,7 @@ In README.md, CHANGELOG.md and docs/*.md a link has to lead to a file, and to a 
 backquotes that ends like a source file or a script has to be that of a file of the repository, or the end of its path;
 names that stand for others, such as `src/NAME.rt`, aren't looked at. A name that stands with its file, as in "`NAME`
 (`FILE`)", "(`NAME`, `FILE`)", "`NAME`: `FILE`" and "`NAME` in `FILE`", or before its file in a row of a table, has to
-be declared in that file. Prose has lines of at most 124 columns. The tables of laws in docs/PROMISES.md have to be
+be declared in that file. Prose has lines of at most 124 columns. The lists of laws in docs/PROMISES.md have to be
 those that laws.py writes. The version in the first line of the program's help is that of the manual pages, of the
 extension, and of the newest changes. In the model of the threads each process and inline names, in the comment before
 it, what it stands for: `@ FILE: NAME, NAME`. The files and their functions, types and variants have to be there, and a
