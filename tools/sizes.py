@@ -25,7 +25,8 @@ COUNTED = ("src/**/*.rt", "specs/**/*.antt", "proofs/**/*.antt")
 OF_TESTS = ("*_tests", "*_runs", "test_kit", "sample_programs", "speed")
 # What README.md says: code, definitions, proofs, tests.
 SAID = re.compile(
-    r"([\d,]+) lines of\s+code with contracts, ([\d,]+) of definitions, ([\d,]+) of proofs, and ([\d,]+) of\s+tests"
+    r"([\d,]+) lines of code with contracts, ([\d,]+) of definitions, ([\d,]+) of proofs, and ([\d,]+) of tests"
+    .replace(" ", r"\s+")
 )
 # The operation, or the token, of the operator; not the fault of dividing by 0.
 OPERATOR = re.compile(r"Divide(?!ByZero)|Slash")
