@@ -152,8 +152,8 @@ threads:
 	@tools/threads/explore.sh
 
 # Whether the files, headings and functions that the pages name are there, and what the model of the threads names, whether
-# functions and lines are short, whether README.md has the right sizes, whether each lemma is used and isn't the library's, and
-# nothing stands in specs/ that serves proofs alone, and whether each edit can be applied.
+# functions and lines are short, whether README.md has the right sizes and pages have few words, whether each lemma is used and
+# isn't the library's, and nothing stands in specs/ that serves proofs alone, and whether each edit can be applied.
 pages:
 	python3 tools/pages.py
 	python3 tools/sizes.py
