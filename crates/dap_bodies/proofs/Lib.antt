@@ -1,0 +1,2 @@
+-- What is shown of a list, by its plain elements; for the functions that show one.
+mod Shown

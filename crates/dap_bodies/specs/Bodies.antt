@@ -1,0 +1,128 @@
+-- Defines the bodies of responses that show a debuggee with one thread, which has the number 1.
+use Rattle.std.specs.Prelude.{ℕ, true, false, List, map, codes, string_bytes}
+use Rattle.serde_json.specs.Data.{Data, boolean, number, unsigned, string, array, object, no_members, item, no_items, member}
+use Rattle.serde_json.specs.View.{items_of}
+use Rattle.dap_bodies.specs.declared.showing.StackFrame.{StackFrame}
+use Rattle.dap_bodies.specs.declared.showing.Scope.{Scope}
+use Rattle.dap_bodies.specs.declared.showing.Variable.{Variable}
+use Rattle.dap_bodies.specs.declared.placing.Breakpoint.{Breakpoint}
+use Rattle.dap_bodies.specs.declared.placing.Breakpoint.TheVariants as breakpoint
+
+-- a body with this one member
+abbrev pub body_of : List ℕ → Data → Data
+body_of name value = object (member name value no_members)
+
+-- ---- the stack
+
+-- a frame: its number, name and place
+pub record PlainFrame : Type 0 where
+  pub id : ℕ
+  pub name : List ℕ
+  pub path : List ℕ
+  pub line : ℕ
+  pub column : ℕ
+
+abbrev pub plain_frame : StackFrame → PlainFrame
+plain_frame frame = record {
+  id = frame.id;
+  name = string_bytes frame.name;
+  path = string_bytes frame.path;
+  line = frame.line;
+  column = frame.column;
+}
+
+-- a StackFrame of the protocol
+abbrev pub frame_value : PlainFrame → Data
+frame_value frame =
+    object (member (codes "column") (number (unsigned frame.column))
+    (member (codes "id") (number (unsigned frame.id))
+    (member (codes "line") (number (unsigned frame.line))
+    (member (codes "name") (string frame.name)
+    (member (codes "source") (object (member (codes "path") (string frame.path) no_members)) no_members)))))
+
+-- the body for `stackTrace`: these frames, of so many in all
+abbrev pub stack_body : Data → ℕ → Data
+stack_body frames total =
+    object (member (codes "stackFrames") frames (member (codes "totalFrames") (number (unsigned total)) no_members))
+
+abbrev pub stack_trace : List PlainFrame → ℕ → Data
+stack_trace frames total = stack_body (array (items_of (map frame_value frames))) total
+
+-- ---- variables
+
+-- a scope: its name, and the reference by which its variables are asked for
+pub record PlainScope : Type 0 where
+  pub name : List ℕ
+  pub reference : ℕ
+
+abbrev pub plain_scope : Scope → PlainScope
+plain_scope scope = record { name = string_bytes scope.name; reference = scope.reference }
+
+-- a Scope of the protocol
+abbrev pub scope_value : PlainScope → Data
+scope_value scope =
+    object (member (codes "expensive") (boolean false) (member (codes "name") (string scope.name)
+    (member (codes "variablesReference") (number (unsigned scope.reference)) no_members)))
+
+-- the body for `scopes`
+abbrev pub scopes : List PlainScope → Data
+scopes all = body_of (codes "scopes") (array (items_of (map scope_value all)))
+
+-- a variable: its name, its value as it is shown, and the reference by which the variables inside are asked for, or 0
+pub record PlainVariable : Type 0 where
+  pub name : List ℕ
+  pub value : List ℕ
+  pub reference : ℕ
+
+abbrev pub plain_variable : Variable → PlainVariable
+plain_variable variable = record {
+  name = string_bytes variable.name;
+  value = string_bytes variable.value;
+  reference = variable.reference;
+}
+
+-- a Variable of the protocol
+abbrev pub variable_value : PlainVariable → Data
+variable_value variable =
+    object (member (codes "name") (string variable.name) (member (codes "value") (string variable.value)
+    (member (codes "variablesReference") (number (unsigned variable.reference)) no_members)))
+
+-- the body for `variables`
+abbrev pub variables : List PlainVariable → Data
+variables all = body_of (codes "variables") (array (items_of (map variable_value all)))
+
+-- the body for `evaluate`: the value as it is shown, and the reference by which the variables inside are asked for, or 0
+abbrev pub evaluated : List ℕ → ℕ → Data
+evaluated value reference =
+    object (member (codes "result") (string value)
+    (member (codes "variablesReference") (number (unsigned reference)) no_members))
+
+-- ---- threads
+
+-- the body for `threads`: the one thread, and its name
+abbrev pub threads : List ℕ → Data
+threads name =
+    object (member (codes "threads") (array (item (object (member (codes "id") (number (unsigned 1))
+    (member (codes "name") (string name) no_members))) no_items)) no_members)
+
+-- ---- breakpoints
+
+-- what became of a breakpoint: it is set at this line, or it isn't set, and why
+pub data PlainBreakpoint : Type 0 where
+  SetAt : ℕ → PlainBreakpoint
+  Refused : List ℕ → PlainBreakpoint
+
+abbrev pub plain_breakpoint : Breakpoint → PlainBreakpoint
+plain_breakpoint (breakpoint.SetAt line) = SetAt line
+plain_breakpoint (breakpoint.Refused why) = Refused (string_bytes why)
+
+-- a Breakpoint of the protocol
+abbrev pub breakpoint_value : PlainBreakpoint → Data
+breakpoint_value (SetAt line) =
+    object (member (codes "line") (number (unsigned line)) (member (codes "verified") (boolean true) no_members))
+breakpoint_value (Refused why) =
+    object (member (codes "message") (string why) (member (codes "verified") (boolean false) no_members))
+
+-- the body for `setBreakpoints`
+abbrev pub breakpoints : List PlainBreakpoint → Data
+breakpoints all = body_of (codes "breakpoints") (array (items_of (map breakpoint_value all)))

@@ -1,0 +1,4 @@
+-- events of a debuggee with one thread
+pub mod Events
+-- bodies of responses
+pub mod Bodies

@@ -1,0 +1,33 @@
+//! What an adapter tells of a debuggee with one thread: events, and the bodies of responses, member by member.
+//!
+//! ```
+//! use dap_bodies::{Variable, stopped, variables};
+//! use dap_server::{Event, Reply};
+//! use std::alloc::{AllocError, Global};
+//!
+//! fn step(alloc: Global) -> Result<Reply, AllocError> {
+//!     let mut reply = Reply::done(alloc);
+//!     reply.push(stopped(alloc, "step", None)?)?;
+//!     Ok(reply)
+//! }
+//!
+//! fn show(alloc: Global, shown: Vec<Variable>) -> Result<Reply, AllocError> {
+//!     Ok(Reply::with_body(alloc, variables(alloc, shown)?))
+//! }
+//! ```
+//!
+//! Each contract says which event or body it is, in full: `specs/Events.antt` and `specs/Bodies.antt` have the members and
+//! their values, as the Debug Adapter Protocol names them. Lines and columns are as the adapter counts them. An `Err` means
+//! that an allocation failed.
+#![tactic(auto)]
+
+mod events;
+mod placing;
+mod showing;
+mod values;
+
+pub use events::{THREAD, exited, initialized, output, stopped, terminated};
+pub use placing::{Breakpoint, breakpoints};
+pub use showing::{
+    Scope, StackFrame, Variable, evaluated, scopes, stack_trace, threads, variables,
+};

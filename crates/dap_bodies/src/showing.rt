@@ -1,0 +1,155 @@
+//! Bodies that show a debuggee which has stopped.
+
+ghost use Rattle.std.specs.Prelude.{◌≡◌, IfOk, codes, map, string_bytes};
+ghost use Rattle.serde_json.specs.View.{view};
+ghost use Rattle.dap_bodies.specs.Bodies.{plain_frame, stack_trace, plain_scope, scopes, plain_variable, variables, evaluated, threads, body_of, stack_body};
+
+use crate::events::THREAD;
+use crate::values::{Shown, array_of};
+use serde_json::{Value, json};
+use std::alloc::{AllocError, Global};
+
+/// A frame of the stack.
+#[derive(Drop)]
+pub struct StackFrame {
+    /// Its number, by which later requests name it.
+    pub id: u64,
+    /// What is shown of it, as the name of the function.
+    pub name: String,
+    /// The path of its source file.
+    pub path: String,
+    pub line: u64,
+    pub column: u64,
+}
+
+impl Shown for StackFrame {
+    ghost use Rattle.dap_bodies.specs.Bodies.{plain_frame, frame_value};
+
+    ghost shown = { λ frame. frame_value (plain_frame frame) };
+
+    fn into_value(self, alloc: Global) -> Result<Value, AllocError> {
+        let StackFrame {
+            id,
+            name,
+            path,
+            line,
+            column,
+        } = self;
+        json!(in alloc; {
+            "column": column,
+            "id": id,
+            "line": line,
+            "name": name,
+            "source": {"path": path}
+        })
+    }
+}
+
+/// Returns the body for `stackTrace`: these frames, of this many in all.
+pub fn stack_trace(alloc: Global, frames: Vec<StackFrame>, total: u64) -> Result<Value, AllocError>
+    ensures { IfOk result (λ body. view body ≡ stack_trace (map plain_frame frames.items) total) }
+{
+    stack_body(alloc, array_of(alloc, frames)?, total)
+}
+
+/// Returns the body with this array of frames.
+fn stack_body(alloc: Global, frames: Value, total: u64) -> Result<Value, AllocError>
+    ensures { IfOk result (λ body. view body ≡ stack_body (view frames) total) }
+{
+    json!(in alloc; {"stackFrames": frames, "totalFrames": total})
+}
+
+/// A scope of a frame: a group of variables.
+#[derive(Drop)]
+pub struct Scope {
+    /// What is shown of it.
+    pub name: String,
+    /// The reference by which its variables are asked for.
+    pub reference: u64,
+}
+
+impl Shown for Scope {
+    ghost use Rattle.dap_bodies.specs.Bodies.{plain_scope, scope_value};
+
+    ghost shown = { λ scope. scope_value (plain_scope scope) };
+
+    fn into_value(self, alloc: Global) -> Result<Value, AllocError> {
+        let Scope { name, reference } = self;
+        json!(in alloc; {
+            "expensive": false,
+            "name": name,
+            "variablesReference": reference
+        })
+    }
+}
+
+/// Returns the body for `scopes`.
+pub fn scopes(alloc: Global, all: Vec<Scope>) -> Result<Value, AllocError>
+    ensures { IfOk result (λ body. view body ≡ scopes (map plain_scope all.items)) }
+{
+    scopes_body(alloc, array_of(alloc, all)?)
+}
+
+/// Returns the body with this array of scopes.
+fn scopes_body(alloc: Global, all: Value) -> Result<Value, AllocError>
+    ensures { IfOk result (λ body. view body ≡ body_of (codes "scopes") (view all)) }
+{
+    json!(in alloc; {"scopes": all})
+}
+
+/// A variable, and its value as it is shown.
+#[derive(Drop)]
+pub struct Variable {
+    pub name: String,
+    pub value: String,
+    /// The reference by which the variables inside are asked for; 0 where there are none.
+    pub reference: u64,
+}
+
+impl Shown for Variable {
+    ghost use Rattle.dap_bodies.specs.Bodies.{plain_variable, variable_value};
+
+    ghost shown = { λ variable. variable_value (plain_variable variable) };
+
+    fn into_value(self, alloc: Global) -> Result<Value, AllocError> {
+        let Variable {
+            name,
+            value,
+            reference,
+        } = self;
+        json!(in alloc; {
+            "name": name,
+            "value": value,
+            "variablesReference": reference
+        })
+    }
+}
+
+/// Returns the body for `variables`.
+pub fn variables(alloc: Global, all: Vec<Variable>) -> Result<Value, AllocError>
+    ensures { IfOk result (λ body. view body ≡ variables (map plain_variable all.items)) }
+{
+    variables_body(alloc, array_of(alloc, all)?)
+}
+
+/// Returns the body with this array of variables.
+fn variables_body(alloc: Global, all: Value) -> Result<Value, AllocError>
+    ensures { IfOk result (λ body. view body ≡ body_of (codes "variables") (view all)) }
+{
+    json!(in alloc; {"variables": all})
+}
+
+/// Returns the body for `evaluate`: the value as it is shown, and the reference by which the variables inside are asked
+/// for, or 0 where there are none.
+pub fn evaluated(alloc: Global, value: String, reference: u64) -> Result<Value, AllocError>
+    ensures { IfOk result (λ body. view body ≡ evaluated (string_bytes value) reference) }
+{
+    json!(in alloc; {"result": value, "variablesReference": reference})
+}
+
+/// Returns the body for `threads`: the one thread, and its name.
+pub fn threads(alloc: Global, name: &str) -> Result<Value, AllocError>
+    ensures { IfOk result (λ body. view body ≡ threads name.now) }
+{
+    json!(in alloc; {"threads": [{"id": THREAD, "name": name}]})
+}
