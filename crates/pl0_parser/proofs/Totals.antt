@@ -249,7 +249,8 @@ tokens_ended (b ∷ bytes) p zero = ended_at (is_space b) p b bytes (tokens_ende
 
 module _ {T : Type 0} (Reads : Reading T) (goals : ℕ → List Goal) (are : AreTextGoals (IsText Reads) goals)
     (last : EndsLast (goals level_limit))
-    (read : (at : ℕ → Place) (s : List Symbol) → MeetsAll (goals level_limit) s → (tree : T) × Reads level_limit (placed at s) tree)
+    (read : (at : ℕ → Place) (s : List Symbol) → MeetsAll (goals level_limit) s
+    → (tree : T) × Reads level_limit (placed at s) tree)
   where
     by_refusal : (tokens : List Token) → IsEnded tokens → (o : Option (FaultKind × Place))
         → first_refusal (goals level_limit) tokens ≡ o
@@ -265,4 +266,5 @@ module _ {T : Type 0} (Reads : Reading T) (goals : ℕ → List Goal) (are : Are
 
     pub read_or_faulty : IsReadOrFaulty Reads
     read_or_faulty text =
-        by_refusal (tokens_of text) (tokens_ended text start_place 0) (first_refusal (goals level_limit) (tokens_of text)) refl
+        by_refusal (tokens_of text) (tokens_ended text start_place 0)
+        (first_refusal (goals level_limit) (tokens_of text)) refl
