@@ -1,8 +1,10 @@
 -- What the machine asks at a mark is the condition of the breakpoint there.
-use Rattle.std.proofs.Common.{◌≡◌, ℕ, zero, suc, ◌-◌, ◌<◌, Bool, false, List, [], ◌∷◌, length, slice_get, Option, Some, None, Ok, ℤ, All, refl, sym, ap, ◌∙◌, subst, arith}
+use Rattle.std.proofs.Common.{◌≡◌, ℕ, zero, suc, ◌-◌, ◌<◌, Bool, true, false, List, [], ◌∷◌, length, slice_get, Option, Some, None, Result, Ok, Err, ℤ, All, refl, sym, ap, ◌∙◌, subst, arith}
 use Rattle.std.specs.Prelude.{IsSome, IfSome}
+use Rattle.std.specs.Result.{result_unwrap_or}
 use Rattle.pl0_tree.specs.Tree.{Block}
 use Rattle.pl0_tree.specs.Steps.{step_path}
+use Rattle.pl0_meaning.specs.declared.RunFault.{RunFault}
 use Rattle.pl0_meaning.specs.Values.{Frame, Configuration, frame_at, number_of, or_zero, after, comparison}
 use Rattle.pl0_meaning.specs.Frames.{AreLinked}
 use Rattle.pl0_meaning.specs.Laws.{FramesAreLinked}
@@ -10,13 +12,15 @@ use Rattle.pl0_meaning.proofs.Linking.{frame_at-top}
 use Rattle.pl0_machine.specs.declared.mark.Operand.{Operand}
 use Rattle.pl0_machine.specs.declared.mark.Operand.TheVariants.{Number, Variable, Main}
 use Rattle.pl0_machine.specs.declared.mark.Comparison.{Comparison}
+use Rattle.pl0_machine.specs.declared.mark.Question.{Question}
+use Rattle.pl0_machine.specs.declared.mark.Question.TheVariants.{Nothing, Comparison as AComparison, Condition as ACondition}
 use Rattle.pl0_machine.specs.Machine.{Standing, program, configuration, frames, frames_of, depth_of, top_of, variables_of, IsNext, number_up}
-use Rattle.pl0_machine.specs.Stretches.{operand_in, Compares, HasOperand, CanAsk}
+use Rattle.pl0_machine.specs.Stretches.{operand_in, Compares, IsMet, HasOperand, CanAsk}
 use Rattle.dbg_plan.specs.Breakpoints.{plain_breakpoints}
-use Rattle.dbg_plan.specs.Comparisons.{expression_of, condition_of, IsOnlyOne}
+use Rattle.dbg_plan.specs.Comparisons.{expression_of, condition_of, IsOnlyOne, IsOfOnlyOne}
 use Rattle.dbg_plan.specs.Plans.{Listed, IsPlanOf, IsBoundAt, those_of}
 use Rattle.dbg_plan.specs.Counting.{IsMetHere}
-use Rattle.dbg_plan.specs.Reads.{bound_value, bound_truth, CanRead, CanTest}
+use Rattle.pl0_machine.specs.LocatedValues.{bound_value, bound_truth, CanRead, CanTest}
 use Rattle.dbg_plan.specs.Running.{has_arrival}
 use Rattle.dbg_plan.proofs.Here.{are_met}
 use Rattle.dbg_plan.proofs.Unwatched.{none_by_one}
@@ -57,6 +61,10 @@ module _ (c : Configuration) (i depth : ℕ) (is : frame_at c i ≡ top_of c)
       ∙ ap (λ r. after r (λ y. Ok (comparison q.relation told.0 y))) (operand_value q.right told.1 told.3)
       ∙ ap Ok (sym told.4)
 
+is_false : (r : Result Bool RunFault) → result_unwrap_or r true ≡ false → r ≡ Ok false
+is_false (Ok holds) e = ap Ok e
+is_false (Err fault) e = cc
+
 -- ---- the newest frame
 
 newest_at : (main : Block) (c : Configuration) (n : ℕ) → IsNext main (top_of c) n
@@ -90,42 +98,59 @@ there_at m n next = by_place (configuration m) next
 -- ---- the condition of a breakpoint that is alone at its step
 
 module _ (laws : FramesAreLinked) (m : Standing) (plan : Listed) (fits : IsPlanOf m.unit plan) (n : ℕ)
-    (next : IsNext (program m) (top_of (frames m)) n) (q : Comparison)
-    (only : IsOnlyOne (those_of n plan.breakpoints) q) where
-  here : IsMetHere m only.breakpoint
-  here =
-      let met : All (IsMetHere m) (only.breakpoint ∷ []) =
-      subst (λ bs. All (IsMetHere m) bs) only.one (are_met m n next plan.breakpoints fits.bound) in
-      met 0 only.breakpoint (omega arith)
+    (next : IsNext (program m) (top_of (frames m)) n) where
+  module _ (q : Question) (only : IsOnlyOne (those_of n plan.breakpoints) q) where
+    here : IsMetHere m only.breakpoint
+    here =
+        let met : All (IsMetHere m) (only.breakpoint ∷ []) =
+        subst (λ bs. All (IsMetHere m) bs) only.one (are_met m n next plan.breakpoints fits.bound) in
+        met 0 only.breakpoint (omega arith)
 
-  abbrev deep : ℕ
-  deep = length (step_path (program m) only.breakpoint.step)
+    abbrev deep : ℕ
+    deep = length (step_path (program m) only.breakpoint.step)
 
-  located_is : only.guard.located ≡ condition_of deep q
-  located_is =
-      let bound = subst (λ g. IsBoundAt (program m) only.breakpoint.step g) only.guarded here.bound in
-      subst (λ o. IfSome o (λ c. only.guard.located ≡ condition_of deep c)) only.asked bound.1
+    tests : IsTested (program m) (frames m) (depth_of m - 1) only.guard
+    tests =
+        tested_here m only.breakpoint only.guard (depth_of m) here only.guarded ∣ linked_at laws m ∣₁ refl
 
-  tests : IsTested (program m) (frames m) (depth_of m - 1) only.guard
-  tests =
-      tested_here m only.breakpoint only.guard (depth_of m) here only.guarded ∣ linked_at laws m ∣₁ refl
+    newest : frame_at (frames m) (depth_of m - 1) ≡ top_of (frames m)
+    newest = newest_at (program m) (frames m) n next
 
-  newest : frame_at (frames m) (depth_of m - 1) ≡ top_of (frames m)
-  newest = newest_at (program m) (frames m) n next
+    up : (k : ℕ) → number_up (frames m) deep k (depth_of m - 1) ≡ number_of (frame_at (frames m) 0) k
+    up = main_up (program m) (frames m) only.breakpoint.step (linked_at laws m) here.next
 
-  up : (k : ℕ) → number_up (frames m) deep k (depth_of m - 1) ≡ number_of (frame_at (frames m) 0) k
-  up = main_up (program m) (frames m) only.breakpoint.step (linked_at laws m) here.next
+    -- the condition of which this is the truth doesn't hold
+    none_there : bound_truth (frames m) (depth_of m - 1) only.guard.located.value ≡ Ok false
+        → has_arrival (plain_breakpoints plan.breakpoints) m ≡ false
+    none_there is =
+        none_by_one m n next plan.breakpoints only.breakpoint only.one
+        (unmet_told m only.breakpoint only.guard (depth_of m - 1) (there_at m n next) only.guarded tests is)
 
-  pub can_ask : CanAsk (frames m) (Some q)
-  can_ask =
-      let can = subst (λ k. CanTest (frames m) (depth_of m - 1) k) located_is tests.0 in (
-        has_operand (frames m) (depth_of m - 1) deep newest up q.left can.0,
-        has_operand (frames m) (depth_of m - 1) deep newest up q.right can.1,
+    compared : (c : Comparison) → only.guard.asked ≡ Some c → only.guard.located.value ≡ condition_of deep c
+    compared c is =
+        let bound = subst (λ g. IsBoundAt (program m) only.breakpoint.step g) only.guarded here.bound in
+        subst (λ o. IfSome o (λ c. only.guard.located.value ≡ condition_of deep c)) is bound.1
+
+  pub can_ask : (q : Question) → IsOfOnlyOne (those_of n plan.breakpoints) q → CanAsk (frames m) q
+  can_ask Nothing only = tt
+  can_ask (AComparison c) only =
+      let q = AComparison c in
+      let can = subst (λ k. CanTest (frames m) (depth_of m - 1) k) (compared q only c only.asks) (tests q only).0 in (
+        has_operand (frames m) (depth_of m - 1) (deep q only) (newest q only) (up q only) c.left can.0,
+        has_operand (frames m) (depth_of m - 1) (deep q only) (newest q only) (up q only) c.right can.1,
       )
+  can_ask (ACondition p) only =
+      subst (λ k. CanTest (frames m) (depth_of m - 1) k) (sym only.asks) (tests (ACondition p) only).0
 
-  pub unmet : Compares (frames m) q false → has_arrival (plain_breakpoints plan.breakpoints) m ≡ false
-  unmet told =
-      none_by_one m n next plan.breakpoints only.breakpoint only.one
-      (unmet_told m only.breakpoint only.guard (depth_of m - 1) (there_at m n next) only.guarded tests
-      (ap (λ k. bound_truth (frames m) (depth_of m - 1) k) located_is
-      ∙ comparison_truth (frames m) (depth_of m - 1) deep newest up q false told))
+  pub unmet : (q : Question) → IsOfOnlyOne (those_of n plan.breakpoints) q → IsMet (frames m) true q false
+      → has_arrival (plain_breakpoints plan.breakpoints) m ≡ false
+  unmet Nothing only met = let other : false ≡ true = met in cc
+  unmet (AComparison c) only met =
+      let q = AComparison c in
+      none_there q only
+      (ap (λ k. bound_truth (frames m) (depth_of m - 1) k) (compared q only c only.asks)
+      ∙ comparison_truth (frames m) (depth_of m - 1) (deep q only) (newest q only) (up q only) c false met)
+  unmet (ACondition p) only met =
+      none_there (ACondition p) only
+      (ap (λ k. bound_truth (frames m) (depth_of m - 1) k) (sym only.asks)
+      ∙ is_false (bound_truth (frames m) (depth_of m - 1) p.value) (sym met))

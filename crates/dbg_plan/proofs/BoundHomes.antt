@@ -13,8 +13,8 @@ use Rattle.pl0_meaning.specs.Values.{constant_of}
 use Rattle.pl0_meaning.proofs.Homes.{IsDeclaredBy, home_is}
 use Rattle.pl0_names.specs.declared.names.Home.{Home as Answer}
 use Rattle.pl0_names.specs.Homes.{IsHomeAnswer, meaning_of}
-use Rattle.dbg_plan.specs.declared.located.LocatedExpression.{LocatedExpression}
-use Rattle.dbg_plan.specs.declared.located.LocatedExpression.TheVariants as bound
+use Rattle.pl0_machine.specs.declared.located.LocatedExpression.{LocatedExpression}
+use Rattle.pl0_machine.specs.declared.located.LocatedExpression.TheVariants as bound
 use Rattle.dbg_plan.specs.Bound.{IsDeclaredBound, IsNameBound}
 
 module _ (main : Block) (q : Path) (w : List ℕ) (a : Answer) (is : IsHomeAnswer main q (home main q w) (Some a)) where

@@ -14,7 +14,7 @@ use Rattle.pl0_meaning.specs.Values.{Configuration, value}
 use Rattle.pl0_meaning.specs.Frames.{AreLinked}
 use Rattle.pl0_meaning.proofs.Linking.{frame_at-top}
 use Rattle.pl0_machine.specs.Machine.{Standing, program, configuration, frames, top_of, IsNext}
-use Rattle.dbg_plan.specs.declared.located.LocatedExpression.{LocatedExpression}
+use Rattle.pl0_machine.specs.declared.located.LocatedExpression.{LocatedExpression}
 use Rattle.dbg_plan.specs.declared.message.Part.{Part}
 use Rattle.dbg_plan.specs.declared.message.Part.TheVariants as part
 use Rattle.dbg_plan.specs.declared.message.LogMessage.{LogMessage}
@@ -24,7 +24,8 @@ use Rattle.dbg_plan.specs.Messages.{expressions, expression_limit, plain_part, p
 use Rattle.dbg_plan.specs.Breakpoints.{plain_message}
 use Rattle.dbg_plan.specs.Logs.{Log, log_in}
 use Rattle.dbg_plan.specs.Counting.{log_now}
-use Rattle.dbg_plan.specs.Reads.{bound_value, CanRead, ReadsPart}
+use Rattle.pl0_machine.specs.LocatedValues.{bound_value, CanRead}
+use Rattle.dbg_plan.specs.Reads.{ReadsPart}
 use Rattle.dbg_plan.proofs.ValuesBound.{expression_reads}
 use Rattle.dbg_plan.proofs.ValuesMet.{stands_in, CanRead-prop}
 use Rattle.dbg_plan.proofs.MessageParts.{expressions-append}

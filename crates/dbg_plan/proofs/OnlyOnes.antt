@@ -1,23 +1,24 @@
--- A table of the comparisons that stand alone at their steps: of other breakpoints, and read by a step.
-use Rattle.std.proofs.Common.{◌≡◌, ℕ, zero, suc, List, [], ◌∷◌, slice_get, slice_index_or, Option, Some, None, ap, subst}
+-- A table of what is asked at the steps: of other breakpoints, and read by a step.
+use Rattle.std.proofs.Common.{◌≡◌, ℕ, zero, suc, List, [], ◌∷◌, slice_get, slice_index_or, Some, refl, ap, subst}
 use Rattle.dbg_plan.specs.declared.breakpoint.Breakpoint.{Breakpoint}
-use Rattle.pl0_machine.specs.declared.mark.Comparison.{Comparison}
-use Rattle.dbg_plan.specs.Comparisons.{IsOnlyOne}
+use Rattle.pl0_machine.specs.declared.mark.Question.{Question}
+use Rattle.pl0_machine.specs.declared.mark.Question.TheVariants.{Nothing}
+use Rattle.dbg_plan.specs.Comparisons.{IsOfOnlyOne}
 use Rattle.dbg_plan.specs.Plans.{those_of}
 use Rattle.dbg_plan.specs.Table.{AreOnlyOnes}
 
 -- the table of other breakpoints that are the same at each step
-pub of_all : (ordered bs : List Breakpoint) (steps : ℕ) (comparisons : List (Option Comparison))
-    → ((s : ℕ) → those_of s ordered ≡ those_of s bs) → AreOnlyOnes ordered steps comparisons
-    → AreOnlyOnes bs steps comparisons
-of_all ordered bs steps comparisons same are = record {
+pub of_all : (ordered bs : List Breakpoint) (steps : ℕ) (questions : List Question)
+    → ((s : ℕ) → those_of s ordered ≡ those_of s bs) → AreOnlyOnes ordered steps questions
+    → AreOnlyOnes bs steps questions
+of_all ordered bs steps questions same are = record {
   long = are.long;
-  each = λ s c e. subst (λ l. IsOnlyOne l c) (same s) (are.each s c e);
+  each = λ s q e. subst (λ l. IsOfOnlyOne l q) (same s) (are.each s q e);
 }
 
--- what is read of the table, with nothing beyond its end
-pub read_is : (xs : List (Option Comparison)) (s : ℕ) (c : Comparison) → slice_index_or xs s None ≡ Some c
-    → slice_get xs s ≡ Some (Some c)
-read_is [] s c e = cc
-read_is (x ∷ xs) zero c e = ap Some e
-read_is (x ∷ xs) (suc s) c e = read_is xs s c e
+-- what is read of the table, with nothing asked beyond its end
+pub read_is : (bs : List Breakpoint) (xs : List Question) (s : ℕ)
+    → ((q : Question) → slice_get xs s ≡ Some q → IsOfOnlyOne bs q) → IsOfOnlyOne bs (slice_index_or xs s Nothing)
+read_is bs [] s each = tt
+read_is bs (x ∷ xs) zero each = each x refl
+read_is bs (x ∷ xs) (suc s) each = read_is bs xs s each

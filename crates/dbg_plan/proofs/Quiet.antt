@@ -10,13 +10,13 @@ use Rattle.pl0_meaning.specs.Laws.{FramesAreLinked}
 use Rattle.pl0_meaning.proofs.Linking.{at_next}
 use Rattle.pl0_machine.specs.declared.outcome.StepOutcome.{StepOutcome}
 use Rattle.pl0_machine.specs.declared.outcome.StepOutcome.TheVariants.{Went, Done}
-use Rattle.pl0_machine.specs.declared.mark.Comparison.{Comparison}
+use Rattle.pl0_machine.specs.declared.mark.Question.TheVariants.{Nothing}
 use Rattle.pl0_machine.specs.declared.mark.Marks.{Marks}
 use Rattle.pl0_machine.specs.Machine.{Standing, program, frames, frames_of, top_of, depth_of, outcome_of, Stepped, IsNext, BeginsNext}
 use Rattle.dbg_plan.specs.Breakpoints.{Breakpoint, plain_breakpoints}
-use Rattle.dbg_plan.specs.Plans.{Listed, IsPlanOf, watched_lines, has_breakpoint, breakpoints_of}
+use Rattle.dbg_plan.specs.Plans.{Listed, IsPlanOf, those_of, watched_lines, has_breakpoint, breakpoints_of}
 use Rattle.dbg_plan.specs.Table.{AreMarksOf}
-use Rattle.pl0_machine.specs.Stretches.{ahead, IsMet, CanAsk, IsTable, HasMark, IsUnseen, Stretches}
+use Rattle.pl0_machine.specs.Stretches.{ahead, IsMet, IsTable, HasMark, IsUnseen, Stretches}
 use Rattle.dbg_plan.specs.Running.{has_arrival, IsQuiet, RanQuietly}
 use Rattle.dbg_plan.specs.Quiet.{Watches, RanByMachine}
 use Rattle.dbg_plan.specs.Counting.{MayBePlanOf}
@@ -109,16 +109,10 @@ module _ (laws : FramesAreLinked) (plan : Option Listed) where
       let is = fits_of u plan asked watches.1 fits in (
         ap length are.marked ∙ ap length is.watched
             ∙ length-map u.begun_steps.items (has_breakpoint asked.breakpoints),
-        λ m n same next. can_all asked are m (subst (λ v. IsPlanOf v asked) (sym same) is) n next
-            (slice_index_or marks.asked.items n None) refl,
+        λ m n same next. can_ask laws m asked (subst (λ v. IsPlanOf v asked) (sym same) is) n next
+            (slice_index_or marks.asked.items n Nothing)
+            (read_is (those_of n asked.breakpoints) marks.asked.items n (are.asked.each n)),
       )
-    where
-      can_all : (asked : Listed) (are : AreMarksOf asked marks) (m : Standing) → IsPlanOf m.unit asked → (n : ℕ)
-          → IsNext (program m) (top_of (frames m)) n → (o : Option Comparison)
-          → slice_index_or marks.asked.items n None ≡ o → CanAsk (frames m) o
-      can_all asked are m is n next None e = tt
-      can_all asked are m is n next (Some q) e =
-          can_ask laws m asked is n next q (are.asked.each n q (read_is marks.asked.items n q e))
 
   no_arrival : (marks : Option Marks) (m : Standing) → MayBePlanOf m.unit plan → Watches plan marks
       → HasMark marks m false → has_arrival (breakpoints_of plan) m ≡ false
@@ -135,22 +129,18 @@ module _ (laws : FramesAreLinked) (plan : Option Listed) where
       next : BeginsNext m unmarked.0
       next = unmarked.1
 
-      by_asked : (o : Option Comparison) → slice_index_or marks.asked.items next.step None ≡ o
-          → IsMet (frames m) true o false → has_arrival (plain_breakpoints asked.breakpoints) m ≡ false
-      by_asked None e met = let other : false ≡ true = met in cc
-      by_asked (Some q) e met =
-          unmet laws m asked is next.step next.next q
-          (watches.2.asked.each next.step q (read_is marks.asked.items next.step q e)) met
-
       by_mark : (marked : Bool) → slice_get marks.marked.items unmarked.0 ≡ Some marked
-          → IsMet (frames m) marked (slice_index_or marks.asked.items next.step None) false
+          → IsMet (frames m) marked (slice_index_or marks.asked.items next.step Nothing) false
           → has_arrival (plain_breakpoints asked.breakpoints) m ≡ false
       by_mark false at met =
           let has_one =
           there asked.breakpoints m.unit.begun_steps.items asked.watched unmarked.0 next.step is.watched next.begins in
           none_by_step m next.step next.next asked.breakpoints
           (same_Some _ _ (sym has_one ∙ sym (ap (λ l. slice_get l unmarked.0) watches.2.marked) ∙ at))
-      by_mark true at met = by_asked (slice_index_or marks.asked.items next.step None) refl met
+      by_mark true at met =
+          unmet laws m asked is next.step next.next (slice_index_or marks.asked.items next.step Nothing)
+          (read_is (those_of next.step asked.breakpoints) marks.asked.items next.step (watches.2.asked.each next.step))
+          met
 
 module _ (laws : FramesAreLinked) (limit outer : ℕ) (plan : Option Listed) (marks : Option Marks)
     (watches : Watches plan marks) where

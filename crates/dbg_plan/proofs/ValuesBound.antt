@@ -10,12 +10,12 @@ use Rattle.pl0_meaning.specs.Frames.{AreLinked}
 use Rattle.pl0_meaning.proofs.Homes.{home_is}
 use Rattle.pl0_meaning.proofs.Linking.{found, variable_found, frame_of, variable_within}
 use Rattle.pl0_machine.specs.Machine.{number_up}
-use Rattle.dbg_plan.specs.declared.located.LocatedExpression.{LocatedExpression}
-use Rattle.dbg_plan.specs.declared.located.LocatedExpression.TheVariants as bound
-use Rattle.dbg_plan.specs.declared.located.LocatedCondition.{LocatedCondition}
-use Rattle.dbg_plan.specs.declared.located.LocatedCondition.TheVariants as bound_condition
+use Rattle.pl0_machine.specs.declared.located.LocatedExpression.{LocatedExpression}
+use Rattle.pl0_machine.specs.declared.located.LocatedExpression.TheVariants as bound
+use Rattle.pl0_machine.specs.declared.located.LocatedCondition.{LocatedCondition}
+use Rattle.pl0_machine.specs.declared.located.LocatedCondition.TheVariants as bound_condition
 use Rattle.dbg_plan.specs.Bound.{IsDeclaredBound, IsNameBound, IsExpressionBound, IsConditionBound}
-use Rattle.dbg_plan.specs.Reads.{bound_value, bound_truth, CanRead, CanTest}
+use Rattle.pl0_machine.specs.LocatedValues.{bound_value, bound_truth, CanRead, CanTest}
 use Rattle.dbg_plan.proofs.ValuesLinks.{leads}
 
 -- a bound expression can be read, and has this number

@@ -15,10 +15,10 @@ use Rattle.pl0_meaning.specs.Values.{Frame, Configuration, return_of, first_step
 use Rattle.pl0_meaning.specs.Frames.{AreLinked}
 use Rattle.pl0_meaning.proofs.Linking.{frame_at-top}
 use Rattle.pl0_machine.specs.Machine.{Standing, program, configuration, frames, depth_of, top_of, IsNext}
-use Rattle.dbg_plan.specs.declared.located.LocatedExpression.{LocatedExpression}
-use Rattle.dbg_plan.specs.declared.located.LocatedExpression.TheVariants.{Number, Variable, Negate', Binary'}
-use Rattle.dbg_plan.specs.declared.located.LocatedCondition.{LocatedCondition}
-use Rattle.dbg_plan.specs.declared.located.LocatedCondition.TheVariants.{Odd, Compare}
+use Rattle.pl0_machine.specs.declared.located.LocatedExpression.{LocatedExpression}
+use Rattle.pl0_machine.specs.declared.located.LocatedExpression.TheVariants.{Number, Variable, Negate', Binary'}
+use Rattle.pl0_machine.specs.declared.located.LocatedCondition.{LocatedCondition}
+use Rattle.pl0_machine.specs.declared.located.LocatedCondition.TheVariants.{Odd, Compare}
 use Rattle.dbg_plan.specs.declared.breakpoint.BoundCondition.{BoundCondition}
 use Rattle.dbg_plan.specs.declared.breakpoint.Breakpoint.{Breakpoint}
 use Rattle.dbg_plan.specs.declared.evaluation.EvalFault.{EvalFault}
@@ -28,7 +28,7 @@ use Rattle.dbg_plan.specs.Due.{true_or_faulty}
 use Rattle.dbg_plan.specs.Plans.{IsBoundAt}
 use Rattle.dbg_plan.specs.Counting.{holds_in, holds_now, IsMetHere}
 use Rattle.dbg_plan.specs.Values.{answered}
-use Rattle.dbg_plan.specs.Reads.{bound_truth, CanRead, CanTest}
+use Rattle.pl0_machine.specs.LocatedValues.{bound_truth, CanRead, CanTest}
 use Rattle.dbg_plan.proofs.ValuesBound.{condition_reads}
 
 -- ---- a frame's next step is one of its block
@@ -97,27 +97,27 @@ coded_truth = hlevel (codes, run_fault.the_row.coded)
 -- it can be tested in the newest frame, and gives the truth of its source
 abbrev pub IsTested : Block → Configuration → ℕ → BoundCondition → Type 0
 IsTested main c top guard =
-    CanTest c top guard.located × (bound_truth c top guard.located ≡ truth main c (length c - 1)
+    CanTest c top guard.located.value × (bound_truth c top guard.located.value ≡ truth main c (length c - 1)
     (plain_condition guard.condition))
 
 tested : (main : Block) (c : Configuration) (n top : ℕ) (guard : BoundCondition) → AreLinked main c
     → IsNext main (top_of c) n → IsConditionBound main (step_path main n) (plain_condition guard.condition)
-    guard.located → top ≡ length c - 1 → IsTested main c top guard
+    guard.located.value → top ≡ length c - 1 → IsTested main c top guard
 tested main [] n top guard linked next is at = absurd next
 tested main (f ∷ below) n top guard linked next is at =
     let here : length below ≡ length (f ∷ below) - 1 = omega arith in
     let bound =
-    subst (λ q. IsConditionBound main q (plain_condition guard.condition) guard.located)
+    subst (λ q. IsConditionBound main q (plain_condition guard.condition) guard.located.value)
     (sym (stands_in main f n next)) is in
     subst (λ i. IsTested main (f ∷ below) i guard) (sym at)
     (condition_reads main (f ∷ below) (length (f ∷ below) - 1) f linked
-    (frame_at-top f below (length (f ∷ below) - 1) here) (plain_condition guard.condition) guard.located bound)
+    (frame_at-top f below (length (f ∷ below) - 1) here) (plain_condition guard.condition) guard.located.value bound)
 
 pub is_tested : (main : Block) (c : Configuration) (n top : ℕ) (guard : BoundCondition) → ∥ AreLinked main c ∥₁
     → IsNext main (top_of c) n → IsConditionBound main (step_path main n) (plain_condition guard.condition)
-    guard.located → top ≡ length c - 1 → IsTested main c top guard
+    guard.located.value → top ≡ length c - 1 → IsTested main c top guard
 is_tested main c n top guard linked next is at =
-    ∥∥₁_elim linked (×_prop (CanTest-prop c top guard.located) (Coded-set coded_truth _ _))
+    ∥∥₁_elim linked (×_prop (CanTest-prop c top guard.located.value) (Coded-set coded_truth _ _))
     (λ l. tested main c n top guard l next is at)
 
 unless_faulty : (r : Result Bool EvalFault) → result_unwrap_or r true ≡ true_or_faulty (answered r)
@@ -127,7 +127,7 @@ unless_faulty (Err fault) = refl
 -- what is reported of the condition is whether it holds
 pub holds_told : (m : Standing) (b : Breakpoint) (guard : BoundCondition) (top : ℕ) (r : Result Bool EvalFault)
     (result : Bool) → configuration m ≡ Some (frames m) → b.condition ≡ Some guard
-    → IsTested (program m) (frames m) top guard → bound_truth (frames m) top guard.located ≡ answered r
+    → IsTested (program m) (frames m) top guard → bound_truth (frames m) top guard.located.value ≡ answered r
     → result ≡ result_unwrap_or r true → result ≡ holds_now m b
 holds_told m b guard top r result there is t value e =
     e ∙ unless_faulty r
@@ -138,7 +138,7 @@ holds_told m b guard top r result there is t value e =
 -- a condition that doesn't hold
 pub unmet_told : (m : Standing) (b : Breakpoint) (guard : BoundCondition) (top : ℕ) → configuration m ≡ Some (frames m)
     → b.condition ≡ Some guard → IsTested (program m) (frames m) top guard
-    → bound_truth (frames m) top guard.located ≡ Ok false → holds_now m b ≡ false
+    → bound_truth (frames m) top guard.located.value ≡ Ok false → holds_now m b ≡ false
 unmet_told m b guard top there is t fails = sym (holds_told m b guard top (Ok false) false there is t fails refl)
 
 -- a breakpoint's condition can be tested in the newest frame

@@ -15,7 +15,8 @@ use Rattle.pl0_machine.specs.Machine.{Shows, number_up}
 use Rattle.dbg_plan.specs.declared.binding.Located.{Located}
 use Rattle.dbg_plan.specs.declared.binding.Located.TheVariants as at
 use Rattle.dbg_plan.specs.Bound.{IsNameBound}
-use Rattle.dbg_plan.specs.Reads.{bound_value, bound_of}
+use Rattle.pl0_machine.specs.LocatedValues.{bound_value}
+use Rattle.dbg_plan.specs.Reads.{bound_of}
 use Rattle.dbg_plan.proofs.ValuesBound.{Reads, name_reads}
 use Rattle.dbg_plan.proofs.ValuesMet.{CanRead-prop}
 

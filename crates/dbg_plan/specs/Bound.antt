@@ -7,10 +7,10 @@ use Rattle.pl0_tree.specs.Plain.{plain_expression}
 use Rattle.pl0_unit.specs.Code.{level}
 use Rattle.dbg_plan.specs.declared.message.Part.{Part}
 use Rattle.dbg_plan.specs.declared.message.Part.TheVariants as part
-use Rattle.dbg_plan.specs.declared.located.LocatedExpression.{LocatedExpression}
-use Rattle.dbg_plan.specs.declared.located.LocatedExpression.TheVariants as bound
-use Rattle.dbg_plan.specs.declared.located.LocatedCondition.{LocatedCondition}
-use Rattle.dbg_plan.specs.declared.located.LocatedCondition.TheVariants as bound_condition
+use Rattle.pl0_machine.specs.declared.located.LocatedExpression.{LocatedExpression}
+use Rattle.pl0_machine.specs.declared.located.LocatedExpression.TheVariants as bound
+use Rattle.pl0_machine.specs.declared.located.LocatedCondition.{LocatedCondition}
+use Rattle.pl0_machine.specs.declared.located.LocatedCondition.TheVariants as bound_condition
 
 -- what the block h declares, read in the block q: a constant by its value, a variable by how many static links lead to
 -- its frame and by its index there

@@ -1,14 +1,16 @@
--- The conditions that the machine evaluates in its loop, as conditions with located names.
+-- What the machine is asked in its loop for a condition.
 use Rattle.std.specs.Prelude.{◌≡◌, ℕ, List, [], ◌∷◌, Some}
 use Rattle.dbg_plan.specs.declared.breakpoint.BoundCondition.{BoundCondition}
 use Rattle.dbg_plan.specs.declared.breakpoint.Breakpoint.{Breakpoint}
 use Rattle.pl0_machine.specs.declared.mark.Comparison.{Comparison}
+use Rattle.pl0_machine.specs.declared.mark.Question.{Question}
+use Rattle.pl0_machine.specs.declared.mark.Question.TheVariants.{Nothing, Comparison as AComparison, Condition as ACondition}
 use Rattle.pl0_machine.specs.declared.mark.Operand.{Operand}
 use Rattle.pl0_machine.specs.declared.mark.Operand.TheVariants as operand
-use Rattle.dbg_plan.specs.declared.located.LocatedExpression.{LocatedExpression}
-use Rattle.dbg_plan.specs.declared.located.LocatedExpression.TheVariants.{Number, Variable}
-use Rattle.dbg_plan.specs.declared.located.LocatedCondition.{LocatedCondition}
-use Rattle.dbg_plan.specs.declared.located.LocatedCondition.TheVariants.{Compare}
+use Rattle.pl0_machine.specs.declared.located.LocatedExpression.{LocatedExpression}
+use Rattle.pl0_machine.specs.declared.located.LocatedExpression.TheVariants.{Number, Variable}
+use Rattle.pl0_machine.specs.declared.located.LocatedCondition.{LocatedCondition}
+use Rattle.pl0_machine.specs.declared.located.LocatedCondition.TheVariants.{Compare}
 
 -- In a block around which this many blocks are, a variable of the frame itself is no static link away, and one of the
 -- main block's frame as many as there are blocks around.
@@ -20,10 +22,21 @@ expression_of depth (operand.Main k) = Variable depth k
 abbrev pub condition_of : ℕ → Comparison → LocatedCondition
 condition_of depth c = Compare c.relation (expression_of depth c.left) (expression_of depth c.right)
 
--- there is one breakpoint, and the comparison is what is asked of the machine for its condition
-pub record IsOnlyOne (breakpoints : List Breakpoint) (c : Comparison) : Type 0 where
+-- this is what is asked of the machine for a condition: the comparison that it is, or the condition itself
+abbrev pub Asks : BoundCondition → Question → Type 0
+Asks guard Nothing = ⊥
+Asks guard (AComparison c) = guard.asked ≡ Some c
+Asks guard (ACondition p) = p.value ≡ guard.located.value
+
+-- there is one breakpoint, and this is what is asked for its condition
+pub record IsOnlyOne (breakpoints : List Breakpoint) (q : Question) : Type 0 where
   pub breakpoint : Breakpoint
   pub guard : BoundCondition
   pub one : breakpoints ≡ breakpoint ∷ []
   pub guarded : breakpoint.condition ≡ Some guard
-  pub asked : guard.asked ≡ Some c
+  pub asks : Asks guard q
+
+-- nothing is asked, or else the condition of the only one of these breakpoints
+abbrev pub IsOfOnlyOne : List Breakpoint → Question → Type 0
+IsOfOnlyOne breakpoints Nothing = Unit {0}
+IsOfOnlyOne breakpoints q = IsOnlyOne breakpoints q

@@ -63,8 +63,8 @@ watched_lines breakpoints lines = map (has_breakpoint breakpoints) lines
 abbrev pub IsBoundAt : Block → ℕ → Option BoundCondition → Type 0
 IsBoundAt main n None = Unit {0}
 IsBoundAt main n (Some c) =
-    IsConditionBound main (step_path main n) (plain_condition c.condition) c.located
-    × IfSome c.asked (λ q. c.located ≡ condition_of (length (step_path main n)) q)
+    IsConditionBound main (step_path main n) (plain_condition c.condition) c.located.value
+    × IfSome c.asked (λ q. c.located.value ≡ condition_of (length (step_path main n)) q)
 
 -- so are the expressions of a message
 abbrev pub IsMessageBoundAt : Block → ℕ → Option LogMessage → Type 0

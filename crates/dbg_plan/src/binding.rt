@@ -7,7 +7,7 @@ ghost use Rattle.pl0_tree.specs.Steps.{blocks};
 ghost use Rattle.dbg_plan.specs.Bound.{IsNameBound, IsExpressionBound, IsConditionBound};
 ghost use Rattle.dbg_plan.specs.Reads.{bound_of};
 
-use crate::located::{LocatedCondition, LocatedExpression};
+use pl0_machine::{LocatedCondition, LocatedExpression};
 use pl0_syntax::{Meaning, Names};
 use pl0_tree::{Condition, Expression};
 use std::alloc::{AllocError, Global};

@@ -4,10 +4,10 @@ ghost use Rattle.std.specs.Prelude.{string_bytes};
 ghost use Rattle.pl0_tree.specs.Plain.{plain_condition};
 ghost use Rattle.dbg_plan.specs.ReadsAs.{ReadsAs};
 
-use crate::located::LocatedCondition;
 use crate::message::LogMessage;
-use pl0_machine::Comparison;
+use pl0_machine::{Comparison, LocatedCondition};
 use pl0_tree::{Condition, StepNumber};
+use std::sync::Arc;
 
 /// The most breakpoints that a plan may have.
 pub const BREAKPOINT_LIMIT: usize = 256;
@@ -26,8 +26,8 @@ pub enum Rule {
 pub struct BoundCondition {
     pub text: String,
     pub condition: Condition,
-    pub located: LocatedCondition,
-    /// The condition as the machine asks it in its loop, if it can.
+    pub located: Arc<LocatedCondition>,
+    /// The condition as a comparison, if it is one, which the machine asks faster.
     pub asked: Option<Comparison>,
     // The condition is what the text reads as.
     pub ghost reads: { ∥ ReadsAs (string_bytes text) (plain_condition condition) ∥₁ },

@@ -1,29 +1,48 @@
-//! The conditions that the machine evaluates in its loop: comparisons of numbers and of variables, of the newest frame or of
-//! the main block's.
+//! What the machine is asked in its loop for a condition: a comparison of numbers and of variables, of the newest frame or of
+//! the main block's, or else the condition itself.
 
-ghost use Rattle.std.specs.Prelude.{◌≡◌, IfSome, length};
+ghost use Rattle.std.specs.Prelude.{◌≡◌, IfOk, IfSome, length};
 ghost use Rattle.pl0_tree.specs.Steps.{step_path};
 ghost use Rattle.pl0_machine.specs.Machine.{program_of};
-ghost use Rattle.dbg_plan.specs.declared.located.LocatedExpression.TheVariants.{Variable};
-ghost use Rattle.dbg_plan.specs.Comparisons.{expression_of, condition_of, IsOnlyOne};
+ghost use Rattle.pl0_machine.specs.declared.located.LocatedExpression.TheVariants.{Variable};
+ghost use Rattle.dbg_plan.specs.Comparisons.{expression_of, condition_of, Asks, IsOfOnlyOne};
 
-use crate::breakpoint::Breakpoint;
-use crate::located::{LocatedCondition, LocatedExpression};
-use pl0_machine::{Comparison, Operand, step_depth};
+use crate::breakpoint::{BoundCondition, Breakpoint};
+use pl0_machine::{Comparison, LocatedCondition, LocatedExpression, Operand, Question, step_depth};
 use pl0_tree::StepNumber;
 use pl0_unit::Unit;
+use std::alloc::AllocError;
+use std::sync::Arc;
 
-/// Returns the condition of the only one of these breakpoints; `None` if there isn't just one, or if it has no condition of
-/// this kind.
-pub fn only_comparison(breakpoints: &[Breakpoint]) -> Option<Comparison>
-    ensures { IfSome result (IsOnlyOne breakpoints.now) }
+/// Returns what is asked for the condition of the only one of these breakpoints; nothing if there isn't just one, or if it
+/// has no condition.
+///
+/// # Errors
+///
+/// The count of the condition's shares is full.
+pub fn only_question(breakpoints: &[Breakpoint]) -> Result<Question, AllocError>
+    ensures { IfOk result (IsOfOnlyOne breakpoints.now) }
 {
     let [breakpoint] = breakpoints else {
-        return None;
+        return Ok(Question::Nothing);
     };
     match &breakpoint.condition {
-        None => None,
-        Some(condition) => condition.asked,
+        None => Ok(Question::Nothing),
+        Some(condition) => question_of(condition),
+    }
+}
+
+/// Returns what is asked for a condition.
+///
+/// # Errors
+///
+/// The count of its shares is full.
+fn question_of(condition: &BoundCondition) -> Result<Question, AllocError>
+    ensures { IfOk result (Asks condition.now) }
+{
+    match condition.asked {
+        Some(comparison) => Ok(Question::Comparison(comparison)),
+        None => Ok(Question::Condition(Arc::try_clone(&condition.located)?)),
     }
 }
 

@@ -7,13 +7,12 @@ ghost use Rattle.pl0_meaning.specs.Arithmetic.{IsArithmetic};
 ghost use Rattle.pl0_machine.specs.Machine.{program, frames, depth_of};
 ghost use Rattle.dbg_plan.specs.Debugged.{IsRunning};
 ghost use Rattle.dbg_plan.specs.Values.{answered};
-ghost use Rattle.dbg_plan.specs.Reads.{bound_value, bound_truth, CanRead, CanTest};
+ghost use Rattle.pl0_machine.specs.LocatedValues.{bound_value, bound_truth, CanRead, CanTest};
 ghost use Rattle.dbg_plan.specs.Counting.{holds_now, IsMetHere};
 
 use crate::binding::{Located, locate};
 use crate::breakpoint::Breakpoint;
-use crate::located::{LocatedCondition, LocatedExpression};
-use pl0_machine::Machine;
+use pl0_machine::{LocatedCondition, LocatedExpression, Machine};
 use pl0_meaning::{RunFault, apply, compare, is_odd, negate};
 use pl0_syntax::Names;
 use pl0_tree::Expression;

@@ -3,7 +3,7 @@
 ghost use Rattle.std.specs.Prelude.{◌≤◌, length, string_bytes};
 ghost use Rattle.dbg_plan.specs.Messages.{expressions, expression_limit, ReadsAsParts, plain_parts};
 
-use crate::located::LocatedExpression;
+use pl0_machine::LocatedExpression;
 use pl0_tree::Expression;
 
 /// The most expressions that a message may have.

@@ -23,6 +23,7 @@ use pl0_syntax::{Names, editor_laws, parse_condition};
 use pl0_tree::{Condition, StepNumber, SyntaxFault};
 use pl0_unit::Unit;
 use std::alloc::{AllocError, Global};
+use std::sync::Arc;
 
 /// A breakpoint as an editor asks for it: a line, from 1, and the texts of a condition, of a hit condition and of a log
 /// message. An empty text is an absent one.
@@ -214,11 +215,12 @@ fn bind(
     let number = unit.steps[step].block;
     let located = bind_condition(alloc, names, number, &condition)?;
     let asked = comparison_at(unit, step, &located);
+    let shared = Arc::new(alloc, located)?;
     let text = String::from_str(alloc, text)?;
     Ok(BoundCondition {
         text,
         condition,
-        located,
+        located: shared,
         asked,
     })
 }

@@ -7,8 +7,8 @@ ghost use Rattle.dbg_plan.specs.Plans.{is_of, those_of};
 ghost use Rattle.dbg_plan.specs.Table.{AreOnlyOnes, IsPart, has_part};
 
 use crate::breakpoint::Breakpoint;
-use crate::comparison::only_comparison;
-use pl0_machine::Comparison;
+use crate::comparison::only_question;
+use pl0_machine::Question;
 use pl0_tree::StepNumber;
 use std::alloc::{AllocError, Global};
 
@@ -50,27 +50,28 @@ fn end_of(ordered: &[Breakpoint], start: usize, step: StepNumber) -> usize
             .count()
 }
 
-/// Returns for each step the condition of its breakpoint, if it has one breakpoint whose condition is a comparison. Those of
-/// a step stand in `ordered` from its start up to the next.
+/// Returns for each step what is asked for the condition of its breakpoint, if it has just one. Those of a step stand in
+/// `ordered` from its start up to the next.
 ///
 /// # Errors
 ///
 /// Out of memory.
-pub fn comparisons_of(
+pub fn questions_of(
     alloc: Global,
     ordered: &[Breakpoint],
     starts: &[usize],
     steps: usize,
-) -> Result<Vec<Option<Comparison>>, AllocError>
+) -> Result<Vec<Question>, AllocError>
     requires long { length starts.now ≡ steps + 1 }
     requires parts { (s : ℕ) → s < steps → IsPart ordered.now starts.now s (those_of s ordered.now) }
-    ensures { IfOk result (λ comparisons. AreOnlyOnes ordered.now steps comparisons.items) }
+    ensures { IfOk result (λ questions. AreOnlyOnes ordered.now steps questions.items) }
 {
-    let mut comparisons = Vec::with_capacity(alloc, steps)?;
+    let mut questions = Vec::with_capacity(alloc, steps)?;
     for step in 0..steps {
-        comparisons.push(only_comparison(&ordered[starts[step]..starts[step + 1]]))?;
+        let question = only_question(&ordered[starts[step]..starts[step + 1]])?;
+        questions.push(question)?;
     }
-    Ok(comparisons)
+    Ok(questions)
 }
 
 /// Returns for each address whether the step that begins there has a breakpoint. `lines` says which step that is.

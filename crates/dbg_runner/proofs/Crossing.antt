@@ -1,7 +1,7 @@
 -- Reports and orders may go to another thread. One search for all of it would break off, so each type is a step.
 use denote.Param.Send.{IsSend, IsSync, sendable}
 use Rattle.std.proofs.Crossing.{crosses}
-use Rattle.dbg_plan.proofs.located.LocatedExpression.TheLaws.TheKnot as located
+use Rattle.pl0_machine.proofs.located.LocatedExpression.TheLaws.TheKnot as located
 use Rattle.pl0_tree.proofs.tree.Block.TheLaws.TheKnot as block
 use Rattle.pl0_tree.proofs.tree.Expression.TheLaws.TheKnot as expression
 use Rattle.pl0_tree.proofs.tree.Statement.TheLaws.TheKnot as statement

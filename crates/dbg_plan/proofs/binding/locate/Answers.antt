@@ -6,7 +6,7 @@ use Rattle.pl0_tree.specs.Plain.{plain_block}
 use Rattle.pl0_tree.specs.Scope.{Path, home}
 use Rattle.pl0_tree.specs.Steps.{blocks}
 use Rattle.pl0_names.specs.Homes.{IsHomeAnswer, meaning_of}
-use Rattle.dbg_plan.specs.declared.located.LocatedExpression.TheVariants as bound
+use Rattle.pl0_machine.specs.declared.located.LocatedExpression.TheVariants as bound
 use Rattle.dbg_plan.specs.Bound.{IsNameBound}
 use Rattle.dbg_plan.proofs.BoundHomes.{constant_within, constant_bound}
 use Rattle.dbg_plan.proofs.binding.locate.Goals as goal

@@ -1,10 +1,12 @@
-use Rattle.std.proofs.Common.{◌<◌, length, ℕ, arith, ap, List, sym, subst}
+use Rattle.std.proofs.Common.{◌≡◌, ◌<◌, length, ℕ, IfSome, arith, ap, List, sym, subst}
 use Rattle.std.proofs.lemmas.Option.{slice_get_within}
 use Rattle.pl0_tree.specs.Plain.{plain_block, plain_condition}
 use Rattle.pl0_tree.specs.Steps.{blocks, step_path}
 use Rattle.pl0_machine.specs.Machine.{program_of}
 use Rattle.dbg_plan.specs.Breakpoints.{TextCondition}
 use Rattle.dbg_plan.specs.ReadsAs.{ReadsAs}
+use Rattle.dbg_plan.specs.Bound.{IsConditionBound}
+use Rattle.dbg_plan.specs.Comparisons.{condition_of}
 use Rattle.dbg_plan.proofs.StepLines.{unit_length}
 use Rattle.dbg_plan.proofs.UnitBlocks.{block_at}
 use Rattle.dbg_plan.proofs.resolving.bind.Goals as goal
@@ -20,10 +22,13 @@ bind_condition-requires c =
 
 pub returns-clause-bound : goal.returns-clause-bound
 returns-clause-bound c =
-    let bound = rw c.requires.names at c.in_ok-located.ensures in (
-      bound (step_path (program_of c.args.unit.now) c.args.step)
-          (block_at c.args.unit.now c.args.step c.index.result.now c.requires.within c.index.ensures),
-      c.comparison_at-asked.ensures,
+    let q = step_path (program_of c.args.unit.now) c.args.step in
+    let bound = rw c.requires.names at c.in_ok-located.ensures in
+    let is = c.in_ok-shared.ensures.ok in (
+      subst (λ k. IsConditionBound (program_of c.args.unit.now) q (plain_condition c.args.condition) k) (sym is)
+          (bound q (block_at c.args.unit.now c.args.step c.index.result.now c.requires.within c.index.ensures)),
+      subst (λ k. IfSome c.comparison_at-asked.result (λ a. k ≡ condition_of (length q) a)) (sym is)
+          c.comparison_at-asked.ensures,
     )
 
 pub returns-clause-text : goal.returns-clause-text

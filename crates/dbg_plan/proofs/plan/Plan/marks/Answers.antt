@@ -10,5 +10,5 @@ returns c =
     subst (λ (plan : Listed). AreMarksOf plan c.self.inside.marks) c.self.view_is (record {
       numbered = table.numbered;
       marked = refl;
-      asked = of_all _ _ _ _ table.whole table.comparisons;
+      asked = of_all _ _ _ _ table.whole table.questions;
     })

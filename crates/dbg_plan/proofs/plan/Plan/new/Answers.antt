@@ -32,10 +32,10 @@ invariant_of-result c =
       sorted = IsNonDecreasingBy-from_sort_by_key (λ (b : Breakpoint). b.step) ordered
           c.in_ok-sort_by_key.ensures.sorted (λ a r q k. search rules);
       whole = λ s. stays_in_order bs ordered stable s ∙ ap (λ l. those_of s l) (sym is);
-      comparisons = let steps_are : c.args.steps ≡ length c.in_ok-starts.starts.items - 1 = omega (arith, long) in
-          subst (λ n. AreOnlyOnes ordered n c.in_ok-comparisons.comparisons.items) steps_are
-          (subst (λ l. AreOnlyOnes l c.args.steps c.in_ok-comparisons.comparisons.items) c.deref-3.ensures.value
-          c.in_ok-comparisons.ensures);
+      questions = let steps_are : c.args.steps ≡ length c.in_ok-starts.starts.items - 1 = omega (arith, long) in
+          subst (λ n. AreOnlyOnes ordered n c.in_ok-questions.questions.items) steps_are
+          (subst (λ l. AreOnlyOnes l c.args.steps c.in_ok-questions.questions.items) c.deref-3.ensures.value
+          c.in_ok-questions.ensures);
     }
 
 pub watched_of-requires : goal.watched_of-requires
