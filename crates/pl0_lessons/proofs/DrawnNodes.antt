@@ -8,7 +8,7 @@ use Rattle.pl0_tree.specs.declared.tree.Operator.{Operator}
 use Rattle.pl0_tree.specs.declared.tree.Relation.{Relation}
 use Rattle.pl0_tree.specs.declared.tree.Place.{Place}
 use Rattle.pl0_tree.specs.declared.tree.Statement.{Statement as DeclaredStatement}
-use Rattle.pl0_tree.specs.Tree.{Name, Expression, Variable, Number, Negate, Binary, Condition, Odd, Compare, Statement, Empty, Assign, Call, Write, If, While}
+use Rattle.pl0_tree.specs.Tree.{Name, Expression, Variable, Number, Negate, Binary, Condition, Odd, Compare, Statement, Assign, Call, Write, While}
 use Rattle.pl0_tree.specs.declared.tree.Block.{Block as DeclaredBlock, out-Block}
 use Rattle.pl0_tree.specs.Plain.{in_a_row, joined, plain_block, plain_constant, plain_name, plain_statement}
 use Rattle.pl0_tree.proofs.PlainParts.{plain_block_parts}
@@ -225,12 +225,6 @@ test word c indent k code mid left before top after deep drawn inner is = λ u q
 
 -- ---- statements
 
-pub empty : (s : Statement) (indent : ℕ) (code : List Instruction) (before after : List ℕ) → s ≡ Empty
-    → after ≡ before ++ line indent (codes "empty") → DrawsStatement false s indent code code before after
-empty s indent code before after same drawn =
-    subst (λ s. DrawsStatement false s indent code code before after) (sym same) (λ u entry q from to h at.
-    (at ∙ ap (λ k. drop k u.code) (sym h), drawn))
-
 pub called : (s : Statement) (p : Place) (x : Name) (indent : ℕ) (code left : List Instruction)
     (before after : List ℕ) → s ≡ Call p x → DrawsUse (codes "call ") x indent code left before after
     → DrawsStatement false s indent code left before after
@@ -256,7 +250,8 @@ pub assigned : (x : Name) (e : Expression) (indent k : ℕ) (code mid left : Lis
     → DrawsUse (codes ":= ") x indent mid left before top → after ≡ top ++ below
     → DrawsStatement false (Assign x e) indent code left before after
 assigned x e indent k code mid left before below top after deep inner draws all = λ u entry q from to h at.
-    let value = subst (λ k. DrawsExpression e k code mid [] below) deep inner u q (Some h.step) from h.last h.value at in
+    let value =
+    subst (λ k. DrawsExpression e k code mid [] below) deep inner u q (Some h.step) from h.last h.value at in
     let text = found (declared_store u.main q) (home u.main q x.word) in
     let head = used u h.last to text (codes ":= ") x indent mid left before top
     (store u q (home u.main q x.word) h.last h.store) h.behind value.0 draws in (
@@ -265,22 +260,6 @@ assigned x e indent k code mid left before below top after deep inner draws all 
           ∙ ap (λ t. t ++ expression_lines u.main (deeper indent) q e) head.1
           ∙ two before (name_line indent (codes ":= ") x text) (expression_lines u.main (deeper indent) q e),
     )
-
-pub choice : (t : Statement) (p : Place) (c : Condition) (s : Statement) (indent k : ℕ)
-    (code mid left : List Instruction) (before tested after : List ℕ) → t ≡ If p c s → k ≡ deeper indent
-    → DrawsTest (codes "if") c indent code mid before tested
-    → DrawsStatement false s k mid left tested after
-    → DrawsStatement false t indent code left before after
-choice t p c s indent k code mid left before tested after same deep one other =
-    subst (λ t. DrawsStatement false t indent code left before after) (sym same) (λ u entry q from to h at.
-    let head = one u q (Some h.step) from h.last h.test at in
-    let done = subst (λ k. DrawsStatement false s k mid left tested after) deep other u entry q (h.last + 1) to h.body
-    head.0 in (
-      done.0,
-      done.1 ∙ ap (λ t. t ++ statement_lines u.main entry false (deeper indent) q s) head.1
-          ∙ regroup before (line indent (codes "if")) (condition_lines u.main (deeper indent) q c)
-          (statement_lines u.main entry false (deeper indent) q s),
-    ))
 
 pub repetition : (t : Statement) (p : Place) (c : Condition) (s : Statement) (indent k : ℕ)
     (code mid end left : List Instruction) (before tested after : List ℕ) → t ≡ While p c s → k ≡ deeper indent
@@ -352,13 +331,6 @@ drawn_all indent left all code here before top page none some drawn drawing = λ
           ∙ ap (λ t. t ++ rest) drawn ∙ two before (line indent (codes "begin")) rest
           ∙ ap (λ t. before ++ t) (begins u entry q indent all some),
     )
-
--- none at all are an empty statement
-pub drawn_empty : (indent : ℕ) (all : List DeclaredStatement) (code : List Instruction) (before after : List ℕ)
-    → all ≡ [] → after ≡ before ++ line indent (codes "empty")
-    → DrawsStatement false (joined all) indent code code before after
-drawn_empty indent all code before after none drawn =
-    empty (joined all) indent code before after (ap joined none) drawn
 
 -- ---- blocks
 

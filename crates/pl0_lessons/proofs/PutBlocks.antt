@@ -106,9 +106,11 @@ module _ (u : Listing) (entry : Path → ℕ) (q : Path) (rows : ℕ → Procedu
   -- and where the code of the statement stands
   pub at_statement : (b : DeclaredBlock) (i : ℕ) (left all : List DeclaredProcedure) (begins next : ℕ)
       (before page : List ℕ) → left ≡ [] → Put b i left all begins next before page
-      → (last : ℕ) × (next < length u.code) × CodedStatement u entry q (plain_statement (out-Block b).body) (next + 1) last
+      → (last : ℕ) × (next < length u.code)
+      × CodedStatement u entry q (plain_statement (out-Block b).body) (next + 1) last
   at_statement b i left all begins next before page none put =
-      let end : put.end ≡ next = subst (λ ps. CodedProcedures u entry q i (in_a_row ps) next put.end) none put.coded in (
+      let end : put.end ≡ next =
+      subst (λ ps. CodedProcedures u entry q i (in_a_row ps) next put.end) none put.coded in (
         put.last,
         omega (arith, end, slice_get_within u.code put.end _ put.enter.0),
         subst (λ k. CodedStatement u entry q (plain_statement (out-Block b).body) (k + 1) put.last) end put.statement,

@@ -5,6 +5,8 @@ pub mod Columns
 pub mod NameTable
 -- the tree of a program
 pub mod ProgramTree
+-- worked examples of the pages
+pub mod WorkedPages
 -- What only proofs and inner contracts cite.
 -- where the code of a block stands
 pub mod Standing

@@ -1,6 +1,6 @@
--- The tree of a program as it is drawn: a line for each node, under that of the node above it and further in. A declared
--- name has its level and its address, or its value; a name that is used has the instruction that finds it, with how many
--- levels further out it is declared, and its address.
+-- The tree of a program as it is drawn: a line for each node, under that of the node above it and further in. A
+-- declared name has its level and its address, or its value; a name that is used has the instruction that finds it,
+-- with how many levels further out it is declared, and its address.
 use Rattle.std.specs.Prelude.{◌≡◌, ℕ, ◌+◌, Bool, true, false, min, List, [], ◌∷◌, ◌++◌, codes, decimal, length, map, Option, Some, None}
 use Rattle.std.specs.List.{concat}
 use Rattle.std.specs.Option.{option_map_or}
@@ -63,7 +63,8 @@ found declared (Some h) = declared h.path h.declaration.meaning
 module _ (main : Block) where
   -- what a name of the block h is found as in the block q, where it is read and assigned
   abbrev pub declared_read : Path → Path → Meaning → List ℕ
-  declared_read q h (AConstant k) = option_map_or (λ v. instruction_text (Literal v)) (constant_of (block_at main h) k) []
+  declared_read q h (AConstant k) =
+      option_map_or (λ v. instruction_text (Literal v)) (constant_of (block_at main h) k) []
   declared_read q h (AVariable k) = instruction_text (Load (level q h) (cell k))
   declared_read q h (AProcedure k) = []
 
@@ -112,8 +113,10 @@ module _ (main : Block) (entry : Path → ℕ) where
       line indent (codes "begin")
       ++ (statement_lines false (deeper indent) q s ++ statement_lines true (deeper indent) q t)
   statement_lines more indent q (Assign x e) =
-      name_line indent (codes ":= ") x (found (declared_store main q) (home main q x.word)) ++ expression_lines main (deeper indent) q e
-  statement_lines more indent q (Call p x) = name_line indent (codes "call ") x (found (declared_call q) (home main q x.word))
+      name_line indent (codes ":= ") x (found (declared_store main q) (home main q x.word))
+      ++ expression_lines main (deeper indent) q e
+  statement_lines more indent q (Call p x) =
+      name_line indent (codes "call ") x (found (declared_call q) (home main q x.word))
   statement_lines more indent q (Write p e) = line indent (codes "!") ++ expression_lines main (deeper indent) q e
   statement_lines more indent q (If p c s) =
       line indent (codes "if")

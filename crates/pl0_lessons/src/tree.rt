@@ -7,7 +7,7 @@ ghost use Rattle.std.specs.Prelude.{◌≡◌, ◌++◌, ◌≤◌, ℕ, IfOk, O
 ghost use Rattle.std.specs.List.{concat};
 ghost use Rattle.pl0_tree.specs.Plain.{joined, plain_block, plain_condition, plain_constant, plain_expression, plain_name, plain_statement};
 ghost use Rattle.pl0_tree.specs.Scope.{Path};
-ghost use Rattle.pl0_tree.specs.Tree.{Assign};
+ghost use Rattle.pl0_tree.specs.Tree.{Assign, Empty};
 ghost use Rattle.pl0_unit.specs.Code.{CodedBlock};
 ghost use Rattle.pl0_lessons.specs.NameTable.{listing_of};
 ghost use Rattle.pl0_lessons.specs.ProgramTree.{IsProgramTree, block_lines, constant_line, deeper, line, name_line, operator_sign, place_text, relation_sign, variable_lines};
@@ -172,10 +172,7 @@ fn put_statement<'a>(
         page.old.items page.new.items) }
 {
     match statement {
-        Statement::Empty => {
-            put_line(page, indent, "empty")?;
-            Ok(code)
-        }
+        Statement::Empty => put_empty(page, indent, code),
         Statement::Assign { target, value } => put_assignment(
             alloc, page, indent, target, value, code,
         ),
@@ -231,6 +228,19 @@ fn put_sequence<'a>(
     Ok(left)
 }
 
+/// Appends the line of an empty statement, which has no code.
+fn put_empty<'a>(
+    page: &mut Vec<u8>,
+    indent: usize,
+    code: &'a [Instruction],
+) -> Result<&'a [Instruction], AllocError>
+    ensures { IfOk result (λ left. DrawsStatement false Empty indent code.now left.now
+        page.old.items page.new.items) }
+{
+    put_line(page, indent, "empty")?;
+    Ok(code)
+}
+
 /// Appends the lines of an assignment. Its last instruction, which stores, is drawn first.
 fn put_assignment<'a>(
     alloc: Global,
@@ -240,8 +250,8 @@ fn put_assignment<'a>(
     value: &Expression,
     code: &'a [Instruction],
 ) -> Result<&'a [Instruction], AllocError>
-    ensures { IfOk result (λ left. DrawsStatement false (Assign (plain_name target.now) (plain_expression value.now)) indent code.now left.now
-        page.old.items page.new.items) }
+    ensures { IfOk result (λ left. DrawsStatement false (Assign (plain_name target.now) (plain_expression value.now))
+        indent code.now left.now page.old.items page.new.items) }
 {
     let mut below = Vec::new(alloc);
     let left = put_expression(alloc, &mut below, deeper(indent), value, code)?;

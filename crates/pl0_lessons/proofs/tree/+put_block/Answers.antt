@@ -42,8 +42,9 @@ loop-procedure-init below c = λ entry q to deep coded.
     let main = plain_block c.args.unit.now.tree.program in
     let b = c.args.block.now in
     let page = c.put_variables.new.page.items in
-    subst (λ items. Put u entry q (procedure_lines main entry c.args.indent q) b 0 items items c.args.begins (c.args.begins + 1) page page)
-    (sym c.deref-procedure-items.ensures.value) (put_none u entry q (procedure_lines main entry c.args.indent q) b c.args.begins to page coded)
+    let rows = procedure_lines main entry c.args.indent q in
+    subst (λ items. Put u entry q rows b 0 items items c.args.begins (c.args.begins + 1) page page)
+    (sym c.deref-procedure-items.ensures.value) (put_none u entry q rows b c.args.begins to page coded)
 
 pub put_block-requires : goal.put_block-requires
 put_block-requires below c =
@@ -57,7 +58,8 @@ put_block-requires below c =
     let coded = ∥∥₁_map c.requires (λ there.
     let put = c.loop-procedure.invariant there.entry there.path there.to there.deep there.coded in
     let next =
-    next_coded u there.entry there.path (procedure_lines main there.entry c.args.indent there.path) b i (drop i kept) (drop (i + 1) kept) kept p c.args.begins c.loop-procedure.next
+    next_coded u there.entry there.path (procedure_lines main there.entry c.args.indent there.path) b i (drop i kept)
+    (drop (i + 1) kept) kept p c.args.begins c.loop-procedure.next
     c.put_variables.new.page.items c.loop-procedure.page.items is put in
     record {
       entry = there.entry;
@@ -116,7 +118,8 @@ returns below c = λ entry q to deep coded.
     whole u entry q b indent c.args.page.now.items c.put_constants.new.page.items c.put_variables.new.page.items
     c.loop-procedure.page.items c.put_statement.new.page.items
     (c.in_ok-put_constants.ensures
-    ∙ ap (λ cs. c.args.page.now.items ++ concat (map (constant_line indent) (map plain_constant cs))) c.deref.ensures.value)
+    ∙ ap (λ cs. c.args.page.now.items ++ concat (map (constant_line indent) (map plain_constant cs)))
+    c.deref.ensures.value)
     (c.in_ok-put_variables.ensures
     ∙ ap (λ k. c.put_constants.new.page.items ++ variable_lines indent k 0 (map plain_name c.deref-2.result.now))
     (sym deep)

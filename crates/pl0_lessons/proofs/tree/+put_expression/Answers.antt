@@ -18,7 +18,8 @@ returns-in_ok-put_line-in-Number t c =
     c.behind_first.result.now c.args.page.now.items c.put_line.new.page.items (ap plain_expression c.in-Number.is)
     c.behind_first.ensures
     (c.in_ok-put_line-in-Number.ensures
-    ∙ ap (λ t. c.args.page.now.items ++ line c.args.indent t) (c.as_str.ensures.value ∙ c.in_ok-text-in-Number.ensures.ok))
+    ∙ ap (λ t. c.args.page.now.items ++ line c.args.indent t)
+    (c.as_str.ensures.value ∙ c.in_ok-text-in-Number.ensures.ok))
 
 pub returns-in_ok-left-in-Negate : goal.returns-in_ok-left-in-Negate
 returns-in_ok-left-in-Negate t c =
@@ -31,7 +32,8 @@ returns-in_ok-left-in-Negate t c =
 pub returns-in_ok-left-in-Binary-2 : goal.returns-in_ok-left-in-Binary-2
 returns-in_ok-left-in-Binary-2 t c =
     binary (plain_expression c.args.expression.now) c.in-Binary.operator (plain_expression c.deref-in-Binary.result.now)
-    (plain_expression c.deref-in-Binary-2.result.now) c.args.indent c.deeper-in-Binary.result c.deeper-in-Binary-2.result
+    (plain_expression c.deref-in-Binary-2.result.now) c.args.indent c.deeper-in-Binary.result
+    c.deeper-in-Binary-2.result
     c.args.code.now c.in_ok-left-in-Binary.left.now c.in_ok-left-in-Binary-2.left.now
     c.behind_first-in-Binary.result.now c.args.page.now.items c.put_line-in-Binary.new.page.items
     c.put_expression-in-Binary.new.page.items c.put_expression-in-Binary-2.new.page.items

@@ -12,6 +12,11 @@ use Rattle.pl0_lessons.proofs.DrawnNodes.{called, drawn_all, drawn_next, drawn_n
 use Rattle.pl0_lessons.proofs.PutBlocks.{next_of}
 use Rattle.pl0_lessons.proofs.tree.+statement.Goals as goal
 
+pub put_statement-returns-in-Empty : goal.put_statement-returns-in-Empty
+put_statement-returns-in-Empty t c =
+    subst (λ s. IfOk c.put_empty.result (λ left. DrawsStatement false s c.args.indent c.args.code.now left.now
+    c.args.page.now.items c.put_empty.new.page.items)) (sym (ap plain_statement c.in-Empty.is)) c.put_empty.ensures
+
 pub put_statement-returns-in-Assign : goal.put_statement-returns-in-Assign
 put_statement-returns-in-Assign t c =
     subst (λ s. IfOk c.put_assignment.result (λ left. DrawsStatement false s c.args.indent c.args.code.now left.now
@@ -29,7 +34,7 @@ pub put_statement-returns-in_ok-left-in-Write : goal.put_statement-returns-in_ok
 put_statement-returns-in_ok-left-in-Write t c =
     written (plain_statement c.args.statement.now) c.in-Write.place (plain_expression c.in-Write.value) c.args.indent
     c.deeper.result c.args.code.now c.in_ok-left-in-Write.left.now c.behind_first.result.now c.args.page.now.items
-    c.put_line-in-Write.new.page.items c.put_expression.new.page.items (ap plain_statement c.in-Write.is)
+    c.put_line.new.page.items c.put_expression.new.page.items (ap plain_statement c.in-Write.is)
     c.deeper.ensures c.in_ok-put_line-in-Write.ensures c.in_ok-left-in-Write.ensures c.behind_first.ensures
 
 -- the statements of a `begin`, as `put_sequence` is given them
@@ -47,7 +52,8 @@ put_statement-returns-in-Begin t c =
 pub put_statement-returns-in_ok-left-in-While-2 : goal.put_statement-returns-in_ok-left-in-While-2
 put_statement-returns-in_ok-left-in-While-2 t c =
     let test = plain_condition c.in-While.condition in
-    repetition (plain_statement c.args.statement.now) c.in-While.place test (plain_statement c.deref-in-While.result.now)
+    repetition (plain_statement c.args.statement.now) c.in-While.place test
+    (plain_statement c.deref-in-While.result.now)
     c.args.indent c.deeper-in-While.result c.args.code.now c.in_ok-left-in-While.left.now
     c.in_ok-left-in-While-2.left.now c.behind_first-in-While.result.now c.args.page.now.items
     c.put_test-in-While.new.page.items c.put_statement-in-While.new.page.items

@@ -14,4 +14,5 @@ loop-constant-preserved c =
     let is = next_of cs i c.constant-item.result (omega arith) c.constant-item.is in
     ap (λ t. t ++ rest) c.in_ok-put_constant.ensures
     ∙ append_assoc page (constant_line c.args.indent (plain_constant c.constant-item.result)) rest
-    ∙ ap (λ l. page ++ concat (map (constant_line c.args.indent) (map plain_constant l))) (sym is) ∙ c.loop-constant.invariant
+    ∙ ap (λ l. page ++ concat (map (constant_line c.args.indent) (map plain_constant l))) (sym is)
+    ∙ c.loop-constant.invariant
