@@ -7,12 +7,12 @@ Each row of the table of mistakes in docs/PL0.md is tried where its example is a
 fault, and the sentence and the place are what `pl0 check` tells. So is what the table below it says beside a token that
 can't stand where it does, and of each text in checks/mistakes it tells the line of told.txt there. For each of the
 examples `pl0 list` shows the same instructions, and the same steps beside them, as `pl0dap --check` prints, whose
-stored output the gate compares. The table of names in docs/PL0.md is what `pl0 list --names` writes. The table of a run
-in docs/PL0.md is what `pl0 trace` writes, also where it begins later or ends earlier, and so is the machine that is
-drawn there. A program that writes more than a megabyte writes it all to a pipe. Where nobody reads on, each command
-ends at once with status 3, and says nothing; where the disk is full, it says so once, after a fault too. A run that is
-stopped keeps what it wrote, and `pl0 check` tells which files can't be read, and why. Prints what is wrong, and ends
-with status 1 where anything is.
+stored output the gate compares. The table of names in docs/PL0.md is what `pl0 list --names` writes, and the tree what
+`pl0 tree` does. The table of a run in docs/PL0.md is what `pl0 trace` writes, also where it begins later or ends
+earlier, and so is the machine that is drawn there. A program that writes more than a megabyte writes it all to a pipe.
+Where nobody reads on, each command ends at once with status 3, and says nothing; where the disk is full, it says so
+once, after a fault too. A run that is stopped keeps what it wrote, and `pl0 check` tells which files can't be read, and
+why. Prints what is wrong, and ends with status 1 where anything is.
 """
 import itertools
 import os
@@ -102,7 +102,7 @@ def stored_code(name: str) -> list[list[bytes]]:
 
 def wrong_listings(pl0: str):
     """The examples whose code is listed otherwise than `pl0dap --check` prints it, and what is wrong with the table of
-    names."""
+    names and with the tree."""
     for example in sorted((TOP / "examples").glob("*.pl0")):
         if listed(run(pl0, "list", str(example)).stdout) != stored_code(example.name):
             yield f"{example.name}: another code is listed than checked"
@@ -110,6 +110,10 @@ def wrong_listings(pl0: str):
     wanted = drawn("pl0 list --names procedures.pl0")
     if (told.stdout, told.stderr, told.returncode) != (wanted, b"", 0):
         yield f"the table of names: {told}, where {wanted!r} is wanted"
+    told = run(pl0, "tree", str(TOP / "crates" / "pl0_runs" / "data" / "procedures.pl0"))
+    wanted = drawn("pl0 tree procedures.pl0")
+    if (told.stdout, told.stderr, told.returncode) != (wanted, b"", 0):
+        yield f"the tree: {told}, where {wanted!r} is wanted"
 
 
 def drawn(command: str) -> bytes:

@@ -1,4 +1,4 @@
-//! `pl0`: runs, traces, checks and lists PL/0 programs. What it does is said in `pl0_tool`.
+//! `pl0`: runs, traces, checks, lists and draws PL/0 programs. What it does is said in `pl0_tool`.
 #![tactic(auto)]
 
 use byte_streams::{Reading, Writing};

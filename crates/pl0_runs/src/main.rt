@@ -6,7 +6,7 @@ use byte_streams::{Reading, Writing};
 use pl0_tool::{SystemFiles, execute};
 
 /// The command lines.
-const LINES: [&[&str]; 12] = [
+const LINES: [&[&str]; 14] = [
     &["pl0", "run", "multiply.pl0"],
     &["pl0", "run", "-"],
     &["pl0", "run", "fault.pl0"],
@@ -15,6 +15,8 @@ const LINES: [&[&str]; 12] = [
     &["pl0", "list", "two.pl0"],
     &["pl0", "list", "--names", "two.pl0"],
     &["pl0", "list", "--names", "procedures.pl0"],
+    &["pl0", "tree", "two.pl0"],
+    &["pl0", "tree", "procedures.pl0"],
     &["pl0", "trace", "procedures.pl0"],
     &[
         "pl0",

@@ -4,7 +4,7 @@ use Rattle.pl0_unit.specs.declared.unit.Unit.{Unit as Compiled}
 use Rattle.pl0_machine.specs.Machine.{Standing}
 use Rattle.byte_streams.specs.Streams.{Output}
 use Rattle.pl0_tool.specs.declared.arguments.Task.{Task}
-use Rattle.pl0_tool.specs.declared.arguments.Task.TheVariants.{Run, Trace, Check, List as Listing}
+use Rattle.pl0_tool.specs.declared.arguments.Task.TheVariants.{Run, Trace, Check, Tree, List as Listing}
 use Rattle.pl0_tool.specs.declared.report.Ending.TheVariants.{Success}
 use Rattle.pl0_tool.specs.declared.report.Report.{Report}
 use Rattle.pl0_tool.specs.declared.running.RunEnd.{RunEnd}
@@ -12,7 +12,7 @@ use Rattle.pl0_tool.specs.Loading.{IsProgramOf}
 use Rattle.pl0_tool.specs.Running.{HasRun}
 use Rattle.std.specs.Prelude.{IsErrAnd, MatchResult}
 use Rattle.pl0_tool.specs.Commands.{IsReport, RunTells, TraceTells, ProgramTells, Tells, start_of, end_errors, end_ending}
-use Rattle.pl0_tool.specs.Commands.{IsTraceReport, ListTells, ProgramWrites, StartTraces, StartWrites, WritesNumbers, WritesRun}
+use Rattle.pl0_tool.specs.Commands.{IsTraceReport, ListTells, TreeTells, ProgramWrites, StartTraces, StartWrites, WritesNumbers, WritesRun}
 use Rattle.pl0_tool.specs.Traced.{HasPart, HasTable, HasTraced}
 use Rattle.pl0_tool.specs.declared.tracing.Row.{Row}
 use Rattle.pl0_tool.specs.declared.tracing.TraceEnd.{TraceEnd}
@@ -78,6 +78,7 @@ program_writes (Trace from steps drawn) file unit report before after (end, last
     inr (traced_part end drawn (start_of unit) last from steps before after pending traced)
 program_writes Check file unit report before after (told, same) = same
 program_writes (Listing names) file unit report before after (told, same) = same
+program_writes Tree file unit report before after (told, same) = same
 
 -- and of a text
 pub text_writes : (task : Task) (file text : List ℕ) (report : Report) (before after : Output)
@@ -141,6 +142,15 @@ pub listed_program : {E : Type 0} (task : Task) (names : Bool) (file : List ℕ)
 listed_program task names file unit (Ok report) out is told =
     subst (λ (t : Task). ProgramTells t file unit report out out) (sym is) (told, refl)
 listed_program task names file unit (Err e) out is told =
+    subst (λ (t : Task). ProgramWrites t unit out out) (sym is) refl
+
+pub drawn_program : {E : Type 0} (task : Task) (file : List ℕ) (unit : Compiled) (r : Result Report E) (out : Output)
+    → task ≡ Tree
+    → IfOk r (TreeTells unit)
+    → MatchResult r (λ report. ProgramTells task file unit report out out) (λ e. ProgramWrites task unit out out)
+drawn_program task file unit (Ok report) out is told =
+    subst (λ (t : Task). ProgramTells t file unit report out out) (sym is) (told, refl)
+drawn_program task file unit (Err e) out is told =
     subst (λ (t : Task). ProgramWrites t unit out out) (sym is) refl
 
 pub run_program : {E : Type 0} (task : Task) (file : List ℕ) (unit : Compiled) (r : Result Report E)

@@ -8,7 +8,7 @@ use Rattle.clap.specs.declared.builder.value_parser.ValueParser.TheVariants.{Uns
 use Rattle.clap.specs.declared.error.Error.{Error}
 use Rattle.pl0_tool.specs.declared.arguments.Request.{Request}
 use Rattle.pl0_tool.specs.declared.arguments.Task.{Task}
-use Rattle.pl0_tool.specs.declared.arguments.Task.TheVariants.{Run, Trace, Check, List as Listing}
+use Rattle.pl0_tool.specs.declared.arguments.Task.TheVariants.{Run, Trace, Check, Tree, List as Listing}
 
 -- ---- the command line
 
@@ -52,7 +52,7 @@ most_steps = 65536
 abbrev pub usual_steps : ℕ
 usual_steps = 100
 
--- the program: one of four commands has to be named, and it tells its version
+-- the program: one of its commands has to be named, and it tells its version
 abbrev pub program : App
 program = record {
   top = record (new_app (codes "pl0")).top { has_version = true; subcommand_required = true };
@@ -64,11 +64,13 @@ command_line =
     with_subcommand
     (with_subcommand
     (with_subcommand
+    (with_subcommand
     (with_subcommand program (command_with (codes "run") (one_file ∷ [])))
     (command_with (codes "trace") (one_file ∷ number_option (codes "from") 0 (usize_max)
     ∷ number_option (codes "steps") 1 most_steps ∷ machine_flag ∷ [])))
     (command_with (codes "check") (files ∷ [])))
-    (command_with (codes "list") (one_file ∷ names_flag ∷ []))
+    (command_with (codes "list") (one_file ∷ names_flag ∷ [])))
+    (command_with (codes "tree") (one_file ∷ []))
 
 -- ---- what is asked for
 
@@ -93,7 +95,9 @@ IsTask name rows (Listing names) = (name ≡ codes "list") × IsFlag (one_of (co
 IsTask name rows (Trace from steps drawn) =
     (name ≡ codes "trace") × IsNumber 0 (one_of (codes "from") rows) from
     × IsNumber usual_steps (one_of (codes "steps") rows) steps × IsFlag (one_of (codes "machine") rows) drawn
-IsTask name rows Check = (name ≢ codes "run") × (name ≢ codes "list") × (name ≢ codes "trace")
+IsTask name rows Tree = name ≡ codes "tree"
+IsTask name rows Check =
+    (name ≢ codes "run") × (name ≢ codes "list") × (name ≢ codes "trace") × (name ≢ codes "tree")
 
 -- clap reads the arguments, the program's name first, as a command, and this is its task and its files
 pub record Asks (arguments : List Text) (asked : Request) : Type 0 where

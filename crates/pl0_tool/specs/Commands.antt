@@ -6,10 +6,11 @@ use Rattle.pl0_tree.specs.Faults.{IsFirstFault}
 use Rattle.pl0_unit.specs.declared.unit.Unit.{Unit as Compiled}
 use Rattle.pl0_machine.specs.Machine.{Standing}
 use Rattle.pl0_lessons.specs.NameTable.{IsNameTable}
+use Rattle.pl0_lessons.specs.ProgramTree.{IsProgramTree}
 use Rattle.pl0_mistakes.specs.Lines.{mistake_line}
 use Rattle.byte_streams.specs.Streams.{Output}
 use Rattle.pl0_tool.specs.declared.arguments.Task.{Task}
-use Rattle.pl0_tool.specs.declared.arguments.Task.TheVariants.{Run, Trace, Check, List as Listing}
+use Rattle.pl0_tool.specs.declared.arguments.Task.TheVariants.{Run, Trace, Check, Tree, List as Listing}
 use Rattle.pl0_tool.specs.declared.report.Ending.{Ending}
 use Rattle.pl0_tool.specs.declared.report.Ending.TheVariants.{Success, Fault, Mistake, Unwritten}
 use Rattle.pl0_tool.specs.declared.report.Report.{Report}
@@ -79,6 +80,10 @@ abbrev pub ListTells : Bool → Compiled → Report → Type 0
 ListTells false unit report = IsReport (listing unit) [] Success report
 ListTells true unit report = (page : List ℕ) × ∥ IsNameTable unit page ∥₁ × IsReport page [] Success report
 
+-- the tree of a program is drawn
+abbrev pub TreeTells : Compiled → Report → Type 0
+TreeTells unit report = (page : List ℕ) × ∥ IsProgramTree unit page ∥₁ × IsReport page [] Success report
+
 -- ---- a text
 
 -- a machine before the first step of a program
@@ -96,6 +101,7 @@ ProgramTells (Trace from steps drawn) file unit report before after =
     TraceTells drawn file (start_of unit) from steps report before after
 ProgramTells Check file unit report before after = IsReport [] [] Success report × (after ≡ before)
 ProgramTells (Listing names) file unit report before after = ListTells names unit report × (after ≡ before)
+ProgramTells Tree file unit report before after = TreeTells unit report × (after ≡ before)
 
 -- a text's first mistake is told; or, where it is a program's, what the task tells of that
 abbrev pub Tells : Task → List ℕ → List ℕ → Report → Output → Output → Type 0
@@ -124,6 +130,7 @@ ProgramWrites Run unit before after = StartWrites unit before after
 ProgramWrites (Trace from steps drawn) unit before after = StartTraces drawn unit from steps before after
 ProgramWrites Check unit before after = after ≡ before
 ProgramWrites (Listing names) unit before after = after ≡ before
+ProgramWrites Tree unit before after = after ≡ before
 
 -- nothing was written of a text, or the run of its program, or a part of its trace
 abbrev pub WritesNumbers : Task → List ℕ → Output → Output → Type 0

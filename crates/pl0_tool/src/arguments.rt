@@ -26,6 +26,8 @@ pub enum Task {
     List {
         names: bool,
     },
+    /// Draw the program's tree.
+    Tree,
 }
 
 /// What the command line asks for.
@@ -105,6 +107,7 @@ fn task_of(name: &str, given: &ArgMatches<'_>) -> Task
         "list" => Task::List {
             names: given.get_flag("names"),
         },
+        "tree" => Task::Tree,
         _ => Task::Check,
     }
 }
@@ -142,17 +145,21 @@ fn command_line<'a>(alloc: Global) -> Result<Command<'a>, AllocError>
         .about("List the machine's code under each line of a program, or its names")
         .arg(one_file(alloc))?
         .arg(names(alloc))?;
+    let tree = Command::new(alloc, "tree")
+        .about("Draw the tree of a program, with the level and address of each name")
+        .arg(one_file(alloc))?;
     Command::new(alloc, "pl0")
         .version("1.1.0")
         .about(
-            "Runs, traces, checks and lists programs in PL/0, the language of Wirth's compiler book",
+            "Runs, traces, checks, lists and draws programs in PL/0, the language of Wirth's compiler book",
         )
         .after_help(STATUSES)
         .subcommand_required(true)
         .subcommand(run)?
         .subcommand(trace)?
         .subcommand(check)?
-        .subcommand(list)
+        .subcommand(list)?
+        .subcommand(tree)
 }
 
 /// Returns the argument for the file that a command is for.

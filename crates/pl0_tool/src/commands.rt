@@ -4,7 +4,7 @@ ghost use Rattle.std.specs.Prelude.{◌≡◌, ◌<◌, [], IfOk, MatchResult, s
 ghost use Rattle.pl0_machine.specs.Machine.{depth_of};
 ghost use Rattle.pl0_tool.specs.Commands.{Tells, ProgramTells, RunTells, TraceTells, IsReport, start_of};
 ghost use Rattle.pl0_tool.specs.Commands.{WritesNumbers, ProgramWrites, StartTraces, StartWrites, WritesRun};
-ghost use Rattle.pl0_tool.specs.Commands.{IsTraceReport, ListTells, ends_line, goes_on_line};
+ghost use Rattle.pl0_tool.specs.Commands.{IsTraceReport, ListTells, TreeTells, ends_line, goes_on_line};
 ghost use Rattle.pl0_tool.specs.Faulting.{fault_report};
 
 use crate::arguments::Task;
@@ -16,7 +16,7 @@ use crate::table::head;
 use crate::text::load;
 use crate::tracing::{TraceEnd, trace};
 use byte_streams::Sink;
-use pl0_lessons::name_table;
+use pl0_lessons::{name_table, program_tree};
 use pl0_machine::Machine;
 use pl0_meaning::RunFault;
 use pl0_mistakes::mistake_line;
@@ -75,6 +75,7 @@ fn perform_program<O: Sink>(
     match task {
         Task::Check => Ok(nothing_told(alloc, Ending::Success)),
         Task::List { names } => list_program(alloc, &unit, names),
+        Task::Tree => draw_tree(alloc, &unit),
         Task::Run => run_program(rt, alloc, file, unit, output, room),
         Task::Trace { from, steps, drawn } => {
             trace_program(rt, alloc, file, unit, from, steps, drawn, output, room)
@@ -114,6 +115,14 @@ fn list_program(alloc: Global, unit: &Unit, names: bool) -> Result<Report, Alloc
     }
     let listed = listing(alloc, unit)?;
     Ok(Report::new(listed, Vec::new(alloc), Ending::Success))
+}
+
+/// Draws the tree of a program.
+fn draw_tree(alloc: Global, unit: &Unit) -> Result<Report, AllocError>
+    ensures { IfOk result (TreeTells unit.now) }
+{
+    let page = program_tree(alloc, unit)?;
+    Ok(Report::new(page, Vec::new(alloc), Ending::Success))
 }
 
 /// Runs a program.

@@ -44,13 +44,17 @@ returns c =
     c.in_ok-arg-4.ensures.shape c.one_file-3.ensures.own ∙ ap₂ with_rule new_list c.one_file-3.ensures.rule in
     let list_is : app_of c.in_ok-list.list ≡ with_rule (with_rule (new_app (codes "list")) one_file) names_flag =
     c.in_ok-list.ensures.shape c.names.ensures.own ∙ ap₂ with_rule list_of_file c.names.ensures.rule in
+    let new_tree : app_of c.about-5.result ≡ new_app (codes "tree") =
+    ap app_of_fields c.about-5.ensures ∙ c.new-5.ensures.app in
+    let tree_is : app_of c.in_ok-tree.tree ≡ with_rule (new_app (codes "tree")) one_file =
+    c.in_ok-tree.ensures.shape c.one_file-4.ensures.own ∙ ap₂ with_rule new_tree c.one_file-4.ensures.rule in
     let versioned : app_of c.version.result ≡ record {
       top = record (new_app (codes "pl0")).top { has_version = true };
       subs = [];
     } = ap app_of_fields c.version.ensures
-    ∙ ap (λ (a : App). record a { top = record a.top { has_version = true } }) c.new-5.ensures.app in
+    ∙ ap (λ (a : App). record a { top = record a.top { has_version = true } }) c.new-6.ensures.app in
     let told : app_of c.after_help.result ≡ app_of c.version.result =
-    ap app_of_fields c.after_help.ensures ∙ ap app_of_fields c.about-5.ensures in
+    ap app_of_fields c.after_help.ensures ∙ ap app_of_fields c.about-6.ensures in
     let program_is : app_of c.subcommand_required.result ≡ program = ap app_of_fields c.subcommand_required.ensures
     ∙ ap (λ (a : App). record a { top = record a.top { subcommand_required = true } }) (told ∙ versioned) in
     let of_run : app_of c.in_ok-subcommand.field-0
@@ -68,5 +72,12 @@ returns c =
     (command_with (codes "check") (files ∷ [])) =
     c.in_ok-subcommand-3.ensures.shape (local_if_plain _ _ _ _ (ap is_plain check_is))
     ∙ ap₂ with_subcommand of_trace (ap top check_is) in
-    IfOk-weaker c.subcommand-4.result _ _ (λ command adds. adds.shape (local_if_plain _ _ _ _ (ap is_plain list_is))
-    ∙ ap₂ with_subcommand of_check (ap top list_is)) c.subcommand-4.ensures
+    let of_list : app_of c.in_ok-subcommand-4.field-0 ≡ with_subcommand (with_subcommand (with_subcommand
+    (with_subcommand program
+    (command_with (codes "run") (one_file ∷ []))) (command_with (codes "trace") (one_file
+    ∷ number_option (codes "from") 0 usize_max ∷ number_option (codes "steps") 1 most_steps ∷ machine_flag ∷ [])))
+    (command_with (codes "check") (files ∷ []))) (command_with (codes "list") (one_file ∷ names_flag ∷ [])) =
+    c.in_ok-subcommand-4.ensures.shape (local_if_plain _ _ _ _ (ap is_plain list_is))
+    ∙ ap₂ with_subcommand of_check (ap top list_is) in
+    IfOk-weaker c.subcommand-5.result _ _ (λ command adds. adds.shape (local_if_plain _ _ _ _ (ap is_plain tree_is))
+    ∙ ap₂ with_subcommand of_list (ap top tree_is)) c.subcommand-5.ensures
