@@ -50,8 +50,8 @@ pub(crate) fn converse<P: Pace<R, I>, R: Responder, I, O: Sink>(
     inbox: &mut I,
     output: &mut O,
 ) -> Result<Ending, ServeFault>
-    ensures served { ServedWorker R.replies P.works P.busy P.gives P.polls responder.old responder.new inbox.old inbox.new
-        (O.output output.old).written (O.output output.new).written result }
+    ensures served { ServedWorker R.replies P.works P.busy P.gives P.polls responder.old responder.new inbox.old
+        inbox.new (O.output output.old).written (O.output output.new).written result }
     ensures failures { OutputFailures result (O.output output.old).failures (O.output output.new).failures }
 {
     let mut decoder = Decoder::new(alloc);
