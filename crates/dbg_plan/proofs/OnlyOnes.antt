@@ -1,5 +1,5 @@
 -- A table of what is asked at the steps: of other breakpoints, and read by a step.
-use Rattle.std.proofs.Common.{◌≡◌, ℕ, zero, suc, List, [], ◌∷◌, slice_get, slice_index_or, Some, refl, ap, subst}
+use Rattle.std.proofs.Common.{◌≡◌, ℕ, zero, suc, List, [], ◌∷◌, slice_get, slice_index_or, Some, refl, subst}
 use Rattle.dbg_plan.specs.declared.breakpoint.Breakpoint.{Breakpoint}
 use Rattle.pl0_machine.specs.declared.mark.Question.{Question}
 use Rattle.pl0_machine.specs.declared.mark.Question.TheVariants.{Nothing}

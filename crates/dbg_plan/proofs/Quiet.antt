@@ -12,10 +12,9 @@ use Rattle.pl0_machine.specs.declared.outcome.StepOutcome.{StepOutcome}
 use Rattle.pl0_machine.specs.declared.outcome.StepOutcome.TheVariants.{Went, Done}
 use Rattle.pl0_machine.specs.declared.mark.Question.TheVariants.{Nothing}
 use Rattle.pl0_machine.specs.declared.mark.Marks.{Marks}
-use Rattle.pl0_machine.specs.Machine.{Standing, program, frames, frames_of, top_of, depth_of, outcome_of, Stepped, IsNext, BeginsNext}
+use Rattle.pl0_machine.specs.Machine.{Standing, program, frames, frames_of, depth_of, outcome_of, Stepped, BeginsNext}
 use Rattle.dbg_plan.specs.Breakpoints.{Breakpoint, plain_breakpoints}
 use Rattle.dbg_plan.specs.Plans.{Listed, IsPlanOf, those_of, watched_lines, has_breakpoint, breakpoints_of}
-use Rattle.dbg_plan.specs.Table.{AreMarksOf}
 use Rattle.pl0_machine.specs.Stretches.{ahead, IsMet, IsTable, HasMark, IsUnseen, Stretches}
 use Rattle.dbg_plan.specs.Running.{has_arrival, IsQuiet, RanQuietly}
 use Rattle.dbg_plan.specs.Quiet.{Watches, RanByMachine}

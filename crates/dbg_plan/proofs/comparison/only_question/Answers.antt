@@ -3,7 +3,7 @@ use Rattle.pl0_machine.specs.declared.mark.Question.{Question}
 use Rattle.pl0_machine.specs.declared.mark.Question.TheVariants.{Nothing, Comparison as AComparison, Condition as ACondition}
 use Rattle.dbg_plan.specs.declared.breakpoint.BoundCondition.{BoundCondition}
 use Rattle.dbg_plan.specs.declared.breakpoint.Breakpoint.{Breakpoint}
-use Rattle.dbg_plan.specs.Comparisons.{Asks, IsOnlyOne, IsOfOnlyOne}
+use Rattle.dbg_plan.specs.Comparisons.{Asks, IsOfOnlyOne}
 use Rattle.dbg_plan.proofs.Unwatched.{one_item}
 use Rattle.dbg_plan.proofs.comparison.only_question.Goals as goal
 
