@@ -1,7 +1,7 @@
 //! What is told of a text's first mistake, and of a fault.
 
 use pl0_meaning::RunFault;
-use pl0_mistakes::{fault_line, mistake_line};
+use pl0_mistakes::{fault_line, mistake_line, warning_lines};
 use pl0_syntax::parse;
 use pl0_tree::{Place, SyntaxFault};
 use std::alloc::{AllocError, Global};
@@ -13,11 +13,11 @@ use std::test::Fail;
 const MISTAKES: [(&str, &str); 18] = [
     (
         "! 2 × 3.",
-        "a.pl0:1:5: error: only ASCII characters can stand in a program\n",
+        "a.pl0:1:5: error: only ASCII characters can stand in a program; write `*`\n",
     ),
     (
         "x : 1.",
-        "a.pl0:1:3: error: no word, number or sign begins with this character\n",
+        "a.pl0:1:3: error: no word, number or sign begins with this character; `:=` is one sign\n",
     ),
     (
         "! 9223372036854775808.",
@@ -37,13 +37,16 @@ const MISTAKES: [(&str, &str); 18] = [
     ),
     (
         "if 1 <= 2 <= 3 then.",
-        "a.pl0:1:11: error: `<=` can't stand here\n",
+        "a.pl0:1:11: error: `<=` can't stand here; a condition has one comparison, or `odd`\n",
     ),
     (
         "begin x1 y2z end.",
-        "a.pl0:1:10: error: `y2z` can't stand here\n",
+        "a.pl0:1:10: error: `y2z` can't stand here; after the name `x1` only `:=` can stand\n",
     ),
-    ("! 1 0012x.", "a.pl0:1:5: error: `0012` can't stand here\n"),
+    (
+        "! 1 0012x.",
+        "a.pl0:1:5: error: `0012` can't stand here; an operator is missing before it\n",
+    ),
     (
         "! 1\n",
         "a.pl0:2:1: error: the text ends before the program does; a `.` ends the program\n",
@@ -63,7 +66,7 @@ const MISTAKES: [(&str, &str); 18] = [
     ),
     (
         "const c = 1; c := 2.",
-        "a.pl0:1:14: error: `c` can't be used so: only variables are assigned, and only procedures are called\n",
+        "a.pl0:1:14: error: `c` is a constant and can't be assigned\n",
     ),
     (
         "! ((((((((((((((((((((((((((((((((((((((((((((((((((((((((((((((((",
@@ -115,11 +118,20 @@ const HINTS: [(&str, &str); 72] = [
     ),
     (
         "begin ! (1 ! 2 end.",
-        "a.pl0:1:12: error: `!` can't stand here\n",
+        "a.pl0:1:12: error: `!` can't stand here; a `)` is missing before it\n",
     ),
-    ("! 1 ! 2.", "a.pl0:1:5: error: `!` can't stand here\n"),
-    ("if 1 ! 2 then.", "a.pl0:1:6: error: `!` can't stand here\n"),
-    ("var x y; .", "a.pl0:1:7: error: `y` can't stand here\n"),
+    (
+        "! 1 ! 2.",
+        "a.pl0:1:5: error: `!` can't stand here; several statements stand between `begin` and `end`\n",
+    ),
+    (
+        "if 1 ! 2 then.",
+        "a.pl0:1:6: error: `!` can't stand here; a comparison is missing before it\n",
+    ),
+    (
+        "var x y; .",
+        "a.pl0:1:7: error: `y` can't stand here; `,` or `;` has to stand here\n",
+    ),
     (
         "begin ! 3 mod 2 end.",
         "a.pl0:1:11: error: `mod` can't stand here; PL/0 has no keyword `mod`\n",
@@ -136,11 +148,17 @@ const HINTS: [(&str, &str); 72] = [
         "begin while 1 = 1 do.",
         "a.pl0:1:21: error: `.` can't stand here; perhaps an `end` is missing before it\n",
     ),
-    ("begin call.", "a.pl0:1:11: error: `.` can't stand here\n"),
-    ("begin ! (1.", "a.pl0:1:11: error: `.` can't stand here\n"),
+    (
+        "begin call.",
+        "a.pl0:1:11: error: `.` can't stand here; a name has to stand here\n",
+    ),
+    (
+        "begin ! (1.",
+        "a.pl0:1:11: error: `.` can't stand here; a `)` is missing before it\n",
+    ),
     (
         "begin x.",
-        "a.pl0:1:8: error: `.` can't stand here; perhaps `call` is missing before `x`\n",
+        "a.pl0:1:8: error: `.` can't stand here; after the name `x` only `:=` can stand\n",
     ),
     (
         "VAR x; .",
@@ -192,7 +210,7 @@ const HINTS: [(&str, &str); 72] = [
     ),
     (
         "var x; if odd x = 1 then.",
-        "a.pl0:1:17: error: `=` can't stand here\n",
+        "a.pl0:1:17: error: `=` can't stand here; a condition has one comparison, or `odd`\n",
     ),
     (
         "var x := 3; .",
@@ -238,7 +256,10 @@ const HINTS: [(&str, &str); 72] = [
         "! 1;\n",
         "a.pl0:1:4: error: `;` can't stand here; a `.` ends the program\n",
     ),
-    ("! (1; 2).", "a.pl0:1:5: error: `;` can't stand here\n"),
+    (
+        "! (1; 2).",
+        "a.pl0:1:5: error: `;` can't stand here; a `)` is missing before it\n",
+    ),
     (
         "if not 1 = 1 then.",
         "a.pl0:1:8: error: `1` can't stand here; PL/0 has no keyword `not`\n",
@@ -269,7 +290,7 @@ const HINTS: [(&str, &str); 72] = [
     ),
     (
         "! 1 # 2.",
-        "a.pl0:1:5: error: `#` can't stand here; only `if` and `while` compare\n",
+        "a.pl0:1:5: error: `#` can't stand here; `#` compares, and PL/0 has no comments\n",
     ),
     (
         "begin if 1 = 1 and 2 = 2 then end.",
@@ -305,7 +326,7 @@ const HINTS: [(&str, &str); 72] = [
     ),
     (
         "{ one } .",
-        "a.pl0:1:1: error: no word, number or sign begins with this character; PL/0 has no comments\n",
+        "a.pl0:1:1: error: no word, number or sign begins with this character; PL/0 has no comments, and several statements stand between `begin` and `end`\n",
     ),
     (
         "\u{feff}.",
@@ -317,7 +338,7 @@ const HINTS: [(&str, &str); 72] = [
     ),
     (
         "! 1. 2.",
-        "a.pl0:1:6: error: `2` can't stand here; the program ends at the `.` before it\n",
+        "a.pl0:1:6: error: `2` can't stand here; the program ends at the `.` before it, and all numbers are whole\n",
     ),
     (
         "! 1. END",
@@ -337,11 +358,11 @@ const HINTS: [(&str, &str); 72] = [
     ),
     (
         "var x; call x.",
-        "a.pl0:1:13: error: `x` can't be used so: only variables are assigned, and only procedures are called\n",
+        "a.pl0:1:13: error: `x` is a variable and can't be called\n",
     ),
     (
         "procedure p; ; begin p := 1 end.",
-        "a.pl0:1:22: error: `p` can't be used so: only variables are assigned, and only procedures are called\n",
+        "a.pl0:1:22: error: `p` is a procedure and can't be assigned\n",
     ),
     (
         "procedure p; ; ! 1 + p.",
@@ -369,16 +390,19 @@ const MISSING: [(&str, &str); 19] = [
     ),
     (
         "if 1 < (2 ! 3.",
-        "a.pl0:1:11: error: `!` can't stand here\n",
+        "a.pl0:1:11: error: `!` can't stand here; a `)` is missing before it\n",
     ),
-    ("if 1 < ! 3.", "a.pl0:1:8: error: `!` can't stand here\n"),
+    (
+        "if 1 < ! 3.",
+        "a.pl0:1:8: error: `!` can't stand here; a statement has no value\n",
+    ),
     (
         "if 1 < 2 then while 3 ! 4.",
-        "a.pl0:1:23: error: `!` can't stand here\n",
+        "a.pl0:1:23: error: `!` can't stand here; a comparison is missing before it\n",
     ),
     (
         "var x; if x < 3 x.",
-        "a.pl0:1:17: error: `x` can't stand here\n",
+        "a.pl0:1:17: error: `x` can't stand here; an operator is missing before it\n",
     ),
     (
         "if 1 =< 2 then.",
@@ -390,7 +414,7 @@ const MISSING: [(&str, &str); 19] = [
     ),
     (
         "const c =< 2; .",
-        "a.pl0:1:10: error: `<` can't stand here\n",
+        "a.pl0:1:10: error: `<` can't stand here; a number has to stand here\n",
     ),
     (
         "procedure p; ; begin p() end.",
@@ -400,7 +424,10 @@ const MISSING: [(&str, &str); 19] = [
         "procedure p; ; if 1 = 1 then p(1).",
         "a.pl0:1:31: error: `(` can't stand here; perhaps `call p` is meant: procedures have no parameters\n",
     ),
-    ("! 1 (2).", "a.pl0:1:5: error: `(` can't stand here\n"),
+    (
+        "! 1 (2).",
+        "a.pl0:1:5: error: `(` can't stand here; an operator is missing before it\n",
+    ),
     (
         "begin return end.",
         "a.pl0:1:14: error: `end` can't stand here; PL/0 has no keyword `return`\n",
@@ -419,11 +446,433 @@ const MISSING: [(&str, &str); 19] = [
     ),
     (
         "begin begin end",
-        "a.pl0:1:16: error: the text ends before the program does\n",
+        "a.pl0:1:16: error: the text ends before the program does; perhaps an `end` is missing\n",
     ),
     (
         "! (1",
         "a.pl0:1:5: error: the text ends before the program does\n",
+    ),
+];
+
+/// What has to stand at a place, by what stands around it, and what a name or a character is.
+const WANTED: [(&str, &str); 47] = [
+    (
+        "var x; begin x := 3 -- three\nend.",
+        "a.pl0:1:22: error: `-` can't stand here; PL/0 has no comments\n",
+    ),
+    (
+        "-- one\n.",
+        "a.pl0:1:1: error: `-` can't stand here; PL/0 has no comments\n",
+    ),
+    (
+        "var x; begin --x end.",
+        "a.pl0:1:14: error: `-` can't stand here; the new value is written in full, as in `x := x + 1`\n",
+    ),
+    (
+        "var x; x.\nprocedure p; .",
+        "a.pl0:1:9: error: `.` can't stand here; after the name `x` only `:=` can stand\n",
+    ),
+    (
+        "procedure p; ; begin callp end.",
+        "a.pl0:1:28: error: `end` can't stand here; perhaps a blank is missing behind `call`\n",
+    ),
+    (
+        "varx = 3.",
+        "a.pl0:1:6: error: `=` can't stand here; perhaps a blank is missing behind `var`\n",
+    ),
+    (
+        "var x; begin ifx < 3 then end.",
+        "a.pl0:1:18: error: `<` can't stand here; perhaps a blank is missing behind `if`\n",
+    ),
+    (
+        "begin end; end.",
+        "a.pl0:1:10: error: `;` can't stand here; no `begin` is open any more\n",
+    ),
+    (
+        "begin ! 1 end ;\n.",
+        "a.pl0:1:15: error: `;` can't stand here; a `.` ends the program\n",
+    ),
+    (
+        "begin if 1 = 1 thn ! 1 end.",
+        "a.pl0:1:16: error: `thn` can't stand here; perhaps `then` is meant\n",
+    ),
+    (
+        "begin ! 1 edn.",
+        "a.pl0:1:11: error: `edn` can't stand here; perhaps `end` is meant\n",
+    ),
+    (
+        "var x; begin x := 1\n  y := 2 end.",
+        "a.pl0:2:3: error: `y` can't stand here; perhaps a `;` is missing before it\n",
+    ),
+    (
+        "var x; begin x := input() end.",
+        "a.pl0:1:24: error: `(` can't stand here; a program reads no input\n",
+    ),
+    (
+        "int main() { .",
+        "a.pl0:1:5: error: `main` can't stand here; a procedure is declared as in `procedure p;`\n",
+    ),
+    (
+        "constant c = 3; .",
+        "a.pl0:1:10: error: `c` can't stand here; constants are declared by `const`\n",
+    ),
+    (
+        ";.",
+        "a.pl0:1:1: error: `;` can't stand here; perhaps this `;` is one too many\n",
+    ),
+    (
+        "begin do ! 1 end.",
+        "a.pl0:1:7: error: `do` can't stand here; `do` belongs to a `while`, and `then` to an `if`\n",
+    ),
+    (
+        "var 1x; .",
+        "a.pl0:1:5: error: `1` can't stand here; a name begins with a letter\n",
+    ),
+    (
+        "begin call 3 end.",
+        "a.pl0:1:12: error: `3` can't stand here; a name begins with a letter\n",
+    ),
+    (
+        "if ! 1.",
+        "a.pl0:1:4: error: `!` can't stand here; `!` writes, and PL/0 has no `not`\n",
+    ),
+    (
+        "if 1 ! 2 then.",
+        "a.pl0:1:6: error: `!` can't stand here; a comparison is missing before it\n",
+    ),
+    (
+        "var x; begin x := x := 3 end.",
+        "a.pl0:1:21: error: `:=` can't stand here; an assignment has no value\n",
+    ),
+    (
+        "begin ! 1)\nend.",
+        "a.pl0:1:10: error: `)` can't stand here; no `(` is open\n",
+    ),
+    (
+        "if (odd 1) then.",
+        "a.pl0:1:5: error: `odd` can't stand here; no comparison stands in parentheses\n",
+    ),
+    (
+        "begin ! 1, 2 end.",
+        "a.pl0:1:10: error: `,` can't stand here; each `!` writes one number\n",
+    ),
+    (
+        "var x, x1 y; .",
+        "a.pl0:1:11: error: `y` can't stand here; `,` or `;` has to stand here\n",
+    ),
+    (
+        "procedure p; begin end.",
+        "a.pl0:1:23: error: `.` can't stand here; a procedure ends with a `;`\n",
+    ),
+    (
+        "begin procedure p; ; end.",
+        "a.pl0:1:7: error: `procedure` can't stand here; procedures are declared before the statement of a block\n",
+    ),
+    (
+        "var x; begin x := 7 // x end.",
+        "a.pl0:1:22: error: `/` can't stand here; a single `/` divides, and drops the fraction\n",
+    ),
+    (
+        "var x; begin x := 2 ** 3 end.",
+        "a.pl0:1:22: error: `*` can't stand here; a power is written as a product\n",
+    ),
+    (
+        "var x; begin x <- 3 end.",
+        "a.pl0:1:16: error: `<` can't stand here; `:=` assigns, and `=` compares\n",
+    ),
+    (
+        "if 1 ≤ 2 then.",
+        "a.pl0:1:6: error: only ASCII characters can stand in a program; write `<=`\n",
+    ),
+    (
+        "if 1 ≥ 2 then.",
+        "a.pl0:1:6: error: only ASCII characters can stand in a program; write `>=`\n",
+    ),
+    (
+        "! 4 ÷ 2.",
+        "a.pl0:1:5: error: only ASCII characters can stand in a program; write `/`\n",
+    ),
+    (
+        "! 5 % 2.",
+        "a.pl0:1:5: error: no word, number or sign begins with this character; the remainder of `x` by `y` is `x - x / y * y`\n",
+    ),
+    (
+        "% five\n.",
+        "a.pl0:1:1: error: no word, number or sign begins with this character; PL/0 has no comments\n",
+    ),
+    (
+        "begin ! \"five\" end.",
+        "a.pl0:1:9: error: no word, number or sign begins with this character; PL/0 has no strings\n",
+    ),
+    (
+        "var a[3]; .",
+        "a.pl0:1:6: error: no word, number or sign begins with this character; PL/0 has no arrays\n",
+    ),
+    (
+        "if 1 = 1: ! 1.",
+        "a.pl0:1:9: error: no word, number or sign begins with this character; `then` stands behind the condition of an `if`\n",
+    ),
+    (
+        "while 1 = 1: ! 1.",
+        "a.pl0:1:12: error: no word, number or sign begins with this character; `do` stands behind the condition of a `while`\n",
+    ),
+    (
+        "if 1 = 1 & 2 = 2 then.",
+        "a.pl0:1:10: error: no word, number or sign begins with this character; a condition has one comparison, or `odd`\n",
+    ),
+    (
+        "! 2 ^ 3.",
+        "a.pl0:1:5: error: no word, number or sign begins with this character; a power is written as a product\n",
+    ),
+    (
+        "begin ! 1 ? 2 end.",
+        "a.pl0:1:11: error: no word, number or sign begins with this character; `if` is a statement, and has no value\n",
+    ),
+    (
+        "begin if 1 = 1 { ! 1 } end.",
+        "a.pl0:1:16: error: no word, number or sign begins with this character; several statements stand between `begin` and `end`\n",
+    ),
+    (
+        "const c = 1; procedure p; var c; c := 2; c := 3.",
+        "a.pl0:1:42: error: `c` is a constant and can't be assigned\n",
+    ),
+    (
+        "const c = 1; call c.",
+        "a.pl0:1:19: error: `c` is a constant and can't be called\n",
+    ),
+    (
+        "procedure p; begin p := 1 end; .",
+        "a.pl0:1:20: error: `p` is a procedure and can't be assigned\n",
+    ),
+];
+
+/// What is told of texts as in other languages.
+const OTHERS: [(&str, &str); 26] = [
+    (
+        "if 1 > = 2 then.",
+        "a.pl0:1:8: error: `=` can't stand here; `<=` and `>=` are single signs\n",
+    ),
+    (
+        "if 1 =! 2 then.",
+        "a.pl0:1:7: error: `!` can't stand here; write `#` for not equal\n",
+    ),
+    (
+        "if 1 =/= 2 then.",
+        "a.pl0:1:7: error: `/` can't stand here; write `#` for not equal\n",
+    ),
+    (
+        "if !(1 = 2) then.",
+        "a.pl0:1:4: error: `!` can't stand here; `!` writes, and PL/0 has no `not`\n",
+    ),
+    (
+        "const a = 1; b = 2; .",
+        "a.pl0:1:16: error: `=` can't stand here; constants are declared as in `const a = 1, b = 2;`\n",
+    ),
+    (
+        "var a; b; .",
+        "a.pl0:1:9: error: `;` can't stand here; variables are declared as in `var a, b;`\n",
+    ),
+    (
+        "const int n = 3; .",
+        "a.pl0:1:11: error: `n` can't stand here; constants have no types\n",
+    ),
+    (
+        "var x integer; .",
+        "a.pl0:1:7: error: `integer` can't stand here; variables have no types\n",
+    ),
+    (
+        "! 0x1F.",
+        "a.pl0:1:4: error: `x1F` can't stand here; a number is written in decimal\n",
+    ),
+    (
+        "! 1e5.",
+        "a.pl0:1:4: error: `e5` can't stand here; all numbers are whole, and written with digits alone\n",
+    ),
+    (
+        "procedure p; begin end p; .",
+        "a.pl0:1:24: error: `p` can't stand here; an `end` stands alone, without `p`\n",
+    ),
+    (
+        "begin ! 1, ! 2 end.",
+        "a.pl0:1:10: error: `,` can't stand here; perhaps a `;` is meant\n",
+    ),
+    (
+        "begin ! 1. ! 2 end.",
+        "a.pl0:1:10: error: `.` can't stand here; perhaps a `;` is meant\n",
+    ),
+    (
+        "begin ! 1. end.",
+        "a.pl0:1:10: error: `.` can't stand here; perhaps this `.` is one too many\n",
+    ),
+    (
+        "var x; x := 1,5.",
+        "a.pl0:1:14: error: `,` can't stand here; all numbers are whole\n",
+    ),
+    (
+        "if 1 = 1, 2 = 2 then.",
+        "a.pl0:1:9: error: `,` can't stand here; a condition has one comparison, or `odd`\n",
+    ),
+    (
+        "begin foo(1) end.",
+        "a.pl0:1:10: error: `(` can't stand here; a procedure is called by `call`, without parameters\n",
+    ),
+    (
+        "! 1 end.",
+        "a.pl0:1:5: error: `end` can't stand here; no `begin` is open\n",
+    ),
+    (
+        "procedure p; ! 1",
+        "a.pl0:1:17: error: the text ends before the program does; a procedure ends with a `;`\n",
+    ),
+    (
+        "procedure p; ;",
+        "a.pl0:1:15: error: the text ends before the program does; a `.` ends the program\n",
+    ),
+    (
+        "while 1 = 1 dobegin ! 1 end.",
+        "a.pl0:1:13: error: `dobegin` can't stand here; `do` has to stand behind the condition of a `while`\n",
+    ),
+    (
+        "prodecure p; ; .",
+        "a.pl0:1:11: error: `p` can't stand here; perhaps `procedure` is meant\n",
+    ),
+    (
+        "PROGRAM p; .",
+        "a.pl0:1:9: error: `p` can't stand here; PL/0 has no keyword `PROGRAM`\n",
+    ),
+    (
+        "PRINT 1.",
+        "a.pl0:1:7: error: `1` can't stand here; `!` writes a number\n",
+    ),
+    (
+        "begin begin procedure p; ; end.",
+        "a.pl0:1:13: error: `procedure` can't stand here; procedures are declared before the statement of a block\n",
+    ),
+    (
+        "begin ! 1; procedure p; ; end.",
+        "a.pl0:1:12: error: `procedure` can't stand here; perhaps an `end` is missing before it\n",
+    ),
+];
+
+/// What is told of characters that no token has.
+const CHARACTERS: [(&str, &str); 26] = [
+    (
+        "! 1 – 2.",
+        "a.pl0:1:5: error: only ASCII characters can stand in a program; write `-`\n",
+    ),
+    (
+        "! “a”.",
+        "a.pl0:1:3: error: only ASCII characters can stand in a program; PL/0 has no strings\n",
+    ),
+    (
+        "! 1\u{a0}.",
+        "a.pl0:1:4: error: only ASCII characters can stand in a program; this is a no-break space: write a blank\n",
+    ),
+    (
+        "! 1；",
+        "a.pl0:1:4: error: only ASCII characters can stand in a program; this sign is a wide one: write the same in ASCII\n",
+    ),
+    (
+        "var ä; .",
+        "a.pl0:1:5: error: only ASCII characters can stand in a program; the letters of a name are `a` to `z` and `A` to `Z`\n",
+    ),
+    (
+        "x ← 1.",
+        "a.pl0:1:3: error: only ASCII characters can stand in a program; write `:=`\n",
+    ),
+    (
+        "if 1 = 1 ∧ 2 = 2 then.",
+        "a.pl0:1:10: error: only ASCII characters can stand in a program; a condition has one comparison, or `odd`\n",
+    ),
+    (
+        "! 2².",
+        "a.pl0:1:4: error: only ASCII characters can stand in a program; a power is written as a product\n",
+    ),
+    (
+        "! 2 · 3.",
+        "a.pl0:1:5: error: only ASCII characters can stand in a program; write `*`\n",
+    ),
+    (
+        "! 5 \\ 2.",
+        "a.pl0:1:5: error: no word, number or sign begins with this character; `/` divides, and drops the fraction\n",
+    ),
+    (
+        "! 1_000.",
+        "a.pl0:1:4: error: no word, number or sign begins with this character; a number has only digits\n",
+    ),
+    (
+        "! x_1.",
+        "a.pl0:1:4: error: no word, number or sign begins with this character; a name has only letters and digits\n",
+    ),
+    (
+        "begin: end.",
+        "a.pl0:1:6: error: no word, number or sign begins with this character; perhaps this `:` is one too many\n",
+    ),
+    (
+        "begin ! 1: ! 2 end.",
+        "a.pl0:1:10: error: no word, number or sign begins with this character; perhaps a `;` is meant\n",
+    ),
+    (
+        "procedure p: ; .",
+        "a.pl0:1:12: error: no word, number or sign begins with this character; `;` has to stand here\n",
+    ),
+    (
+        "const c: 1; .",
+        "a.pl0:1:8: error: no word, number or sign begins with this character; a constant is declared as in `const a = 1;`\n",
+    ),
+    (
+        "var x: int; .",
+        "a.pl0:1:6: error: no word, number or sign begins with this character; variables have no types\n",
+    ),
+    (
+        "begin else: end.",
+        "a.pl0:1:11: error: no word, number or sign begins with this character; PL/0 has no keyword `else`\n",
+    ),
+    (
+        "! [1].",
+        "a.pl0:1:3: error: no word, number or sign begins with this character; an expression is enclosed by `(` and `)`\n",
+    ),
+    (
+        "begin } end.",
+        "a.pl0:1:7: error: no word, number or sign begins with this character; several statements stand between `begin` and `end`\n",
+    ),
+    (
+        "! 1 & 2.",
+        "a.pl0:1:5: error: no word, number or sign begins with this character; only `+`, `-`, `*` and `/` compute\n",
+    ),
+    (
+        "! %.",
+        "a.pl0:1:3: error: no word, number or sign begins with this character; a number or a name has to stand here\n",
+    ),
+    (
+        "if ~1 = 1 then.",
+        "a.pl0:1:4: error: no word, number or sign begins with this character; PL/0 has no `not`\n",
+    ),
+    (
+        "if 1 ~= 1 then.",
+        "a.pl0:1:6: error: no word, number or sign begins with this character; write `#` for not equal\n",
+    ),
+    (
+        "$x := 1.",
+        "a.pl0:1:1: error: no word, number or sign begins with this character; a name has only letters and digits\n",
+    ),
+    (
+        "! 1 \u{1}.",
+        "a.pl0:1:5: error: no word, number or sign begins with this character\n",
+    ),
+];
+
+/// A program, and what it is warned of.
+const WARNED: [(&str, &str); 4] = [
+    (".", ""),
+    ("if 1 = 1 then begin end.", ""),
+    (
+        "var x; begin\n  while x < 3 do ;\n  if x = 3 then end.",
+        "a.pl0:2:15: warning: the statement after `do` is empty\na.pl0:3:12: warning: the statement after `then` is empty\n",
+    ),
+    (
+        "if odd 1 then while 1 = 2 do.",
+        "a.pl0:1:27: warning: the statement after `do` is empty\n",
     ),
 ];
 
@@ -475,6 +924,39 @@ fn hints(rt: HostRuntime) -> Result<(), Fail> {
 fn what_is_missing(rt: HostRuntime) -> Result<(), Fail> {
     for (text, line) in MISSING {
         assert_told(&rt, rt.alloc(), text, line)?;
+    }
+    Ok(())
+}
+
+#[test]
+fn what_has_to_stand(rt: HostRuntime) -> Result<(), Fail> {
+    for (text, line) in WANTED {
+        assert_told(&rt, rt.alloc(), text, line)?;
+    }
+    Ok(())
+}
+
+#[test]
+fn other_languages(rt: HostRuntime) -> Result<(), Fail> {
+    for (text, line) in OTHERS {
+        assert_told(&rt, rt.alloc(), text, line)?;
+    }
+    Ok(())
+}
+
+#[test]
+fn characters(rt: HostRuntime) -> Result<(), Fail> {
+    for (text, line) in CHARACTERS {
+        assert_told(&rt, rt.alloc(), text, line)?;
+    }
+    Ok(())
+}
+
+#[test]
+fn warnings(rt: HostRuntime) -> Result<(), Fail> {
+    for (text, lines) in WARNED {
+        let told = warning_lines(rt.alloc(), "a.pl0", text.as_bytes())?;
+        assert_eq!(&rt; str::from_utf8(told.as_slice()), Ok(lines), "{text}");
     }
     Ok(())
 }

@@ -1,4 +1,6 @@
--- what a token leaves
+-- the tokens of a text
 pub mod Cutting
--- which branch is taken
-pub mod Choosing
+-- hints that are written
+pub mod Told
+-- what a program is warned of
+pub mod Behind

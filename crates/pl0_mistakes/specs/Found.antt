@@ -37,3 +37,12 @@ cut_from zero (b ∷ bytes) =
 -- the tokens of bytes
 abbrev pub cut : List ℕ → List (List ℕ)
 cut bytes = cut_from 0 bytes
+
+-- the last token, or else this one
+abbrev pub last_or : List ℕ → List (List ℕ) → List ℕ
+last_or token [] = token
+last_or token (t ∷ tokens) = last_or t tokens
+
+-- the token before a place; nothing where there is none
+abbrev pub token_before : Place → List ℕ → List ℕ
+token_before place text = last_or [] (cut (before_place place text))

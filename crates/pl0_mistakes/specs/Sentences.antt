@@ -1,67 +1,66 @@
 -- A sentence for each mistake of a text, and for each fault of a run.
-use Rattle.std.specs.Prelude.{ℕ, ◌||◌, ◌&&◌, ◌==◌, nat_eq, Bool, if◌then◌else◌, List, [], ◌∷◌, ◌++◌, length, codes}
-use Rattle.std.specs.List.{starts_with}
+use Rattle.std.specs.Prelude.{ℕ, ◌≡◌, ◌⊎◌, ◌==◌, ◌||◌, not, Bool, true, if◌then◌else◌, List, [], ◌∷◌, ◌++◌, length, codes}
+use Rattle.std.specs.List.{list_any, list_all}
 use Rattle.std.specs.Str.{bytes_eq}
 use Rattle.pl0_tree.specs.declared.fault.FaultKind.{FaultKind}
 use Rattle.pl0_tree.specs.declared.fault.FaultKind.TheVariants.{TooLong, NotAscii, BadCharacter, NumberTooLarge, NameTooLong, Expected, TooDeep, TooManyNames, Twice, Unknown, TooEarly, WrongKind}
 use Rattle.pl0_meaning.specs.declared.RunFault.{RunFault}
 use Rattle.pl0_meaning.specs.declared.RunFault.TheVariants.{Overflow, DivideByZero, Depth, StepLimit}
-use Rattle.pl0_mistakes.specs.Scenes.{Scene}
-use Rattle.pl0_mistakes.specs.Hints.{quoted, one_of, at_opening, lacks_period, hint}
 
--- what is said of the end of the text
-abbrev pub ended : Scene → List ℕ
-ended s =
-    if lacks_period s then codes "the text ends before the program does; a `.` ends the program"
-    else codes "the text ends before the program does"
+-- what is said of a token, which stands in front, between quotes
+abbrev pub quoted : List ℕ → List ℕ → List ℕ
+quoted token said = codes "`" ++ (token ++ (codes "`" ++ said))
+
+-- a token is one of these
+abbrev pub one_of : List ℕ → List (List ℕ) → Bool
+one_of token tokens = list_any (λ t. bytes_eq token t) tokens
+
+-- bytes stand in one line
+abbrev pub in_line : List ℕ → Bool
+in_line bytes = list_all (λ b. not (b == 10)) bytes
+
+-- A hint is nothing, or stands behind `; ` in the same line. Which hint is told, and when, is tested.
+abbrev pub IsHint : List ℕ → Type 0
+IsHint hint = (hint ≡ []) ⊎ ((said : List ℕ) × (in_line said ≡ true) × (hint ≡ codes "; " ++ said))
+
+-- behind this token, or none, a statement begins
+abbrev pub opens_statement : List ℕ → Bool
+opens_statement token =
+    (length token == 0) || one_of token (codes ";" ∷ codes "begin" ∷ codes "then" ∷ codes "do" ∷ [])
+
+-- What may be said behind a name that can't be used as it is, by the token before it: it is called, assigned or read.
+-- Whether it is a constant is tested.
+abbrev pub misuses : List ℕ → List (List ℕ)
+misuses before =
+    if bytes_eq before (codes "call")
+    then codes "` is a constant and can't be called" ∷ codes "` is a variable and can't be called" ∷ []
+    else (if opens_statement before
+    then codes "` is a constant and can't be assigned" ∷ codes "` is a procedure and can't be assigned" ∷ []
+    else codes "` is a procedure, which has no value" ∷ [])
 
 -- what is said of a token that can't stand where it does; of the end of the text, where there is none
-abbrev pub refused : Scene → List ℕ
-refused s = quoted s.found (codes " can't stand here") ++ hint s
+abbrev pub unexpected : List ℕ → List ℕ → List ℕ
+unexpected token hint =
+    if length token == 0 then codes "the text ends before the program does" ++ hint
+    else quoted token (codes " can't stand here" ++ hint)
 
-abbrev pub unexpected : Scene → List ℕ
-unexpected s = if length s.found == 0 then ended s else refused s
-
--- the mark with which some editors begin a text, in UTF-8 and in UTF-16
-abbrev pub has_byte_order_mark : Scene → Bool
-has_byte_order_mark s =
-    length s.before == 0 && (starts_with nat_eq s.onward (239 ∷ 187 ∷ 191 ∷ [])
-    || (starts_with nat_eq s.onward (255 ∷ 254 ∷ []) || starts_with nat_eq s.onward (254 ∷ 255 ∷ [])))
-
--- what is said of a byte that isn't ASCII
-abbrev pub foreign : Scene → List ℕ
-foreign s =
-    if has_byte_order_mark s then codes "only ASCII characters can stand in a program; save it as UTF-8 without a BOM"
-    else codes "only ASCII characters can stand in a program"
-
--- what is said of a character with which no token begins
-abbrev pub unreadable : Scene → List ℕ
-unreadable s =
-    if one_of s.found (codes "{" ∷ codes "}" ∷ [])
-    then codes "no word, number or sign begins with this character; PL/0 has no comments"
-    else codes "no word, number or sign begins with this character"
-
--- what is said of a name that can't be used as it is: a procedure is read, or it is assigned or called
-abbrev pub misused : Scene → List ℕ
-misused s =
-    if bytes_eq s.before (codes "call") || at_opening s
-    then quoted s.found (codes " can't be used so: only variables are assigned, and only procedures are called")
-    else quoted s.found (codes " is a procedure, which has no value")
-
--- a mistake, at a place with this around it
-abbrev pub mistake_sentence : Scene → FaultKind → List ℕ
-mistake_sentence s TooLong = codes "the text has more than 65,536 bytes"
-mistake_sentence s NotAscii = foreign s
-mistake_sentence s BadCharacter = unreadable s
-mistake_sentence s NumberTooLarge = codes "the number is larger than 9223372036854775807"
-mistake_sentence s NameTooLong = codes "the name has more than 64 characters"
-mistake_sentence s Expected = unexpected s
-mistake_sentence s TooDeep = codes "nested more than 64 deep here"
-mistake_sentence s TooManyNames = codes "the block declares more than 1,024 names"
-mistake_sentence s Twice = quoted s.found (codes " is declared twice in this block")
-mistake_sentence s Unknown = quoted s.found (codes " is not declared")
-mistake_sentence s TooEarly = quoted s.found (codes " is used before its declaration")
-mistake_sentence s WrongKind = misused s
+-- a sentence tells a mistake at a token, with this one before it
+abbrev pub IsMistakeSentence : List ℕ → List ℕ → FaultKind → List ℕ → Type 0
+IsMistakeSentence token before TooLong s = s ≡ codes "the text has more than 65,536 bytes"
+IsMistakeSentence token before NotAscii s =
+    (hint : List ℕ) × IsHint hint × (s ≡ codes "only ASCII characters can stand in a program" ++ hint)
+IsMistakeSentence token before BadCharacter s =
+    (hint : List ℕ) × IsHint hint × (s ≡ codes "no word, number or sign begins with this character" ++ hint)
+IsMistakeSentence token before NumberTooLarge s = s ≡ codes "the number is larger than 9223372036854775807"
+IsMistakeSentence token before NameTooLong s = s ≡ codes "the name has more than 64 characters"
+IsMistakeSentence token before Expected s = (hint : List ℕ) × IsHint hint × (s ≡ unexpected token hint)
+IsMistakeSentence token before TooDeep s = s ≡ codes "nested more than 64 deep here"
+IsMistakeSentence token before TooManyNames s = s ≡ codes "the block declares more than 1,024 names"
+IsMistakeSentence token before Twice s = s ≡ quoted token (codes " is declared twice in this block")
+IsMistakeSentence token before Unknown s = s ≡ quoted token (codes " is not declared")
+IsMistakeSentence token before TooEarly s = s ≡ quoted token (codes " is used before its declaration")
+IsMistakeSentence token before WrongKind s =
+    (misuse : List ℕ) × (one_of misuse (misuses before) ≡ true) × (s ≡ codes "`" ++ (token ++ misuse))
 
 -- a fault of a run
 abbrev pub fault_sentence : RunFault → List ℕ

@@ -1,45 +1,83 @@
-//! Keywords in another case.
+//! Keywords that are meant by other words.
 
-ghost use Rattle.std.specs.Prelude.{◌≡◌, MatchOption, None, Some};
-ghost use Rattle.pl0_mistakes.specs.Hints.{is_miscased, keyword_meant};
+use crate::found::{Token, next_token};
+use crate::scene::KEYWORDS;
 
-use crate::scene::is;
+/// The keywords for which a word that nearly reads so is taken.
+const LONGER: &str = "const var procedure call begin end then while";
+
+/// The keywords behind which a blank may be forgotten.
+const BEFORE_BLANKS: &str = "const var call procedure begin if while";
 
 /// Returns the keyword that a word is but for its case; `None` if it is none.
-pub fn keyword_meant(word: &[u8]) -> Option<&'static str>
-    ensures { MatchOption result (keyword_meant word.now ≡ None)
-        (λ keyword. keyword_meant word.now ≡ Some keyword.now) }
-{
-    if is_miscased(word, "const") {
-        Some("const")
-    } else if is_miscased(word, "var") {
-        Some("var")
-    } else if is_miscased(word, "procedure") {
-        Some("procedure")
-    } else if is_miscased(word, "call") {
-        Some("call")
-    } else if is_miscased(word, "begin") {
-        Some("begin")
-    } else if is_miscased(word, "end") {
-        Some("end")
-    } else if is_miscased(word, "if") {
-        Some("if")
-    } else if is_miscased(word, "then") {
-        Some("then")
-    } else if is_miscased(word, "while") {
-        Some("while")
-    } else if is_miscased(word, "do") {
-        Some("do")
-    } else if is_miscased(word, "odd") {
-        Some("odd")
-    } else {
-        None
+pub fn keyword_in_lower_case(word: Token<'_>) -> Option<Token<'static>> {
+    let mut rest = KEYWORDS.as_bytes();
+    while let Some((keyword, after)) = next_token(rest) {
+        if word.bytes.eq_ignore_ascii_case(keyword.bytes) && word.bytes != keyword.bytes {
+            return Some(keyword);
+        }
+        rest = after;
     }
+    None
 }
 
-/// Whether a word is a keyword but for its case.
-fn is_miscased(word: &[u8], keyword: &str) -> bool
-    ensures { result ≡ is_miscased word.now keyword.now }
-{
-    word.eq_ignore_ascii_case(keyword.as_bytes()) && !is(word, keyword)
+/// Returns the keyword from which a word differs by one letter more, less or exchanged, or by two that changed places.
+pub fn keyword_nearby(word: Token<'_>) -> Option<Token<'static>> {
+    let mut rest = LONGER.as_bytes();
+    while let Some((keyword, after)) = next_token(rest) {
+        if word.bytes != keyword.bytes && is_near(word.bytes, keyword.bytes) {
+            return Some(keyword);
+        }
+        rest = after;
+    }
+    None
+}
+
+/// Returns the keyword with which a longer word begins.
+pub fn keyword_in_front(word: Token<'_>) -> Option<Token<'static>> {
+    let mut rest = BEFORE_BLANKS.as_bytes();
+    while let Some((keyword, after)) = next_token(rest) {
+        if word.bytes.starts_with(keyword.bytes) && word.bytes != keyword.bytes {
+            return Some(keyword);
+        }
+        rest = after;
+    }
+    None
+}
+
+/// Whether two words are the same but for one letter more, less or exchanged, or for two that changed places.
+fn is_near(word: &[u8], other: &[u8]) -> bool {
+    let (left, right) = behind_common(word, other);
+    let (left_rest, right_rest) = behind_common(behind_first(left), behind_first(right));
+    let swapped = left.first() == right_rest.first()
+        && right.first() == left_rest.first()
+        && behind_first(left_rest) == behind_first(right_rest);
+    swapped
+        || left_rest.is_empty() && right_rest.is_empty()
+        || behind_first(left) == right
+        || left == behind_first(right)
+}
+
+/// Returns what follows in two words behind the bytes with which both begin.
+fn behind_common<'a>(word: &'a [u8], other: &'a [u8]) -> (&'a [u8], &'a [u8]) {
+    let mut left = word;
+    let mut right = other;
+    while let [first, after @ ..] = left {
+        match right {
+            [same, others @ ..] if same == first => {
+                left = after;
+                right = others;
+            }
+            _ => break,
+        }
+    }
+    (left, right)
+}
+
+/// Returns bytes without the first one.
+fn behind_first(bytes: &[u8]) -> &[u8] {
+    match bytes {
+        [] => bytes,
+        [_, after @ ..] => after,
+    }
 }

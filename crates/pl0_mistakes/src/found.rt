@@ -1,9 +1,59 @@
 //! What stands at a place of a text.
 
-ghost use Rattle.std.specs.Prelude.{◌≡◌, ◌-◌, ◌<◌, [], ◌∷◌, length, drop, MatchOption};
+ghost use Rattle.std.specs.Prelude.{◌≡◌, ◌-◌, ◌<◌, [], ◌∷◌, length, drop, codes, MatchOption};
+ghost use Rattle.std.specs.Str.{bytes_eq};
 ghost use Rattle.pl0_mistakes.specs.Found.{from_line, from_place, before_place, front_token, cut};
 
 use pl0_tree::{Place, digits_len, is_space, word_len};
+
+/// A token as it stands in a text; it is empty where there is none.
+#[derive(Clone, Copy)]
+pub struct Token<'a> {
+    pub bytes: &'a [u8],
+}
+
+impl<'a> Token<'a> {
+    /// Whether it is this one.
+    pub fn is(self, text: &str) -> bool
+        ensures { result ≡ bytes_eq self.entry.bytes.now text.now }
+    {
+        self.bytes == text.as_bytes()
+    }
+
+    /// Whether it is one of these tokens.
+    pub fn is_one_of(self, tokens: &str) -> bool {
+        let mut rest = tokens.as_bytes();
+        while let Some((token, after)) = next_token(rest) {
+            if token.bytes == self.bytes {
+                return true;
+            }
+            rest = after;
+        }
+        false
+    }
+
+    /// Whether it is one of these words, but for capitals.
+    pub fn is_word_of(self, words: &str) -> bool {
+        let mut rest = words.as_bytes();
+        while let Some((word, after)) = next_token(rest) {
+            if word.bytes.eq_ignore_ascii_case(self.bytes) {
+                return true;
+            }
+            rest = after;
+        }
+        false
+    }
+
+    /// Whether it is a number.
+    pub fn is_number(self) -> bool {
+        self.bytes.first().is_some_and(u8::is_ascii_digit)
+    }
+
+    /// Whether it is a keyword or a name.
+    pub fn is_word(self) -> bool {
+        self.bytes.first().is_some_and(u8::is_ascii_alphabetic)
+    }
+}
 
 /// Returns what stands in a text before a place.
 pub fn before_place(text: &[u8], place: Place) -> &[u8]
@@ -11,6 +61,13 @@ pub fn before_place(text: &[u8], place: Place) -> &[u8]
 {
     let onward = from_place(text, place);
     &text[..text.len().saturating_sub(onward.len())]
+}
+
+/// Returns the token at a place of a text, as long as it goes; nothing where the text ends there.
+pub fn token_at(text: &[u8], place: Place) -> &[u8]
+    ensures { result.now ≡ front_token (from_place place text.now) }
+{
+    front_token(from_place(text, place))
 }
 
 /// Returns what stands in a text from a place on.
@@ -45,9 +102,9 @@ fn from_line(text: &[u8], line: u32) -> &[u8]
 }
 
 /// Returns the next token, and what is after it. White space may stand before it.
-pub fn next_token(bytes: &[u8]) -> Option<(&[u8], &[u8])>
+pub fn next_token(bytes: &[u8]) -> Option<(Token<'_>, &[u8])>
     ensures { MatchOption result (cut bytes.now ≡ [])
-        (λ x. (cut bytes.now ≡ x.0.now ∷ cut x.1.now) × (length x.1.now < length bytes.now)) }
+        (λ x. (cut bytes.now ≡ x.0.bytes.now ∷ cut x.1.now) × (length x.1.now < length bytes.now)) }
 {
     let mut rest = bytes;
     while let [first, after @ ..] = rest {
@@ -60,19 +117,22 @@ pub fn next_token(bytes: &[u8]) -> Option<(&[u8], &[u8])>
 }
 
 /// Returns the token in front of bytes, and what is after it.
-fn split_token(bytes: &[u8]) -> (&[u8], &[u8])
-    ensures token { result.0.now ≡ front_token bytes.now }
+fn split_token(bytes: &[u8]) -> (Token<'_>, &[u8])
+    ensures token { result.0.bytes.now ≡ front_token bytes.now }
     ensures after { result.1.now ≡ drop (length (front_token bytes.now) - 1) (drop 1 bytes.now) }
 {
     let token = front_token(bytes);
     match bytes {
-        [] => (token, bytes),
-        [_, after @ ..] => (token, &after[token.len().saturating_sub(1)..]),
+        [] => (Token { bytes: token }, bytes),
+        [_, after @ ..] => (
+            Token { bytes: token },
+            &after[token.len().saturating_sub(1)..],
+        ),
     }
 }
 
 /// Returns the token in front of bytes: a word, a number or a sign. It is empty where no bytes are left.
-pub fn front_token(bytes: &[u8]) -> &[u8]
+fn front_token(bytes: &[u8]) -> &[u8]
     ensures { result.now ≡ front_token bytes.now }
 {
     match bytes {

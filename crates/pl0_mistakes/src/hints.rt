@@ -1,462 +1,347 @@
-//! What is said beside a token that can't stand where it does.
+//! What is said beside a token that can't stand where it does, or where a text ends.
 
-ghost use Rattle.std.specs.Prelude.{◌≡◌, ◌++◌, OnOk};
-ghost use Rattle.pl0_mistakes.specs.Scenes.{plain};
-ghost use Rattle.pl0_mistakes.specs.Hints.{is_number, is_name, keyword_meant, meant, call_meant, opens_statement, is_target, may_end, ends_statement, in_condition, begins_statement, at_opening, is_comment, is_unequal, is_doubled, is_reversed, is_confused, has_value, has_becomes, is_enclosed, has_parameters, has_fraction, is_final, lacks_begin, lacks_end, ends_part, begins_part, lacks_semicolon, lacks_period, begins_early, lacks_then, lacks_do, lacks_call, is_call_elsewhere, is_foreign, is_foreign_name, is_writing, is_reading, is_sign, is_signed, is_inner_sign, is_compared, other_hint, word_hint, missing_hint, case_hint, hint};
+use crate::cases::{keyword_in_lower_case, keyword_nearby};
+use crate::foreign::{
+    assigning_hint, call_hint, comment_hint, comparing_hint, form_hint, separator_hint,
+    statement_word_hint, word_hint,
+};
+use crate::hint::{Hint, around, text};
+use crate::scene::{Scene, is_comparison, is_declaring, is_keyword, is_name};
+use crate::situation::{
+    at_opening, begins_early, begins_operand, begins_part, begins_statement, ends_expression,
+    ends_part, ends_statement, in_condition, is_in_expression, is_new, is_operator, is_procedure,
+    is_sign, is_target, may_end, wants_operand,
+};
 
-use crate::cases::keyword_meant;
-use crate::scene::{Scene, is, is_comparison, is_keyword};
-use crate::sentences::{write, write_around};
-use std::alloc::AllocError;
+/// Returns what is said beside a token that can't stand where it does, the first that fits; `None` where nothing is known.
+pub fn hint_for(scene: Scene<'_>) -> Option<Hint<'_>> {
+    comment_hint(scene)
+        .or(period_hint(scene))
+        .or(comparing_hint(scene))
+        .or(assigning_hint(scene))
+        .or(declared_hint(scene))
+        .or(case_hint(scene))
+        .or(form_hint(scene))
+        .or(separator_hint(scene))
+        .or(missing_hint(scene))
+        .or(word_hint(scene))
+        .or(missing_word_hint(scene))
+        .or(statement_word_hint(scene))
+        .or(call_hint(scene))
+        .or(placed_hint(scene))
+        .or(keyword_hint(scene))
+        .or(declaring_hint(scene))
+        .or(statement_hint(scene))
+        .or(value_hint(scene))
+        .or(comma_hint(scene))
+        .or(condition_hint(scene))
+        .or(rest_hint(scene))
+}
 
-/// Appends the first hint that fits; nothing where none does.
-pub fn write_hint(line: &mut Vec<u8>, scene: Scene<'_>) -> Result<(), AllocError>
-    ensures { OnOk result (line.new.items ≡ line.old.items ++ hint (plain scene.entry)) }
-{
-    if is_comment(scene) {
-        write(line, "; PL/0 has no comments")
-    } else if is(scene.before, ".") {
-        write(line, "; the program ends at the `.` before it")
-    } else if is_unequal(scene) {
-        write(line, "; write `#` for not equal")
-    } else if is_doubled(scene) {
-        write(line, "; write a single `=`")
-    } else if is_reversed(scene, "<") {
-        write(line, "; write `<=`")
-    } else if is_reversed(scene, ">") {
-        write(line, "; write `>=`")
-    } else if is_confused(scene) {
-        write(line, "; `:=` assigns, and `=` compares")
-    } else if has_value(scene) {
-        write(line, "; a variable is declared without a value")
-    } else if has_becomes(scene) {
-        write(line, "; a constant is declared with `=`")
-    } else if is_enclosed(scene) {
-        write(line, "; no comparison stands in parentheses")
-    } else if has_parameters(scene) {
-        write(line, "; procedures have no parameters")
+/// Returns what is said where the text ends before the program does.
+pub fn end_hint(scene: Scene<'_>) -> Option<Hint<'_>> {
+    let past = scene.past;
+    let ends_part = ends_statement(scene) || past.last.is(";");
+    if past.begins > 0 && ends_part {
+        text("perhaps an `end` is missing")
+    } else if past.begins > 0 || !ends_part {
+        None
+    } else if past.procedures == 0 {
+        text("a `.` ends the program")
+    } else if past.last.is(";") {
+        None
     } else {
-        write_case_hint(line, scene)
+        text("a procedure ends with a `;`")
     }
 }
 
-/// Appends the keyword that is meant by a word in another case, the word before the place or the one there; another
-/// hint where neither is such a word.
-fn write_case_hint(line: &mut Vec<u8>, scene: Scene<'_>) -> Result<(), AllocError>
-    ensures { OnOk result (line.new.items ≡ line.old.items
-        ++ case_hint (keyword_meant (plain scene.entry).before) (keyword_meant (plain scene.entry).found) (plain scene.entry)) }
-{
-    match keyword_meant(scene.before) {
-        Some(keyword) => write_keyword(line, keyword),
-        None => match keyword_meant(scene.found) {
-            Some(keyword) => write_keyword(line, keyword),
-            None => write_missing_hint(line, scene),
-        },
+/// What stands behind the program, and numbers with a fraction.
+fn period_hint(scene: Scene<'_>) -> Option<Hint<'_>> {
+    let past = scene.past;
+    let in_number = past.last.is_number() || wants_operand(scene);
+    if past.last.is(".") && past.second_last.is_number() && scene.found.is_number() {
+        text("the program ends at the `.` before it, and all numbers are whole")
+    } else if past.last.is(".") {
+        text("the program ends at the `.` before it")
+    } else if scene.found.is(".") && scene.next.is_number() && in_number {
+        text("all numbers are whole")
+    } else {
+        None
     }
 }
 
-/// Appends that a keyword is meant.
-fn write_keyword(line: &mut Vec<u8>, keyword: &str) -> Result<(), AllocError>
-    ensures { OnOk result (line.new.items ≡ line.old.items
-        ++ meant keyword.now) }
-{
-    write_around(
-        line,
-        "; perhaps ",
-        keyword.as_bytes(),
-        " is meant: keywords are in lower case",
+/// What isn't declared so, and what a procedure or a comparison hasn't.
+fn declared_hint(scene: Scene<'_>) -> Option<Hint<'_>> {
+    let opener = scene.past.opener;
+    if scene.found.is_one_of("= :=") && opener.is("var") {
+        text("a variable is declared without a value")
+    } else if scene.found.is(":=") && opener.is("const") && is_name(scene.past.last) {
+        text("a constant is declared with `=`")
+    } else if in_condition(scene)
+        && scene.past.parentheses > 0
+        && (is_comparison(scene.found) || scene.found.is("odd"))
+    {
+        text("no comparison stands in parentheses")
+    } else if scene.found.is("(")
+        && opener.is_one_of("procedure call")
+        && is_name(scene.past.last)
+    {
+        text("procedures have no parameters")
+    } else {
+        None
+    }
+}
+
+/// The keyword that is meant by a word in another case, the word before the place or the one there.
+fn case_hint(scene: Scene<'_>) -> Option<Hint<'_>> {
+    let keyword = keyword_in_lower_case(scene.past.last).or(keyword_in_lower_case(scene.found))?;
+    around(
+        "perhaps `",
+        keyword,
+        "` is meant: keywords are in lower case",
     )
 }
 
-/// Appends what is missing before the token, or why nothing can follow; another hint where neither is known.
-fn write_missing_hint(line: &mut Vec<u8>, scene: Scene<'_>) -> Result<(), AllocError>
-    ensures { OnOk result (line.new.items ≡ line.old.items ++ missing_hint (plain scene.entry)) }
-{
-    if has_fraction(scene) {
-        write(line, "; all numbers are whole")
-    } else if is_final(scene) {
-        write(line, "; a `.` ends the program")
-    } else if lacks_begin(scene) {
-        write(line, "; several statements stand between `begin` and `end`")
-    } else if lacks_end(scene) {
-        write(line, "; perhaps an `end` is missing before it")
-    } else if lacks_semicolon(scene) {
-        write(line, "; perhaps a `;` is missing before it")
+/// What is missing before the token, and what a `.` and a `;` mean.
+fn missing_hint(scene: Scene<'_>) -> Option<Hint<'_>> {
+    let ended = ends_statement(scene);
+    if scene.found.is(";") && ended {
+        semicolon_hint(scene)
+    } else if scene.found.is(".") && scene.past.begins > 0 && (ended || at_opening(scene)) {
+        text("perhaps an `end` is missing before it")
+    } else if begins_part(scene) && ends_part(scene) {
+        text("perhaps a `;` is missing before it")
+    } else if begins_statement(scene) && ended {
+        text("several statements stand between `begin` and `end`")
     } else {
-        write_word_hint(line, scene)
+        None
     }
 }
 
-/// Appends which word PL/0 hasn't, or which is missing; another hint where neither is known.
-fn write_word_hint(line: &mut Vec<u8>, scene: Scene<'_>) -> Result<(), AllocError>
-    ensures { OnOk result (line.new.items ≡ line.old.items ++ word_hint (plain scene.entry)) }
-{
-    if is_foreign(scene.found) {
-        write_around(line, "; PL/0 has no keyword ", scene.found, "")
-    } else if is_foreign_name(scene.before) {
-        write_around(line, "; PL/0 has no keyword ", scene.before, "")
-    } else if lacks_then(scene) {
-        write(line, "; perhaps `then` is missing before it")
-    } else if lacks_do(scene) {
-        write(line, "; perhaps `do` is missing before it")
-    } else if lacks_call(scene) {
-        write_around(
-            line,
-            "; perhaps `call` is missing before ",
-            scene.before,
-            "",
-        )
+/// What is said of a `;` behind a statement that no `begin` encloses.
+fn semicolon_hint(scene: Scene<'_>) -> Option<Hint<'_>> {
+    if scene.next.bytes.is_empty() || scene.next.is(".") {
+        text("a `.` ends the program")
+    } else if is_declaring(scene.next) {
+        text("declarations stand before the statement of a block")
+    } else if scene.past.last.is("end") {
+        text("no `begin` is open any more")
     } else {
-        write_other_hint(line, scene)
+        text("several statements stand between `begin` and `end`")
     }
 }
 
-/// Appends where in PL/0 the token stands, or what it has in its place; nothing where neither is known.
-fn write_other_hint(line: &mut Vec<u8>, scene: Scene<'_>) -> Result<(), AllocError>
-    ensures { OnOk result (line.new.items ≡ line.old.items ++ other_hint (plain scene.entry)) }
-{
-    if is_writing(scene) {
-        write(line, "; `!` writes a number")
-    } else if is_reading(scene) {
-        write(line, "; a program reads no input")
-    } else if is_call_elsewhere(scene) {
-        write_call(line, scene.before)
-    } else if is(scene.found, "const") {
-        write(line, "; constants are declared first in a block")
-    } else if is_signed(scene) {
-        write(line, "; a constant is a number without a sign")
-    } else if is_inner_sign(scene) {
-        write(line, "; a sign stands only where an expression begins")
-    } else if is_compared(scene) {
-        write(line, "; only `if` and `while` compare")
+/// The keyword that is missing before a statement, or before a name.
+fn missing_word_hint(scene: Scene<'_>) -> Option<Hint<'_>> {
+    let past = scene.past;
+    if begins_early(scene) && past.opener.is("if") {
+        text("perhaps `then` is missing before it")
+    } else if begins_early(scene) && past.opener.is("while") {
+        text("perhaps `do` is missing before it")
+    } else if is_target(scene) && is_procedure(scene) && !scene.found.is_one_of(":= = (") {
+        around("perhaps `call` is missing before `", past.last, "`")
     } else {
-        Ok(())
+        None
     }
 }
 
-/// Appends the call that is meant by a name and parameters.
-fn write_call(line: &mut Vec<u8>, name: &[u8]) -> Result<(), AllocError>
-    ensures { OnOk result (line.new.items ≡ line.old.items ++ call_meant name.now) }
-{
-    write(line, "; perhaps `call ")?;
-    line.extend_from_slice(name)?;
-    write(line, "` is meant: procedures have no parameters")
+/// The keyword that is meant by a word that nearly reads so.
+fn keyword_hint(scene: Scene<'_>) -> Option<Hint<'_>> {
+    let last = scene.past.last;
+    let keyword = if is_name(last) && is_new(scene, last) {
+        keyword_nearby(last)
+    } else if is_name(scene.found) && is_new(scene, scene.found) {
+        keyword_nearby(scene.found)
+    } else {
+        None
+    };
+    around("perhaps `", keyword?, "` is meant")
 }
 
-/// Whether a word is one that other languages have in this place.
-fn is_foreign(token: &[u8]) -> bool
-    ensures { result ≡ is_foreign token.now }
-{
-    is(token, "and")
-        || is(token, "or")
-        || is(token, "mod")
-        || is(token, "else")
-        || is(token, "until")
-}
-
-/// Whether a word is one that other languages have where a name stands.
-fn is_foreign_name(token: &[u8]) -> bool
-    ensures { result ≡ is_foreign_name token.now }
-{
-    is(token, "not")
-        || is(token, "else")
-        || is(token, "for")
-        || is(token, "repeat")
-        || is(token, "return")
-}
-
-/// Whether there is a statement by which other languages write.
-fn is_writing(scene: Scene<'_>) -> bool
-    ensures { result ≡ is_writing (plain scene.entry) }
-{
-    is_target(scene)
-        && (is(scene.before, "write") || is(scene.before, "writeln") || is(scene.before, "print"))
-}
-
-/// Whether there is a statement by which other languages read.
-fn is_reading(scene: Scene<'_>) -> bool
-    ensures { result ≡ is_reading (plain scene.entry) }
-{
-    is_target(scene)
-        && (is(scene.before, "read") || is(scene.before, "readln") || is(scene.before, "input"))
-}
-
-/// Whether a token is a sign of a number.
-fn is_sign(token: &[u8]) -> bool
-    ensures { result ≡ is_sign token.now }
-{
-    is(token, "+") || is(token, "-")
-}
-
-/// Whether the value of a constant has a sign.
-fn is_signed(scene: Scene<'_>) -> bool
-    ensures { result ≡ is_signed (plain scene.entry) }
-{
-    is_sign(scene.found) && is(scene.opener, "const") && is(scene.before, "=")
-}
-
-/// Whether a sign stands behind an operator.
-fn is_inner_sign(scene: Scene<'_>) -> bool
-    ensures { result ≡ is_inner_sign (plain scene.entry) }
-{
-    is_sign(scene.found)
-        && (is_sign(scene.before) || is(scene.before, "*") || is(scene.before, "/"))
-}
-
-/// Whether there is a comparison in an expression that is assigned or written.
-fn is_compared(scene: Scene<'_>) -> bool
-    ensures { result ≡ is_compared (plain scene.entry) }
-{
-    is_comparison(scene.found) && (is(scene.opener, ":=") || is(scene.opener, "!"))
-}
-
-/// Whether there is a remark as other languages have it.
-fn is_comment(scene: Scene<'_>) -> bool
-    ensures { result ≡ is_comment (plain scene.entry) }
-{
-    scene.onward.starts_with(b"(*")
-        || scene.onward.starts_with(b"//")
-        || scene.onward.starts_with(b"/*")
-        || is(scene.before, "(") && is(scene.found, "*")
-        || is(scene.before, "/") && (is(scene.found, "/") || is(scene.found, "*"))
-        || is(scene.found, "#") && at_opening(scene)
-}
-
-/// Whether there is `<>` or `!=`.
-fn is_unequal(scene: Scene<'_>) -> bool
-    ensures { result ≡ is_unequal (plain scene.entry) }
-{
-    scene.onward.starts_with(b"!=") || is(scene.before, "<") && is(scene.found, ">")
-}
-
-/// Whether there is `==` where `=` may stand.
-fn is_doubled(scene: Scene<'_>) -> bool
-    ensures { result ≡ is_doubled (plain scene.entry) }
-{
-    is(scene.before, "=") && is(scene.found, "=")
-}
-
-/// Whether there is `=` and this sign in a condition.
-fn is_reversed(scene: Scene<'_>, sign: &str) -> bool
-    ensures { result ≡ is_reversed (plain scene.entry) sign.now }
-{
-    is(scene.before, "=") && is(scene.found, sign) && in_condition(scene)
-}
-
-/// Whether there is `=` where only `:=` can stand, or `:=` in a condition.
-fn is_confused(scene: Scene<'_>) -> bool
-    ensures { result ≡ is_confused (plain scene.entry) }
-{
-    is(scene.found, "=") && is_target(scene)
-        || is(scene.found, ":=") && in_condition(scene) && may_end(scene.before)
-}
-
-/// Whether a variable is declared with a value.
-fn has_value(scene: Scene<'_>) -> bool
-    ensures { result ≡ has_value (plain scene.entry) }
-{
-    (is(scene.found, "=") || is(scene.found, ":=")) && is(scene.opener, "var")
-}
-
-/// Whether a constant is declared with `:=`.
-fn has_becomes(scene: Scene<'_>) -> bool
-    ensures { result ≡ has_becomes (plain scene.entry) }
-{
-    is(scene.found, ":=") && is(scene.opener, "const") && is_name(scene.before)
-}
-
-/// Whether there is a comparison in parentheses.
-fn is_enclosed(scene: Scene<'_>) -> bool
-    ensures { result ≡ is_enclosed (plain scene.entry) }
-{
-    is_comparison(scene.found) && in_condition(scene) && scene.in_parentheses
-}
-
-/// Whether there are parameters of a procedure, or of a call.
-fn has_parameters(scene: Scene<'_>) -> bool
-    ensures { result ≡ has_parameters (plain scene.entry) }
-{
-    is(scene.found, "(")
-        && (is(scene.opener, "procedure") || is(scene.opener, "call"))
-        && is_name(scene.before)
-}
-
-/// Whether there is a number with a fraction.
-fn has_fraction(scene: Scene<'_>) -> bool
-    ensures { result ≡ has_fraction (plain scene.entry) }
-{
-    is(scene.found, ".") && is_number(scene.before) && is_number(scene.next)
-}
-
-/// Whether there is a semicolon after the program's statement: after its last `end`, or where the text ends with it.
-fn is_final(scene: Scene<'_>) -> bool
-    ensures { result ≡ is_final (plain scene.entry) }
-{
-    is(scene.found, ";")
-        && (is(scene.before, "end") || scene.next.is_empty() && ends_statement(scene))
-}
-
-/// Whether there is a semicolon after a statement that isn't between `begin` and `end`.
-fn lacks_begin(scene: Scene<'_>) -> bool
-    ensures { result ≡ lacks_begin (plain scene.entry) }
-{
-    is(scene.found, ";") && ends_statement(scene)
-}
-
-/// Whether there is a period where a statement may end, and a `begin` has no `end`.
-fn lacks_end(scene: Scene<'_>) -> bool
-    ensures { result ≡ lacks_end (plain scene.entry) }
-{
-    is(scene.found, ".") && scene.in_begin && (ends_statement(scene) || at_opening(scene))
-}
-
-/// Whether a semicolon is missing before the token.
-fn lacks_semicolon(scene: Scene<'_>) -> bool
-    ensures { result ≡ lacks_semicolon (plain scene.entry) }
-{
-    begins_part(scene) && ends_part(scene)
-}
-
-/// Whether the token begins a statement or a declaration.
-fn begins_part(scene: Scene<'_>) -> bool
-    ensures { result ≡ begins_part (plain scene.entry) }
-{
-    begins_statement(scene)
-        || is(scene.found, "procedure") && !scene.in_begin
-        || is(scene.found, "var") && is(scene.opener, "const")
-}
-
-/// Whether the token before may end what a semicolon stands behind.
-fn ends_part(scene: Scene<'_>) -> bool
-    ensures { result ≡ ends_part (plain scene.entry) }
-{
-    ends_statement(scene) && (scene.in_begin || scene.after_procedure)
-        || is(scene.opener, "const") && is_number(scene.before)
-        || (is(scene.opener, "var") || is(scene.opener, "procedure")) && is_name(scene.before)
-}
-
-/// Whether the text ends with a statement, and no `begin` lacks its `end`.
-pub fn lacks_period(scene: Scene<'_>) -> bool
-    ensures { result ≡ lacks_period (plain scene.entry) }
-{
-    ends_statement(scene) && !scene.in_begin
-}
-
-/// Whether `then` is missing behind the condition of an `if`.
-fn lacks_then(scene: Scene<'_>) -> bool
-    ensures { result ≡ lacks_then (plain scene.entry) }
-{
-    is(scene.opener, "if") && begins_early(scene)
-}
-
-/// Whether `do` is missing behind the condition of a `while`.
-fn lacks_do(scene: Scene<'_>) -> bool
-    ensures { result ≡ lacks_do (plain scene.entry) }
-{
-    is(scene.opener, "while") && begins_early(scene)
-}
-
-/// Whether a statement begins where a condition may end.
-fn begins_early(scene: Scene<'_>) -> bool
-    ensures { result ≡ begins_early (plain scene.entry) }
-{
-    let complete = scene.after_comparison && may_end(scene.before) && !scene.in_parentheses;
-    begins_statement(scene) && complete
-}
-
-/// Whether there is a name and parameters where a statement begins.
-fn is_call_elsewhere(scene: Scene<'_>) -> bool
-    ensures { result ≡ is_call_elsewhere (plain scene.entry) }
-{
-    is(scene.found, "(") && is_target(scene)
-}
-
-/// Whether there is a name alone where a statement begins.
-fn lacks_call(scene: Scene<'_>) -> bool
-    ensures { result ≡ lacks_call (plain scene.entry) }
-{
-    is_target(scene) && (is(scene.found, ";") || is(scene.found, "end") || is(scene.found, "."))
-}
-
-/// Whether the token begins a statement; a name does where `:=` comes next.
-fn begins_statement(scene: Scene<'_>) -> bool
-    ensures { result ≡ begins_statement (plain scene.entry) }
-{
-    is(scene.found, "call")
-        || is(scene.found, "!")
-        || is(scene.found, "begin")
-        || is(scene.found, "if")
-        || is(scene.found, "while")
-        || is_name(scene.found) && is(scene.next, ":=")
-}
-
-/// Whether a statement that begins with the opener may end with the token before.
-fn ends_statement(scene: Scene<'_>) -> bool
-    ensures { result ≡ ends_statement (plain scene.entry) }
-{
-    (is(scene.opener, ":=")
-        || is(scene.opener, "!")
-        || is(scene.opener, "call")
-        || is(scene.opener, "end"))
-        && may_end(scene.before)
-        && !scene.in_parentheses
-}
-
-/// Whether a token may end an expression, a call, or `begin` and `end`.
-fn may_end(token: &[u8]) -> bool
-    ensures { result ≡ may_end token.now }
-{
-    is(token, ")") || is(token, "end") || is_number(token) || is_name(token)
-}
-
-/// Whether the token before is a name with which a statement begins.
-fn is_target(scene: Scene<'_>) -> bool
-    ensures { result ≡ is_target (plain scene.entry) }
-{
-    opens_statement(scene.opener) && is_name(scene.before)
-}
-
-/// Whether a statement may begin at the place.
-pub fn at_opening(scene: Scene<'_>) -> bool
-    ensures { result ≡ at_opening (plain scene.entry) }
-{
-    opens_statement(scene.opener) && scene.before == scene.opener
-}
-
-/// Whether a statement may begin after an opener.
-fn opens_statement(opener: &[u8]) -> bool
-    ensures { result ≡ opens_statement opener.now }
-{
-    opener.is_empty()
-        || is(opener, ";")
-        || is(opener, "begin")
-        || is(opener, "then")
-        || is(opener, "do")
-}
-
-/// Whether the place is in the condition of an `if` or a `while`, with no `odd` before it there.
-fn in_condition(scene: Scene<'_>) -> bool
-    ensures { result ≡ in_condition (plain scene.entry) }
-{
-    is(scene.opener, "if") || is(scene.opener, "while")
-}
-
-/// Whether a token is a number.
-fn is_number(token: &[u8]) -> bool
-    ensures { result ≡ is_number token.now }
-{
-    match token {
-        [first, ..] => first.is_ascii_digit(),
-        [] => false,
+/// Where in PL/0 the token stands.
+fn placed_hint(scene: Scene<'_>) -> Option<Hint<'_>> {
+    let past = scene.past;
+    if scene.found.is("const") {
+        text("constants are declared first in a block")
+    } else if is_sign(scene.found) && past.opener.is("const") && past.last.is("=") {
+        text("a constant is a number without a sign")
+    } else if is_sign(scene.found) && past.last.is_one_of("+ - * /") {
+        text("a sign stands only where an expression begins")
+    } else if scene.found.is("#") && past.opener.is_one_of(":= !") {
+        text("`#` compares, and PL/0 has no comments")
+    } else if is_comparison(scene.found) && past.opener.is_one_of(":= !") {
+        text("only `if` and `while` compare")
+    } else if scene.found.is("procedure") {
+        procedure_hint(scene)
+    } else if scene.found.is("var") && !is_declaring(past.opener) {
+        variable_hint(scene)
+    } else {
+        None
     }
 }
 
-/// Whether a token is a name.
-fn is_name(token: &[u8]) -> bool
-    ensures { result ≡ is_name token.now }
-{
-    match token {
-        [first, ..] => first.is_ascii_alphabetic() && !is_keyword(token),
-        [] => false,
+/// Where procedures are declared.
+fn procedure_hint(scene: Scene<'_>) -> Option<Hint<'_>> {
+    let past = scene.past;
+    if past.begins > 0 && !past.last.is("begin") {
+        text("perhaps an `end` is missing before it")
+    } else if !is_declaring(past.opener) {
+        text("procedures are declared before the statement of a block")
+    } else {
+        None
+    }
+}
+
+/// Where variables are declared.
+fn variable_hint(scene: Scene<'_>) -> Option<Hint<'_>> {
+    if scene.past.begins > 0 {
+        text("variables are declared before the statement of a block")
+    } else {
+        text("variables are declared once in a block, before its procedures")
+    }
+}
+
+/// What has to stand in a declaration, and in a call.
+fn declaring_hint(scene: Scene<'_>) -> Option<Hint<'_>> {
+    let past = scene.past;
+    let named = is_declaring(past.opener) || past.opener.is("call");
+    if named && (past.last.bytes == past.opener.bytes || past.last.is(",")) {
+        name_hint(scene)
+    } else if past.opener.is("const") && past.last.is("=") {
+        text("a number has to stand here")
+    } else if past.opener.is("const") && is_name(past.last) {
+        text("`=` has to stand here")
+    } else if past.opener.is("const") && is_operator(scene.found) {
+        text("a constant is a number, and isn't computed")
+    } else if past.opener.is_one_of("const var") {
+        text("`,` or `;` has to stand here")
+    } else if past.opener.is("procedure") {
+        text("`;` has to stand here")
+    } else {
+        None
+    }
+}
+
+/// What is said where a name has to stand.
+fn name_hint(scene: Scene<'_>) -> Option<Hint<'_>> {
+    if is_keyword(scene.found) && scene.next.is_one_of(", ; = :=") {
+        text("a keyword is no name")
+    } else if scene.found.is_number() {
+        text("a name begins with a letter")
+    } else {
+        text("a name has to stand here")
+    }
+}
+
+/// What has to stand where a statement begins, and behind a name there.
+fn statement_hint(scene: Scene<'_>) -> Option<Hint<'_>> {
+    let past = scene.past;
+    if is_target(scene)
+        && past.ended.is("var")
+        && scene.found.is_one_of(", ;")
+        && is_new(scene, past.last)
+    {
+        text("variables are declared as in `var a, b;`")
+    } else if is_target(scene) {
+        around("after the name `", past.last, "` only `:=` can stand")
+    } else if !at_opening(scene) {
+        None
+    } else if scene.found.is("end") {
+        text("no `begin` is open")
+    } else if scene.found.is_one_of("then do") {
+        text("`do` belongs to a `while`, and `then` to an `if`")
+    } else if scene.found.is(";") {
+        text("perhaps this `;` is one too many")
+    } else {
+        text("a statement begins with a name, a keyword or `!`")
+    }
+}
+
+/// What has no value, and what is missing where a value stands.
+fn value_hint(scene: Scene<'_>) -> Option<Hint<'_>> {
+    let wanted = wants_operand(scene);
+    if wanted && scene.found.is("call") {
+        text("a call has no value")
+    } else if wanted && scene.found.is("odd") {
+        text("only `if` and `while` compare")
+    } else if wanted && scene.found.is_one_of("if while begin !") {
+        text("a statement has no value")
+    } else if scene.past.last.is_one_of("if while") {
+        text("a comparison has to stand here")
+    } else if wanted {
+        text("a number or a name has to stand here")
+    } else if scene.found.is(":=") && is_in_expression(scene) {
+        text("an assignment has no value")
+    } else if scene.found.is("(") && is_name(scene.past.last) && is_in_expression(scene) {
+        text("PL/0 has no functions")
+    } else {
+        None
+    }
+}
+
+/// What is said of a comma.
+fn comma_hint(scene: Scene<'_>) -> Option<Hint<'_>> {
+    if !scene.found.is(",") {
+        None
+    } else if scene.past.opener.is("!") {
+        text("each `!` writes one number")
+    } else if in_condition(scene) {
+        text("a condition has one comparison, or `odd`")
+    } else if scene.past.last.is_number() && scene.next.is_number() {
+        text("all numbers are whole")
+    } else {
+        text("`,` stands only between names that are declared")
+    }
+}
+
+/// What is missing in a condition or between parentheses.
+fn condition_hint(scene: Scene<'_>) -> Option<Hint<'_>> {
+    let past = scene.past;
+    let complete = ends_expression(scene);
+    let compared = past.compared || past.opener.is("odd");
+    let ends = scene.found.is_one_of("then do") || begins_statement(scene);
+    if is_comparison(scene.found) && compared {
+        text("a condition has one comparison, or `odd`")
+    } else if ends && in_condition(scene) && !compared && complete {
+        text("a comparison is missing before it")
+    } else if past.parentheses > 0 && ends_group(scene) {
+        text("a `)` is missing before it")
+    } else if past.parentheses == 0 && scene.found.is(")") {
+        text("no `(` is open")
+    } else if begins_operand(scene) && may_end(past.last) && is_in_expression(scene) {
+        text("an operator is missing before it")
+    } else if past.opener.is("if") && compared && complete {
+        text("`then` has to stand behind the condition of an `if`")
+    } else if past.opener.is("while") && compared && complete {
+        text("`do` has to stand behind the condition of a `while`")
+    } else {
+        None
+    }
+}
+
+/// Whether the token can't stand in parentheses.
+fn ends_group(scene: Scene<'_>) -> bool {
+    scene
+        .found
+        .is_one_of("; . end then do ! call begin if while")
+}
+
+/// What has to stand behind a statement.
+fn rest_hint(scene: Scene<'_>) -> Option<Hint<'_>> {
+    let past = scene.past;
+    if scene.found.is_one_of("then do") {
+        text("`do` belongs to a `while`, and `then` to an `if`")
+    } else if scene.found.is("end") && past.begins == 0 && past.last.is("end") {
+        text("no `begin` is open any more")
+    } else if scene.found.is("end") && past.begins == 0 {
+        text("no `begin` is open")
+    } else if !ends_statement(scene) {
+        None
+    } else if past.begins > 0 {
+        text("`;` or `end` has to stand here")
+    } else if past.procedures > 0 {
+        text("a procedure ends with a `;`")
+    } else {
+        text("a `.` ends the program")
     }
 }

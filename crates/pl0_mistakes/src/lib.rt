@@ -12,16 +12,24 @@
 //! assert_eq!(&rt; line.as_slice(), b"a.pl0:2:9: error: `=` can't stand here; `:=` assigns, and `=` compares\n".as_slice());
 //! ```
 //!
-//! The one contract is that of [`mistake_line`] and [`fault_line`]: they return the line that `specs/Lines` defines, with
-//! the sentences of `specs/Sentences`. What stands around the place of a mistake is read from the text by `specs/Found` and
-//! `specs/Scenes`; what is said beside a token that can't stand there is the table of cases in `specs/Hints`.
+//! The contracts are those of [`mistake_line`], [`fault_line`] and [`warning_lines`]: they return the lines that
+//! `specs/Lines` and `specs/Warnings` define, with the sentences of `specs/Sentences`. What is said beside a token that
+//! can't stand where it does is a hint: a value (`src/hint.rt`) that `src/hints.rt`, `foreign.rt` and `characters.rt` choose
+//! by the tokens around it (`src/scene.rt`). Of it is defined only that it stays in the line.
 #![tactic(auto)]
 
 mod cases;
+mod characters;
+mod foreign;
 mod found;
+mod hint;
 mod hints;
 mod lines;
+mod names;
 mod scene;
 mod sentences;
+mod situation;
+mod warnings;
 
 pub use lines::{fault_line, mistake_line};
+pub use warnings::warning_lines;

@@ -1,10 +1,12 @@
 //! The line in which a mistake or a fault is told.
 
 ghost use Rattle.std.specs.Prelude.{◌≡◌, ◌++◌, IfOk, OnOk, codes, decimal};
-ghost use Rattle.pl0_mistakes.specs.Lines.{mistake_line, fault_line};
+ghost use Rattle.pl0_mistakes.specs.Lines.{IsMistakeLine, message_line, fault_line};
+ghost use Rattle.pl0_mistakes.specs.Written.{bytes_of};
 
+use crate::found::token_at;
 use crate::scene::scene_at;
-use crate::sentences::{write, write_fault, write_mistake};
+use crate::sentences::{Sentence, sentence_for, write, write_fault, write_sentence};
 use itoa::Buffer;
 use pl0_meaning::RunFault;
 use pl0_tree::{FaultKind, Place};
@@ -12,7 +14,7 @@ use std::alloc::{AllocError, Global};
 
 /// Returns the line that tells the first mistake of a program's text, `FILE:LINE:COLUMN: error: SENTENCE` and a line feed.
 /// The kind and the place are those of the fault with which the text was refused; the sentence may quote the token that
-/// stands there.
+/// stands there, and a hint may follow.
 ///
 /// # Errors
 ///
@@ -24,12 +26,26 @@ pub fn mistake_line(
     kind: FaultKind,
     place: Place,
 ) -> Result<Vec<u8>, AllocError>
-    ensures { IfOk result (λ line. line.items ≡ mistake_line file.now text.now kind place) }
+    ensures { IfOk result (λ line. IsMistakeLine file.now text.now kind place line.items) }
 {
-    let mut line = Vec::from_slice(alloc, file.as_bytes())?;
-    write_place(&mut line, place)?;
+    let sentence = sentence_for(kind, token_at(text, place), scene_at(text, place));
+    error_line(alloc, file, place, sentence)
+}
+
+/// Returns the line with a sentence of a mistake.
+fn error_line(
+    alloc: Global,
+    file: &str,
+    place: Place,
+    sentence: Sentence<'_>,
+) -> Result<Vec<u8>, AllocError>
+    ensures { IfOk result (λ line. line.items
+        ≡ message_line file.now place (codes ": error: ") (bytes_of sentence.entry)) }
+{
+    let mut line = Vec::new(alloc);
+    start_line(&mut line, file, place)?;
     write(&mut line, ": error: ")?;
-    write_mistake(&mut line, scene_at(text, place), kind)?;
+    write_sentence(&mut line, sentence)?;
     write(&mut line, "\n")?;
     Ok(line)
 }
@@ -48,20 +64,21 @@ pub fn fault_line(
 ) -> Result<Vec<u8>, AllocError>
     ensures { IfOk result (λ line. line.items ≡ fault_line file.now fault place) }
 {
-    let mut line = Vec::from_slice(alloc, file.as_bytes())?;
-    write_place(&mut line, place)?;
+    let mut line = Vec::new(alloc);
+    start_line(&mut line, file, place)?;
     write(&mut line, ": fault: ")?;
     write_fault(&mut line, fault)?;
     write(&mut line, "\n")?;
     Ok(line)
 }
 
-/// Appends the line and the column of a place, each after a colon.
-fn write_place(line: &mut Vec<u8>, place: Place) -> Result<(), AllocError>
-    ensures { OnOk result (line.new.items ≡ line.old.items
-        ++ (codes ":" ++ (decimal place.line ++ (codes ":" ++ decimal place.column)))) }
+/// Appends the name of a file, and the line and the column of a place, each after a colon.
+pub fn start_line(line: &mut Vec<u8>, file: &str, place: Place) -> Result<(), AllocError>
+    ensures { OnOk result (line.new.items ≡ line.old.items ++ (file.now
+        ++ (codes ":" ++ (decimal place.line ++ (codes ":" ++ decimal place.column))))) }
 {
     let mut digits = Buffer::new();
+    write(line, file)?;
     write(line, ":")?;
     write(line, digits.format(place.line))?;
     write(line, ":")?;

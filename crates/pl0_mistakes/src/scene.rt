@@ -1,166 +1,175 @@
 //! What stands around a place of a text.
 
-ghost use Rattle.std.specs.Prelude.{◌≡◌, ◌||◌, [], filter};
-ghost use Rattle.std.specs.List.{slice_index_or};
-ghost use Rattle.std.specs.Str.{bytes_eq};
-ghost use Rattle.pl0_mistakes.specs.Found.{cut};
-ghost use Rattle.pl0_mistakes.specs.Scenes.{scene_at, plain, is_keyword, is_opener, is_comparison, last_or, count};
+ghost use Rattle.std.specs.Prelude.{◌≡◌, []};
+ghost use Rattle.pl0_mistakes.specs.Found.{cut, last_or, token_before};
 
-use crate::found::{before_place, from_place, front_token, next_token};
+use crate::found::{Token, before_place, from_place, next_token};
 use pl0_tree::Place;
 
 /// What stands around a place of a text.
 #[derive(Clone, Copy)]
 pub struct Scene<'a> {
-    /// The token at the place; empty where the text ends there.
-    pub found: &'a [u8],
-    /// The token after it; empty where there is none.
-    pub next: &'a [u8],
-    /// What stands at the place and after it.
+    /// The text before the place, and the text there and after it.
+    pub front: &'a [u8],
     pub onward: &'a [u8],
-    /// The token before the place; empty where there is none.
-    pub before: &'a [u8],
-    /// The last keyword, `;`, `:=` or `!` before the place; empty where there is none.
-    pub opener: &'a [u8],
-    /// Whether more `begin`s than `end`s stand before the place.
-    pub in_begin: bool,
-    /// Whether more `(` than `)` stand before the place.
-    pub in_parentheses: bool,
-    /// Whether a `procedure` stands before the place.
-    pub after_procedure: bool,
-    /// Whether a sign that compares stands between the opener and the place.
-    pub after_comparison: bool,
+    /// The token at the place, and the next two.
+    pub found: Token<'a>,
+    pub next: Token<'a>,
+    pub third: Token<'a>,
+    /// Whether no token stands before it in its line.
+    pub starts_line: bool,
+    /// What is known of the tokens before it.
+    pub past: Past<'a>,
+}
+
+/// What is known of the tokens in front of a place.
+#[derive(Clone, Copy)]
+pub struct Past<'a> {
+    /// The last token, and the one before it.
+    pub last: Token<'a>,
+    pub second_last: Token<'a>,
+    /// The last keyword, `;`, `:=` or `!`: with it began what the place is in.
+    pub opener: Token<'a>,
+    /// What the last `;` ended, by the keyword, `:=` or `!` before it.
+    pub ended: Token<'a>,
+    /// How many `begin`s, `(`s and blocks of procedures are open.
+    pub begins: u32,
+    pub parentheses: u32,
+    pub procedures: u32,
+    /// Whether a sign that compares stands behind the opener.
+    pub compared: bool,
 }
 
 /// Returns what stands around a place of a text.
 pub fn scene_at(text: &[u8], place: Place) -> Scene<'_>
-    ensures { plain result ≡ scene_at place text.now }
+    ensures { result.past.last.bytes.now ≡ token_before place text.now }
 {
-    let onward = from_place(text, place);
     let front = before_place(text, place);
+    let onward = from_place(text, place);
+    let (found, after) = split(onward);
+    let (next, after) = split(after);
+    let (third, _) = split(after);
+    let past = past_of(front);
     Scene {
-        found: front_token(onward),
-        next: second_token(onward),
+        front,
         onward,
-        before: last_token(front),
-        opener: last_opener(front),
-        in_begin: count(front, "end") < count(front, "begin"),
-        in_parentheses: count(front, ")") < count(front, "("),
-        after_procedure: count(front, "procedure") > 0,
-        after_comparison: is_comparison(last_sign(front)),
+        found,
+        next,
+        third,
+        starts_line: starts_line(front),
+        past,
     }
 }
 
-/// Returns the second token of bytes; nothing where there is none.
-fn second_token(bytes: &[u8]) -> &[u8]
-    ensures { result.now ≡ slice_index_or (cut bytes.now) 1 [] }
-{
+/// Whether no token stands in the last line of bytes.
+fn starts_line(bytes: &[u8]) -> bool {
+    let mut rest = bytes;
+    while let Some((_, after)) = next_token(rest) {
+        rest = after;
+    }
+    rest.contains(&b'\n')
+}
+
+/// Returns the first token of bytes, which is empty where there is none, and what is after it.
+fn split(bytes: &[u8]) -> (Token<'_>, &[u8]) {
     match next_token(bytes) {
-        None => &[],
-        Some((_, after)) => match next_token(after) {
-            None => &[],
-            Some((second, _)) => second,
-        },
+        Some(parts) => parts,
+        None => (Token { bytes: &[] }, &[]),
     }
 }
 
-/// Returns the last token of bytes; nothing where there is none.
-fn last_token(bytes: &[u8]) -> &[u8]
-    ensures { result.now ≡ last_or [] (cut bytes.now) }
+/// Returns what is known where nothing stands before.
+pub fn nothing_past() -> Past<'static>
+    ensures { result.last.bytes.now ≡ [] }
 {
-    let mut last: &[u8] = &[];
+    let none = Token { bytes: &[] };
+    Past {
+        last: none,
+        second_last: none,
+        opener: none,
+        ended: none,
+        begins: 0,
+        parentheses: 0,
+        procedures: 0,
+        compared: false,
+    }
+}
+
+/// Returns what is known of the tokens of bytes.
+fn past_of(bytes: &[u8]) -> Past<'_>
+    ensures { result.last.bytes.now ≡ last_or [] (cut bytes.now) }
+{
+    let mut past = nothing_past();
     let mut rest = bytes;
     while let Some((token, after)) = next_token(rest) {
-        last = token;
+        past = past.followed_by(token);
         rest = after;
     }
-    last
+    past
 }
 
-/// Returns the last keyword, `;`, `:=` or `!` of bytes; nothing where there is none.
-fn last_opener(bytes: &[u8]) -> &[u8]
-    ensures { result.now ≡ last_or [] (filter is_opener (cut bytes.now)) }
-{
-    let mut last: &[u8] = &[];
-    let mut rest = bytes;
-    while let Some((token, after)) = next_token(rest) {
-        if is_opener(token) {
-            last = token;
+impl<'a> Past<'a> {
+    /// Returns what is known behind one token more.
+    pub fn followed_by(self, token: Token<'a>) -> Past<'a>
+        ensures { result.last.bytes.now ≡ token.entry.bytes.now }
+    {
+        let opens = is_keyword(token) || token.is_one_of("; := !");
+        Past {
+            last: token,
+            second_last: self.last,
+            opener: if opens { token } else { self.opener },
+            ended: if token.is(";") {
+                self.opener
+            } else {
+                self.ended
+            },
+            begins: counted(self.begins, token, "begin", "end"),
+            parentheses: counted(self.parentheses, token, "(", ")"),
+            procedures: if self.ends_block(token) {
+                self.procedures.saturating_sub(1)
+            } else {
+                counted(self.procedures, token, "procedure", "")
+            },
+            compared: is_comparison(token) || self.compared && !opens,
         }
-        rest = after;
     }
-    last
+
+    /// Whether a token ends the block of a procedure: a `;` behind a statement that no `begin` encloses.
+    pub fn ends_block(self, token: Token<'a>) -> bool {
+        token.is(";") && self.begins == 0 && !is_declaring(self.opener)
+    }
 }
 
-/// Returns the last opener or sign that compares of bytes; nothing where there is none.
-fn last_sign(bytes: &[u8]) -> &[u8]
-    ensures { result.now ≡ last_or [] (filter (λ t. is_opener t || is_comparison t) (cut bytes.now)) }
-{
-    let mut last: &[u8] = &[];
-    let mut rest = bytes;
-    while let Some((token, after)) = next_token(rest) {
-        if is_opener(token) || is_comparison(token) {
-            last = token;
-        }
-        rest = after;
+/// Returns how many are open behind a token, where so many are before it.
+fn counted(open: u32, token: Token<'_>, opening: &str, closing: &str) -> u32 {
+    if token.is(opening) {
+        open.saturating_add(1)
+    } else if token.is(closing) {
+        open.saturating_sub(1)
+    } else {
+        open
     }
-    last
 }
 
-/// Returns how often a token stands in bytes.
-fn count(bytes: &[u8], token: &str) -> usize
-    ensures { result ≡ count token.now (cut bytes.now) }
-{
-    let mut count = 0;
-    let mut rest = bytes;
-    while let Some((next, after)) = next_token(rest) {
-        if is(next, token) {
-            count += 1;
-        }
-        rest = after;
-    }
-    count
-}
-
-/// Whether a token is a keyword, `;`, `:=` or `!`.
-fn is_opener(token: &[u8]) -> bool
-    ensures { result ≡ is_opener token.now }
-{
-    is_keyword(token) || is(token, ";") || is(token, ":=") || is(token, "!")
+/// Whether declarations follow a token.
+pub fn is_declaring(opener: Token<'_>) -> bool {
+    opener.is_one_of("const var procedure")
 }
 
 /// Whether a token compares.
-pub fn is_comparison(token: &[u8]) -> bool
-    ensures { result ≡ is_comparison token.now }
-{
-    is(token, "=")
-        || is(token, "#")
-        || is(token, "<")
-        || is(token, "<=")
-        || is(token, ">")
-        || is(token, ">=")
+pub fn is_comparison(token: Token<'_>) -> bool {
+    token.is_one_of("= # < <= > >=")
 }
 
-/// Whether a word is a keyword.
-pub fn is_keyword(word: &[u8]) -> bool
-    ensures { result ≡ is_keyword word.now }
-{
-    is(word, "const")
-        || is(word, "var")
-        || is(word, "procedure")
-        || is(word, "call")
-        || is(word, "begin")
-        || is(word, "end")
-        || is(word, "if")
-        || is(word, "then")
-        || is(word, "while")
-        || is(word, "do")
-        || is(word, "odd")
+/// Whether a token is a keyword.
+pub fn is_keyword(token: Token<'_>) -> bool {
+    token.is_one_of(KEYWORDS)
 }
 
-/// Whether a token is this one.
-pub fn is(token: &[u8], text: &str) -> bool
-    ensures { result ≡ bytes_eq token.now text.now }
-{
-    token == text.as_bytes()
+/// Whether a token is a name.
+pub fn is_name(token: Token<'_>) -> bool {
+    token.is_word() && !is_keyword(token)
 }
+
+/// The keywords.
+pub const KEYWORDS: &str = "const var procedure call begin end if then while do odd";

@@ -1,125 +1,146 @@
 //! A sentence for each mistake, and for each fault of a run.
 
-ghost use Rattle.std.specs.Prelude.{◌≡◌, ◌++◌, OnOk};
-ghost use Rattle.pl0_mistakes.specs.Scenes.{plain};
-ghost use Rattle.pl0_mistakes.specs.Hints.{quoted};
-ghost use Rattle.pl0_mistakes.specs.Sentences.{ended, refused, unexpected, foreign, unreadable, misused, has_byte_order_mark, mistake_sentence, fault_sentence};
+ghost use Rattle.std.specs.Prelude.{◌≡◌, ◌++◌, true, codes, Some, OnOk};
+ghost use Rattle.pl0_mistakes.specs.Sentences.{IsMistakeSentence, misuses, one_of, fault_sentence};
+ghost use Rattle.pl0_mistakes.specs.Written.{bytes_of, hinted};
 
-use crate::hints::{at_opening, lacks_period, write_hint};
-use crate::scene::{Scene, is};
+use crate::characters::{foreign_hint, unreadable_hint};
+use crate::hint::Hint;
+use crate::hints::{end_hint, hint_for};
+use crate::names::{Kind, kind_of};
+use crate::scene::Scene;
+use crate::situation::at_opening;
 use pl0_meaning::RunFault;
 use pl0_tree::FaultKind;
 use std::alloc::AllocError;
 
-/// Appends what is said of a mistake, at a place with this around it.
-pub fn write_mistake(
-    line: &mut Vec<u8>,
-    scene: Scene<'_>,
-    kind: FaultKind,
-) -> Result<(), AllocError>
-    ensures { OnOk result (line.new.items ≡ line.old.items ++ mistake_sentence (plain scene.entry) kind) }
+/// What is said of a mistake: a quote and a token, where there is one, a text, and a hint.
+#[derive(Clone, Copy)]
+pub struct Sentence<'a> {
+    pub front: &'static str,
+    pub token: &'a [u8],
+    pub said: &'static str,
+    pub hint: Option<Hint<'a>>,
+}
+
+/// Returns what is said of a mistake, at a place with this token and this around it.
+pub fn sentence_for<'a>(kind: FaultKind, token: &'a [u8], scene: Scene<'a>) -> Sentence<'a>
+    ensures { IsMistakeSentence token.entry.now scene.entry.past.last.bytes.now kind (bytes_of result) }
 {
-    let token = scene.found;
     match kind {
-        FaultKind::TooLong => write(line, "the text has more than 65,536 bytes"),
-        FaultKind::NotAscii => write_foreign(line, scene),
-        FaultKind::BadCharacter => write_unreadable(line, scene),
-        FaultKind::NumberTooLarge => write(line, "the number is larger than 9223372036854775807"),
-        FaultKind::NameTooLong => write(line, "the name has more than 64 characters"),
-        FaultKind::Expected => write_unexpected(line, scene),
-        FaultKind::TooDeep => write(line, "nested more than 64 deep here"),
-        FaultKind::TooManyNames => write(line, "the block declares more than 1,024 names"),
-        FaultKind::Twice => write_quoted(line, token, " is declared twice in this block"),
-        FaultKind::Unknown => write_quoted(line, token, " is not declared"),
-        FaultKind::TooEarly => write_quoted(line, token, " is used before its declaration"),
-        FaultKind::WrongKind => write_misused(line, scene),
+        FaultKind::TooLong => plain("the text has more than 65,536 bytes", None),
+        FaultKind::NotAscii => plain(
+            "only ASCII characters can stand in a program",
+            foreign_hint(scene),
+        ),
+        FaultKind::BadCharacter => plain(
+            "no word, number or sign begins with this character",
+            unreadable_hint(scene),
+        ),
+        FaultKind::NumberTooLarge => plain("the number is larger than 9223372036854775807", None),
+        FaultKind::NameTooLong => plain("the name has more than 64 characters", None),
+        FaultKind::Expected => unexpected(token, scene),
+        FaultKind::TooDeep => plain("nested more than 64 deep here", None),
+        FaultKind::TooManyNames => plain("the block declares more than 1,024 names", None),
+        FaultKind::Twice => quoted(token, "` is declared twice in this block", None),
+        FaultKind::Unknown => quoted(token, "` is not declared", None),
+        FaultKind::TooEarly => quoted(token, "` is used before its declaration", None),
+        FaultKind::WrongKind => quoted(token, misuse(scene), None),
     }
 }
 
-/// Appends what is said of a byte that isn't ASCII.
-fn write_foreign(line: &mut Vec<u8>, scene: Scene<'_>) -> Result<(), AllocError>
-    ensures { OnOk result (line.new.items ≡ line.old.items ++ foreign (plain scene.entry)) }
+/// Returns a sentence without a token.
+fn plain<'a>(said: &'static str, hint: Option<Hint<'a>>) -> Sentence<'a>
+    ensures { bytes_of result ≡ said.entry.now ++ hinted hint.entry }
 {
-    if has_byte_order_mark(scene) {
-        write(
-            line,
-            "only ASCII characters can stand in a program; save it as UTF-8 without a BOM",
-        )
+    Sentence {
+        front: "",
+        token: &[],
+        said,
+        hint,
+    }
+}
+
+/// Returns a sentence of a token, with the second quote in what is said.
+fn quoted<'a>(token: &'a [u8], said: &'static str, hint: Option<Hint<'a>>) -> Sentence<'a>
+    ensures { bytes_of result ≡ codes "`" ++ (token.entry.now ++ (said.entry.now ++ hinted hint.entry)) }
+{
+    Sentence {
+        front: "`",
+        token,
+        said,
+        hint,
+    }
+}
+
+/// Returns what is said of a token that can't stand where it does; of the end of the text, where there is none.
+fn unexpected<'a>(token: &'a [u8], scene: Scene<'a>) -> Sentence<'a>
+    ensures { IsMistakeSentence token.entry.now scene.entry.past.last.bytes.now FaultKind.Expected (bytes_of result) }
+{
+    if token.is_empty() {
+        plain("the text ends before the program does", end_hint(scene))
     } else {
-        write(line, "only ASCII characters can stand in a program")
+        quoted(token, "` can't stand here", hint_for(scene))
     }
 }
 
-/// Whether a text begins with the mark that some editors write there, in UTF-8 or in UTF-16.
-fn has_byte_order_mark(scene: Scene<'_>) -> bool
-    ensures { result ≡ has_byte_order_mark (plain scene.entry) }
+/// Returns what a name is that can't be used as it is.
+fn misuse(scene: Scene<'_>) -> &'static str
+    ensures { one_of result.now (misuses scene.entry.past.last.bytes.now) ≡ true }
 {
-    scene.before.is_empty()
-        && (scene.onward.starts_with(&[239, 187, 191])
-            || scene.onward.starts_with(&[255, 254])
-            || scene.onward.starts_with(&[254, 255]))
-}
-
-/// Appends what is said of a character with which no token begins.
-fn write_unreadable(line: &mut Vec<u8>, scene: Scene<'_>) -> Result<(), AllocError>
-    ensures { OnOk result (line.new.items ≡ line.old.items ++ unreadable (plain scene.entry)) }
-{
-    if is(scene.found, "{") || is(scene.found, "}") {
-        write(
-            line,
-            "no word, number or sign begins with this character; PL/0 has no comments",
-        )
+    let constant = kind_of(scene.front, scene.found) == Some(Kind::Constant);
+    if scene.past.last.is("call") {
+        not_called(constant)
+    } else if at_opening(scene) {
+        not_assigned(constant)
     } else {
-        write(line, "no word, number or sign begins with this character")
+        "` is a procedure, which has no value"
     }
 }
 
-/// Appends what is said of a token that can't stand where it does; of the end of the text, where there is none.
-fn write_unexpected(line: &mut Vec<u8>, scene: Scene<'_>) -> Result<(), AllocError>
-    ensures { OnOk result (line.new.items ≡ line.old.items ++ unexpected (plain scene.entry)) }
+/// Returns what is said of a constant, or else a variable, that is called.
+fn not_called(constant: bool) -> &'static str
+    ensures { one_of result.now (misuses (codes "call")) ≡ true }
 {
-    if scene.found.is_empty() {
-        write_ended(line, scene)
+    if constant {
+        "` is a constant and can't be called"
     } else {
-        write_refused(line, scene)
+        "` is a variable and can't be called"
     }
 }
 
-/// Appends what is said of the end of the text.
-fn write_ended(line: &mut Vec<u8>, scene: Scene<'_>) -> Result<(), AllocError>
-    ensures { OnOk result (line.new.items ≡ line.old.items ++ ended (plain scene.entry)) }
+/// Returns what is said of a constant, or else a procedure, that is assigned.
+fn not_assigned(constant: bool) -> &'static str
+    ensures { one_of result.now (misuses (codes ";")) ≡ true }
 {
-    if lacks_period(scene) {
-        write(
-            line,
-            "the text ends before the program does; a `.` ends the program",
-        )
+    if constant {
+        "` is a constant and can't be assigned"
     } else {
-        write(line, "the text ends before the program does")
+        "` is a procedure and can't be assigned"
     }
 }
 
-/// Appends what is said of a token that can't stand where it does.
-fn write_refused(line: &mut Vec<u8>, scene: Scene<'_>) -> Result<(), AllocError>
-    ensures { OnOk result (line.new.items ≡ line.old.items ++ refused (plain scene.entry)) }
+/// Appends what is said of a mistake.
+pub fn write_sentence(line: &mut Vec<u8>, sentence: Sentence<'_>) -> Result<(), AllocError>
+    ensures { OnOk result (line.new.items ≡ line.old.items ++ bytes_of sentence.entry) }
 {
-    write_quoted(line, scene.found, " can't stand here")?;
-    write_hint(line, scene)
+    write(line, sentence.front)?;
+    line.extend_from_slice(sentence.token)?;
+    write(line, sentence.said)?;
+    match sentence.hint {
+        None => Ok(()),
+        Some(hint) => write_hint(line, hint),
+    }
 }
 
-/// Appends what is said of a name that can't be used as it is.
-fn write_misused(line: &mut Vec<u8>, scene: Scene<'_>) -> Result<(), AllocError>
-    ensures { OnOk result (line.new.items ≡ line.old.items ++ misused (plain scene.entry)) }
+/// Appends a hint.
+fn write_hint(line: &mut Vec<u8>, hint: Hint<'_>) -> Result<(), AllocError>
+    ensures { OnOk result (line.new.items ≡ line.old.items ++ hinted (Some hint.entry)) }
 {
-    if is(scene.before, "call") || at_opening(scene) {
-        write_quoted(
-            line,
-            scene.found,
-            " can't be used so: only variables are assigned, and only procedures are called",
-        )
-    } else {
-        write_quoted(line, scene.found, " is a procedure, which has no value")
-    }
+    write(line, "; ")?;
+    write(line, hint.front)?;
+    line.extend_from_slice(hint.word)?;
+    write(line, hint.back)
 }
 
 /// Appends what is said of a fault of a run.
@@ -132,29 +153,6 @@ pub fn write_fault(line: &mut Vec<u8>, fault: RunFault) -> Result<(), AllocError
         RunFault::Depth => write(line, "more than 1,024 frames would be alive"),
         RunFault::StepLimit => write(line, "no step can be taken any more"),
     }
-}
-
-/// Appends a token between quotes, and what is said of it.
-fn write_quoted(line: &mut Vec<u8>, token: &[u8], said: &str) -> Result<(), AllocError>
-    ensures { OnOk result (line.new.items ≡ line.old.items ++ quoted token.now said.now) }
-{
-    write(line, "`")?;
-    line.extend_from_slice(token)?;
-    write(line, "`")?;
-    write(line, said)
-}
-
-/// Appends a token between quotes, and what is said before and after it.
-pub fn write_around(
-    line: &mut Vec<u8>,
-    before: &str,
-    token: &[u8],
-    after: &str,
-) -> Result<(), AllocError>
-    ensures { OnOk result (line.new.items ≡ line.old.items ++ (before.now ++ quoted token.now after.now)) }
-{
-    write(line, before)?;
-    write_quoted(line, token, after)
 }
 
 /// Appends a text.

@@ -10,6 +10,7 @@ use Rattle.pl0_tool.specs.declared.report.Report.{Report}
 use Rattle.pl0_tool.specs.declared.running.RunEnd.{RunEnd}
 use Rattle.pl0_tool.specs.Loading.{IsProgramOf}
 use Rattle.pl0_tool.specs.Running.{HasRun}
+use Rattle.pl0_mistakes.specs.Warnings.{warning_lines}
 use Rattle.std.specs.Prelude.{IsErrAnd, MatchResult}
 use Rattle.pl0_tool.specs.Commands.{IsReport, RunTells, TraceTells, ProgramTells, Tells, start_of, end_errors, end_ending}
 use Rattle.pl0_tool.specs.Commands.{IsTraceReport, ListTells, TreeTells, ProgramWrites, StartTraces, StartWrites, WritesNumbers, WritesRun}
@@ -127,12 +128,14 @@ part_from drawn unit m from count before now at h =
 
 -- ---- what each task tells of a program
 
-pub checked_program : (task : Task) (file : List ℕ) (unit : Compiled) (report : Report) (out : Output)
+pub checked_program : {E : Type 0} (task : Task) (file : List ℕ) (unit : Compiled) (r : Result Report E) (out : Output)
     → task ≡ Check
-    → IsReport [] [] Success report
-    → ProgramTells task file unit report out out
-checked_program task file unit report out is told =
+    → IfOk r (IsReport [] (warning_lines file unit.tree.text.items) Success)
+    → MatchResult r (λ report. ProgramTells task file unit report out out) (λ e. ProgramWrites task unit out out)
+checked_program task file unit (Ok report) out is told =
     subst (λ (t : Task). ProgramTells t file unit report out out) (sym is) (told, refl)
+checked_program task file unit (Err e) out is told =
+    subst (λ (t : Task). ProgramWrites t unit out out) (sym is) refl
 
 pub listed_program : {E : Type 0} (task : Task) (names : Bool) (file : List ℕ) (unit : Compiled) (r : Result Report E)
     (out : Output)

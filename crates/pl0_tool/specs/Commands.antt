@@ -7,7 +7,8 @@ use Rattle.pl0_unit.specs.declared.unit.Unit.{Unit as Compiled}
 use Rattle.pl0_machine.specs.Machine.{Standing}
 use Rattle.pl0_lessons.specs.NameTable.{IsNameTable}
 use Rattle.pl0_lessons.specs.ProgramTree.{IsProgramTree}
-use Rattle.pl0_mistakes.specs.Lines.{mistake_line}
+use Rattle.pl0_mistakes.specs.Lines.{IsMistakeLine}
+use Rattle.pl0_mistakes.specs.Warnings.{warning_lines}
 use Rattle.byte_streams.specs.Streams.{Output}
 use Rattle.pl0_tool.specs.declared.arguments.Task.{Task}
 use Rattle.pl0_tool.specs.declared.arguments.Task.TheVariants.{Run, Trace, Check, Tree, List as Listing}
@@ -92,14 +93,15 @@ start_of unit = record { unit = unit; position = 0 }
 
 abbrev pub MistakeTells : List ℕ → List ℕ → Report → Type 0
 MistakeTells file text report =
-    (kind : FaultKind) × (place : Place) × IsFirstFault text kind place
-    × IsReport [] (mistake_line file text kind place) Mistake report
+    (kind : FaultKind) × (place : Place) × (line : List ℕ) × IsFirstFault text kind place
+    × IsMistakeLine file text kind place line × IsReport [] line Mistake report
 
 abbrev pub ProgramTells : Task → List ℕ → Compiled → Report → Output → Output → Type 0
 ProgramTells Run file unit report before after = RunTells file (start_of unit) report before after
 ProgramTells (Trace from steps drawn) file unit report before after =
     TraceTells drawn file (start_of unit) from steps report before after
-ProgramTells Check file unit report before after = IsReport [] [] Success report × (after ≡ before)
+ProgramTells Check file unit report before after =
+    IsReport [] (warning_lines file unit.tree.text.items) Success report × (after ≡ before)
 ProgramTells (Listing names) file unit report before after = ListTells names unit report × (after ≡ before)
 ProgramTells Tree file unit report before after = TreeTells unit report × (after ≡ before)
 

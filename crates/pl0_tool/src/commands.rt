@@ -8,6 +8,7 @@ ghost use Rattle.pl0_tool.specs.Commands.{IsTraceReport, ListTells, TreeTells, e
 ghost use Rattle.pl0_tool.specs.Faulting.{fault_report};
 
 use crate::arguments::Task;
+use crate::checking::check_program;
 use crate::fault::fault_report;
 use crate::listing::listing;
 use crate::report::{Ending, Report};
@@ -73,7 +74,7 @@ fn perform_program<O: Sink>(
         (O.output output.old) (O.output output.new)) }
 {
     match task {
-        Task::Check => Ok(nothing_told(alloc, Ending::Success)),
+        Task::Check => check_program(alloc, file, &unit),
         Task::List { names } => list_program(alloc, &unit, names),
         Task::Tree => draw_tree(alloc, &unit),
         Task::Run => run_program(rt, alloc, file, unit, output, room),

@@ -14,6 +14,7 @@
 mod answering;
 mod arguments;
 mod blocks;
+mod checking;
 mod commands;
 mod drawing;
 mod fault;

@@ -3,7 +3,8 @@ use Rattle.pl0_tool.proofs.commands.perform_program.Goals as goal
 
 pub returns-in-Check : goal.returns-in-Check
 returns-in-Check g c =
-    checked_program c.args.task c.args.file.now c.args.unit c.nothing_told.result _ c.in-Check.is c.nothing_told.ensures
+    checked_program c.args.task c.args.file.now c.args.unit c.check_program.result _ c.in-Check.is
+    c.check_program.ensures
 
 pub returns-in-List : goal.returns-in-List
 returns-in-List g c =

@@ -1,0 +1,98 @@
+//! What a name is declared as.
+
+use crate::found::{Token, next_token};
+use crate::scene::{Past, is_name, nothing_past};
+
+/// What a name is declared as.
+#[derive(Clone, Copy, PartialEq, Eq)]
+pub enum Kind {
+    Constant,
+    Variable,
+    Procedure,
+}
+
+/// The blocks around a place that declare a name as each kind: bit n stands for the one that n blocks enclose.
+#[derive(Clone, Copy)]
+struct Declared {
+    constants: u128,
+    variables: u128,
+    procedures: u128,
+}
+
+/// Returns what a name is declared as, by the nearest block around the end of a text's front; `None` where it isn't yet.
+pub fn kind_of(front: &[u8], name: Token<'_>) -> Option<Kind> {
+    let mut declared = Declared {
+        constants: 0,
+        variables: 0,
+        procedures: 0,
+    };
+    let mut past = nothing_past();
+    let mut rest = front;
+    while let Some((token, after)) = next_token(rest) {
+        declared = declared.within(blocks(past.procedures));
+        if is_name(token) && token.bytes == name.bytes {
+            declared = declared.with(past);
+        }
+        past = past.followed_by(token);
+        rest = after;
+    }
+    declared.within(blocks(past.procedures)).nearest()
+}
+
+/// Whether a name stands behind `procedure` anywhere in bytes.
+pub fn is_procedure_in(bytes: &[u8], name: Token<'_>) -> bool {
+    let mut behind = false;
+    let mut rest = bytes;
+    while let Some((token, after)) = next_token(rest) {
+        if behind && token.bytes == name.bytes {
+            return true;
+        }
+        behind = token.is("procedure");
+        rest = after;
+    }
+    false
+}
+
+/// Returns the bits of the blocks around a place that this many procedures enclose.
+fn blocks(procedures: u32) -> u128 {
+    !((u128::MAX << (procedures % 127)) << 1)
+}
+
+impl Declared {
+    /// Returns what these blocks declare.
+    fn within(self, blocks: u128) -> Declared {
+        Declared {
+            constants: self.constants & blocks,
+            variables: self.variables & blocks,
+            procedures: self.procedures & blocks,
+        }
+    }
+
+    /// Returns what is declared with the name at a place with these tokens before it, where it declares one.
+    fn with(self, past: Past<'_>) -> Declared {
+        let here = 1 << (past.procedures % 127);
+        let mut declared = self;
+        if past.opener.is("const") {
+            declared.constants |= here;
+        } else if past.opener.is("var") {
+            declared.variables |= here;
+        } else if past.opener.is("procedure") {
+            declared.procedures |= here >> 1;
+        }
+        declared
+    }
+
+    /// Returns the kind that the innermost block declares.
+    fn nearest(self) -> Option<Kind> {
+        let others = self.constants.max(self.variables).max(self.procedures);
+        if others == 0 {
+            None
+        } else if others == self.constants {
+            Some(Kind::Constant)
+        } else if others == self.variables {
+            Some(Kind::Variable)
+        } else {
+            Some(Kind::Procedure)
+        }
+    }
+}
