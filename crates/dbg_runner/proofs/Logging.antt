@@ -1,5 +1,5 @@
 -- What the positions of a run log.
-use Rattle.dbg_runner.proofs.Common.{[], accepts, ap, append-nil, append_assoc, arith, arrivals, arrives_in, at, Block, Breakpoint, cases_eq, EndsBy, false, faults, if◌then◌else◌, is_due, is_held, is_hit, is_over, IsPassed, IsSpent, lacks_memory, List, Log, log_at, log_in, logs, logs_between, logs_from, logs_in, logs_told, None, Option, PlainReport, refl, slice_limit, SliceOutcome, Some, suc, sym, takes_all, WentOn, zero, ℕ, ⊎_elim, ◌&&◌, ◌++◌, ◌+◌, ◌-◌, ◌<◌, ◌∙◌, ◌∷◌, ◌≡◌, ◌≤◌, ◌⊎◌}
+use Rattle.dbg_runner.proofs.Common.{[], accepts, ap, append-nil, append_assoc, arith, arrivals, arrives_in, at, Block, Breakpoint, cases_eq, EndsBy, false, faults, if◌then◌else◌, is_due, is_held, is_hit, is_over, IsPassed, IsSpent, lacks_memory, List, Log, log_at, log_in, logs, logs_between, logs_from, logs_in, logs_told, None, Option, PlainReport, refl, slice_limit, SliceOutcome, Some, suc, sym, takes_all, WentOn, zero, ℕ, ⊎_elim, ◌&&◌, ◌++◌, ◌+◌, ◌-◌, ◌<◌, ◌∙◌, ◌∷◌, ◌≡◌, ◌≤◌}
 use Rattle.std.specs.List.{cons_option}
 use Rattle.std.specs.List.{filter_map, enumerate_from}
 use Rattle.pl0_meaning.specs.Values.{Configuration}
