@@ -91,7 +91,8 @@ variable_value variable =
 abbrev pub variables : List PlainVariable → Data
 variables all = body_of (codes "variables") (array (items_of (map variable_value all)))
 
--- the body for `evaluate`: the value as it is shown, and the reference to the variables inside, or 0
+-- the body for `evaluate`: the value as it is shown, and the reference by which the variables inside are asked for; 0
+-- where there are none
 abbrev pub evaluated : List ℕ → ℕ → Data
 evaluated value reference =
     object (member (codes "result") (string value)

@@ -54,8 +54,8 @@ loop-preserved-in-Ok g c = record {
   outputs = c.in-Ok.ensures.count ∙ c.loop.invariant.outputs;
   working = working_part g.R.Responder.replies g.P.Pace.works g.P.Pace.busy g.P.Pace.gives g.P.Pace.polls
       (state c.args.responder.now 1 true) (state c.loop.responder c.loop.next true) c.work.new.responder
-      c.tell_all.new.next c.loop.decoder.rest c.args.inbox.now
-      c.loop.inbox c.next_item.new.inbox (map plain_event c.in_ok-events-in-None-next_item.events.items)
+      c.tell_all.new.next c.loop.decoder.rest c.args.inbox.now c.loop.inbox c.next_item.new.inbox
+      (map plain_event c.in_ok-events-in-None-next_item.events.items)
       (g.O.Sink.output c.args.output.now).written (g.O.Sink.output c.loop.output).written (g.O.Sink.output
       c.tell_all.new.output).written
       c.loop.invariant.working c.in-None-next_item.ensures refl c.loop.invariant.is_open
