@@ -1,0 +1,2 @@
+-- frames, scopes and variables as data without addresses
+pub mod Shown
