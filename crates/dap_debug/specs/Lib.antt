@@ -1,2 +1,24 @@
+-- the names of the commands
+pub mod Commands
+-- members of arguments
+pub mod Arguments
 -- frames, scopes and variables as data without addresses
 pub mod Shown
+-- how a session stands
+pub mod Standings
+-- the events that tell of a run
+pub mod Telling
+-- how a program is started, goes on, is paused and ended
+pub mod Running
+-- what questions show
+pub mod Inspecting
+-- which breakpoints are set
+pub mod Breakpoints
+-- what is replied to each command
+pub mod Replies
+-- what holds of each session
+pub mod Laws
+-- what is promised of a conversation: the contract of `serve_language_inbox`
+pub mod Serving
+-- what holds of a whole conversation
+pub mod Sums

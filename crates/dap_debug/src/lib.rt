@@ -1,6 +1,28 @@
-//! A debug adapter for any language.
+//! A debug adapter for any language: what a language gives is [`Language`], and all else is here.
+//!
+//! [`serve_language_inbox`] serves a client. The program has no thread of its own: it runs in slices, one with the reply
+//! that lets it go on, and one more each time that nothing has come from the client. So `pause` stops it in its own reply.
+//!
+//! The contract is `Debugged` in `specs/Serving.antt`: each request is answered once, in order, with what `Replies` in
+//! `specs/Replies.antt` says, and each slice is told as `WorksOn` in `specs/Running.antt` says, by the language's own steps.
+//! By `conversation_laws` each run ends once: with a `stopped`, or with `exited` and `terminated`.
+//!
+//! What the language means is the language's to say, by its ghost members. Where its `takes` allows any step, nothing is
+//! promised of the states between two stops, or of what is printed.
 #![tactic(auto)]
 
+mod arguments;
+mod breakpoints;
+mod command;
+mod inspecting;
 mod language;
+mod laws;
+mod running;
+mod serving;
+mod session;
+mod state;
+mod telling;
 
 pub use language::{Frame, Language, Location, Scope, Variable};
+pub use laws::{conversation_laws, debug_laws};
+pub use serving::serve_language_inbox;

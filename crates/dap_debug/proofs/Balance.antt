@@ -1,0 +1,243 @@
+-- Each run ends once.
+use Rattle.std.specs.Prelude.{slice_get, codes}
+use Rattle.std.proofs.Common.{◌≡◌, ◌+◌, ℕ, true, false, List, [], ◌∷◌, ◌++◌, ◌∙◌, refl, sym, ap, subst, map, arith, Option, None, Some, inl, inr}
+use Rattle.serde_json.specs.Data.{Data}
+use Rattle.dap_server.specs.Messages.{PlainEvent, PlainReply}
+use Rattle.debuggee.specs.Plain.{PlainEvaluated, Value, NoValue, PlainHalt, AtBreakpoint, AtStep, AtEnd, AtFault, PlainOutput, Printed, Logged}
+use Rattle.debuggee.specs.Due.{Sight}
+use Rattle.debuggee.specs.Runs.{Meaning}
+use Rattle.debuggee.specs.declared.mode.Mode.{Mode}
+use Rattle.debuggee.specs.declared.mode.Mode.TheVariants as mode
+use Rattle.dap_debug.specs.declared.command.Command.{Command}
+use Rattle.dap_debug.specs.declared.command.Command.TheVariants as command
+use Rattle.dap_debug.specs.declared.command.Resume.{Resume}
+use Rattle.dap_debug.specs.declared.command.Question.{Question}
+use Rattle.dap_debug.specs.declared.command.Question.TheVariants as question
+use Rattle.dap_debug.specs.declared.state.Phase.{Phase}
+use Rattle.dap_debug.specs.declared.state.Phase.TheVariants as phase
+use Rattle.dap_debug.specs.Arguments.{text_at}
+use Rattle.dap_debug.specs.Inspecting.{ShowsScope, ShowsVariables, Evaluates, Shows, ShowsFrom, frame_of_reference, frame_to_evaluate, index_of_reference, reference_asked, reply_of}
+use Rattle.dap_debug.specs.Shown.{PlainFrame, PlainScope}
+use Rattle.dap_debug.specs.Replies.{Known, IsQuiet, LoadsFrom, Replies}
+use Rattle.dap_debug.specs.Running.{GoesFrom, WorksOn, StartsFrom, ResumesFrom, PausesFrom, IsRefused, ended, mode_of, phase_after}
+use Rattle.dap_debug.specs.Standings.{Standing}
+use Rattle.dap_debug.specs.Telling.{output, told_end, told_of}
+use Rattle.dap_debug.specs.Laws.{ends_told, owed, asks}
+
+ends_append : (xs ys : List PlainEvent) → ends_told (xs ++ ys) ≡ ends_told xs + ends_told ys
+ends_append [] ys = omega arith
+ends_append (x ∷ xs) ys = let more = ends_append xs ys in omega (arith, more)
+
+none_in_outputs : (texts : List PlainOutput) → ends_told (map output texts) ≡ 0
+none_in_outputs [] = refl
+none_in_outputs (Printed text ∷ texts) = let more = none_in_outputs texts in omega (arith, more)
+none_in_outputs (Logged text ∷ texts) = let more = none_in_outputs texts in omega (arith, more)
+
+one_end : {S : Type 0} (halt : Option PlainHalt) (a : S) (how : Mode)
+    → owed (phase_after halt a how) + ends_told (told_end halt) ≡ 1
+one_end None a how = refl
+one_end (Some AtBreakpoint) a how = refl
+one_end (Some AtStep) a how = refl
+one_end (Some (AtFault why)) a how = refl
+one_end (Some (AtEnd status)) a how = refl
+
+told_once : {S : Type 0} (told : List PlainOutput) (halt : Option PlainHalt) (a : S) (how : Mode)
+    → owed (phase_after halt a how) + ends_told (told_of told halt) ≡ 1
+told_once told halt a how =
+    let both = ends_append (map output told) (told_end halt) in
+    let none = none_in_outputs told in
+    let one = one_end halt a how in
+    omega (arith, both, none, one)
+
+-- nothing is told, and the session stands as before
+still : {S : Type 0} (stood stands : Standing S) (events : List PlainEvent) (p : Phase S) → events ≡ [] → stands ≡ stood
+    → stood.phase ≡ p → owed stands.phase + ends_told events ≡ owed p
+still stood stands events p none so is =
+    let told = ap ends_told none in
+    let owes = ap (λ (s : Standing _). owed s.phase) so ∙ ap owed is in
+    omega (arith, told, owes)
+
+worked : {S : Type 0} (takes : Meaning S) (sees : Sight S) (p : Phase S) (stood stands : Standing S)
+    (events : List PlainEvent) → stood.phase ≡ p → GoesFrom takes sees p stood events stands
+    → owed stands.phase + ends_told events ≡ owed p
+worked takes sees (phase.Running a how) stood stands events at is =
+    let once = told_once is.0.2 is.0.0 is.0.1 how in
+    let told = ap ends_told is.0.4 in
+    let so = ap owed is.0.5 in
+    omega (arith, once, told, so)
+worked takes sees (phase.Configuring a stop_on_entry) stood stands events at is =
+    still stood stands events _ is.0 is.1 at
+worked takes sees (phase.Stopped a) stood stands events at is = still stood stands events _ is.0 is.1 at
+worked takes sees phase.NoProgram stood stands events at is = still stood stands events _ is.0 is.1 at
+
+pub work_balanced : {S : Type 0} (takes : Meaning S) (sees : Sight S) (stood stands : Standing S)
+    (events : List PlainEvent) → WorksOn takes sees stood events stands
+    → owed stands.phase + ends_told events ≡ owed stood.phase
+work_balanced takes sees stood stands events is = worked takes sees stood.phase stood stands events refl is
+
+-- the reply is this one, and the session stands as before
+quiet : {S : Type 0} (stood stands : Standing S) (reply says : PlainReply) (p : Phase S) → reply ≡ says
+    → says.events ≡ [] → stands ≡ stood → stood.phase ≡ p → owed stands.phase + ends_told reply.events ≡ owed p
+quiet stood stands reply says p is none so at =
+    still stood stands reply.events p (ap (λ (r : PlainReply). r.events) is ∙ none) so at
+
+refused : {S : Type 0} (stood stands : Standing S) (reply : PlainReply) (p : Phase S) → IsRefused stood reply stands
+    → stood.phase ≡ p → owed stands.phase + ends_told reply.events ≡ owed p
+refused stood stands reply p is at = quiet stood stands reply _ p is.0.1 refl is.1 at
+
+-- the reply is this one, and the program has come so far
+replied : {S : Type 0} (stands : Standing S) (now : Phase S) (reply says : PlainReply) (n : ℕ) → reply ≡ says
+    → stands.phase ≡ now → owed now + ends_told says.events ≡ n → owed stands.phase + ends_told reply.events ≡ n
+replied stands now reply says n is so sum =
+    let told = ap (λ (r : PlainReply). ends_told r.events) is in
+    let owes = ap owed so in
+    omega (arith, told, owes, sum)
+
+started : {S : Type 0} (takes : Meaning S) (sees : Sight S) (p : Phase S) (stood stands : Standing S)
+    (reply : PlainReply) → stood.phase ≡ p → StartsFrom takes sees p stood reply stands
+    → owed stands.phase + ends_told reply.events ≡ owed p + asks command.ConfigurationDone p
+started takes sees (phase.Configuring a true) stood stands reply at is =
+    replied stands (phase.Stopped a) reply _ 1 is.0 (ap (λ (s : Standing _). s.phase) is.1) refl
+started takes sees (phase.Configuring a false) stood stands reply at is =
+    let begun = is.1 in
+    let once = told_once begun.arrives.1 begun.arrives.0 a mode.Continue in
+    let first = ap ends_told begun.arrives.3 in
+    let owes = ap owed begun.arrives.4 in
+    let later = work_balanced takes sees begun.there stands begun.more begun.goes in
+    let both = ends_append begun.first begun.more in
+    let all = ap ends_told begun.events_are in
+    let told = ap (λ (r : PlainReply). ends_told r.events) is.2 in
+    omega (arith, once, first, owes, later, both, all, told)
+started takes sees (phase.Running a how) stood stands reply at is =
+    let so = refused stood stands reply _ is at in omega (arith, so)
+started takes sees (phase.Stopped a) stood stands reply at is =
+    let so = refused stood stands reply _ is at in omega (arith, so)
+started takes sees phase.NoProgram stood stands reply at is =
+    let so = refused stood stands reply _ is at in omega (arith, so)
+
+resumes : {S : Type 0} (takes : Meaning S) (sees : Sight S) (p : Phase S) (how : Resume) (stood stands : Standing S)
+    (reply : PlainReply) → stood.phase ≡ p → ResumesFrom takes sees p how stood reply stands
+    → owed stands.phase + ends_told reply.events ≡ owed p + asks (command.Resume how) p
+resumes takes sees (phase.Stopped a) how stood stands reply at is =
+    let once = told_once is.1.0.2 is.1.0.0 is.1.0.1 (mode_of how (sees.depth_of a)) in
+    let told = ap ends_told is.1.0.4 in
+    let so = ap owed is.1.0.5 in
+    omega (arith, once, told, so)
+resumes takes sees (phase.Configuring a stop_on_entry) how stood stands reply at is =
+    let so = refused stood stands reply _ is at in omega (arith, so)
+resumes takes sees (phase.Running a before) how stood stands reply at is =
+    let so = refused stood stands reply _ is at in omega (arith, so)
+resumes takes sees phase.NoProgram how stood stands reply at is =
+    let so = refused stood stands reply _ is at in omega (arith, so)
+
+paused : {S : Type 0} (p : Phase S) (stood stands : Standing S) (reply : PlainReply) → stood.phase ≡ p
+    → PausesFrom p stood reply stands → owed stands.phase + ends_told reply.events ≡ owed p
+paused (phase.Running a how) stood stands reply at is =
+    replied stands (phase.Stopped a) reply _ 1 is.0 (ap (λ (s : Standing _). s.phase) is.1) refl
+paused (phase.Configuring a stop_on_entry) stood stands reply at is = refused stood stands reply _ is at
+paused (phase.Stopped a) stood stands reply at is = refused stood stands reply _ is at
+paused phase.NoProgram stood stands reply at is = refused stood stands reply _ is at
+
+ends_of : {S : Type 0} (p : Phase S) → ends_told (ended p) ≡ owed p + asks command.Terminate p
+ends_of (phase.Running a how) = refl
+ends_of (phase.Configuring a stop_on_entry) = refl
+ends_of (phase.Stopped a) = refl
+ends_of phase.NoProgram = refl
+
+loaded : {S : Type 0} (begins : List ℕ → S → Type 0) (p : Phase S) (arguments : Option Data)
+    (stood stands : Standing S) (reply : PlainReply) → stood.phase ≡ p → LoadsFrom begins p arguments stood reply stands
+    → owed stands.phase + ends_told reply.events ≡ owed p
+loaded begins (phase.Running a how) arguments stood stands reply at is = refused stood stands reply _ is at
+loaded begins (phase.Configuring a stop_on_entry) arguments stood stands reply at (inl is) =
+    replied stands _ reply _ 0 is.reply_is is.phase_is refl
+loaded begins (phase.Configuring a stop_on_entry) arguments stood stands reply at (inr is) =
+    refused stood stands reply _ is at
+loaded begins (phase.Stopped a) arguments stood stands reply at (inl is) =
+    replied stands _ reply _ 0 is.reply_is is.phase_is refl
+loaded begins (phase.Stopped a) arguments stood stands reply at (inr is) = refused stood stands reply _ is at
+loaded begins phase.NoProgram arguments stood stands reply at (inl is) =
+    replied stands _ reply _ 0 is.reply_is is.phase_is refl
+loaded begins phase.NoProgram arguments stood stands reply at (inr is) = refused stood stands reply _ is at
+
+-- ---- questions
+
+no_events : (reply says : PlainReply) → reply ≡ says → says.events ≡ [] → reply.events ≡ []
+no_events reply says is none = ap (λ (r : PlainReply). r.events) is ∙ none
+
+scope_quiet : (scope : Option PlainScope) (reply : PlainReply) → ShowsScope scope reply → reply.events ≡ []
+scope_quiet None reply is = no_events reply _ is.1 refl
+scope_quiet (Some scope) reply is = no_events reply _ is refl
+
+variables_quiet : {S : Type 0} (variables_of : S → ℕ → List PlainScope → Type 0) (frame : Option ℕ) (index : ℕ) (a : S)
+    (reply : PlainReply) → ShowsVariables variables_of frame index a reply → reply.events ≡ []
+variables_quiet variables_of None index a reply is = no_events reply _ is.1 refl
+variables_quiet variables_of (Some frame) index a reply is = scope_quiet (slice_get is.0 index) reply is.2
+
+value_quiet : (evaluated : PlainEvaluated) (reply : PlainReply) → reply ≡ reply_of evaluated → reply.events ≡ []
+value_quiet (Value text holds) reply is = no_events reply _ is refl
+value_quiet (NoValue why) reply is = no_events reply _ is refl
+
+evaluate_quiet : {S : Type 0} (sees : Sight S) (expression : Option (List ℕ)) (frame : Option ℕ) (a : S)
+    (reply : PlainReply) → Evaluates sees expression frame a reply → reply.events ≡ []
+evaluate_quiet sees (Some expression) (Some frame) a reply is = value_quiet (sees.value_of a frame expression) reply is
+evaluate_quiet sees (Some expression) None a reply is = no_events reply _ is.1 refl
+evaluate_quiet sees None frame a reply is = no_events reply _ is.1 refl
+
+shows_quiet : {S : Type 0} (sees : Sight S) (frame_of : S → ℕ → PlainFrame → Type 0)
+    (variables_of : S → ℕ → List PlainScope → Type 0) (asked : Question) (arguments : Option Data) (path : List ℕ)
+    (a : S) (reply : PlainReply) → Shows sees frame_of variables_of asked arguments path a reply → reply.events ≡ []
+shows_quiet sees frame_of variables_of question.StackTrace arguments path a reply is =
+    no_events reply _ is.reply_is refl
+shows_quiet sees frame_of variables_of question.Scopes arguments path a reply is = is
+shows_quiet sees frame_of variables_of question.Variables arguments path a reply is =
+    variables_quiet variables_of (frame_of_reference (sees.depth_of a) (reference_asked arguments))
+    (index_of_reference (reference_asked arguments)) a reply is
+shows_quiet sees frame_of variables_of question.Evaluate arguments path a reply is =
+    evaluate_quiet sees (text_at (codes "expression") arguments) (frame_to_evaluate (sees.depth_of a) arguments) a reply
+    is
+
+inspects_quiet : {S : Type 0} (sees : Sight S) (frame_of : S → ℕ → PlainFrame → Type 0)
+    (variables_of : S → ℕ → List PlainScope → Type 0) (p : Phase S) (asked : Question) (arguments : Option Data)
+    (path : List ℕ) (reply : PlainReply) → ShowsFrom sees frame_of variables_of p asked arguments path reply
+    → reply.events ≡ []
+inspects_quiet sees frame_of variables_of (phase.Stopped a) asked arguments path reply is =
+    shows_quiet sees frame_of variables_of asked arguments path a reply is
+inspects_quiet sees frame_of variables_of (phase.Running a how) asked arguments path reply is =
+    no_events reply _ is.1 refl
+inspects_quiet sees frame_of variables_of (phase.Configuring a stop_on_entry) asked arguments path reply is =
+    no_events reply _ is.1 refl
+inspects_quiet sees frame_of variables_of phase.NoProgram asked arguments path reply is = no_events reply _ is.1 refl
+
+-- ---- all
+
+pub replies_balanced : {S : Type 0} (known : Known S) (asked : Command) (arguments : Option Data)
+    (stood stands : Standing S) (reply : PlainReply) → Replies known asked arguments stood reply stands
+    → owed stands.phase + ends_told reply.events ≡ owed stood.phase + asks asked stood.phase
+replies_balanced known command.Initialize arguments stood stands reply is =
+    let so = quiet stood stands reply _ stood.phase is.0 refl is.1 refl in omega (arith, so)
+replies_balanced known command.Launch arguments stood stands reply is =
+    let so = loaded known.begins stood.phase arguments stood stands reply refl is in omega (arith, so)
+replies_balanced known command.SetBreakpoints arguments stood stands reply is =
+    let told = ap ends_told is.0 in let owes = ap owed is.1 in omega (arith, told, owes)
+replies_balanced known command.ConfigurationDone arguments stood stands reply is =
+    started known.takes known.sees stood.phase stood stands reply refl is
+replies_balanced known command.Threads arguments stood stands reply is =
+    let so = quiet stood stands reply _ stood.phase is.0 refl is.1 refl in omega (arith, so)
+replies_balanced known (command.Resume how) arguments stood stands reply is =
+    resumes known.takes known.sees stood.phase how stood stands reply refl is
+replies_balanced known command.Pause arguments stood stands reply is =
+    let so = paused stood.phase stood stands reply refl is in omega (arith, so)
+replies_balanced known command.Terminate arguments stood stands reply is =
+    let told = ap (λ (r : PlainReply). ends_told r.events) is.0 in
+    let owes = ap (λ (s : Standing _). owed s.phase) is.1 in
+    let all = ends_of stood.phase in
+    omega (arith, told, owes, all)
+replies_balanced known (command.Inspect asked) arguments stood stands reply is =
+    let none = inspects_quiet known.sees known.frame_of known.variables_of stood.phase asked arguments stood.path reply
+    is.0 in
+    let so = still stood stands reply.events stood.phase none is.1 refl in
+    omega (arith, so)
+replies_balanced known command.Disconnect arguments stood stands reply is =
+    let so = quiet stood stands reply _ stood.phase is.0 refl is.1 refl in omega (arith, so)
+replies_balanced known command.Unsupported arguments stood stands reply is =
+    let so = quiet stood stands reply _ stood.phase is.0 refl is.1 refl in omega (arith, so)

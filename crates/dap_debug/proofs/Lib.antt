@@ -1,0 +1,10 @@
+-- Each run ends once; for `debug_laws`.
+mod Balance
+-- What is shown and set one after another; for `inspecting` and `breakpoints`.
+mod Further
+-- What a conversation keeps of what is seen of a session; for `serve_language_inbox`.
+mod Seeing
+-- Each run of a conversation ends once; for `conversation_laws`.
+mod Sums
+-- Decimal texts, and texts with expressions in braces; for `breakpoints`.
+mod Texts

@@ -1,0 +1,212 @@
+-- What a session promises of what is seen of it, its conversation keeps of what is seen.
+use Rattle.std.proofs.Common.{◌≡◌, ℕ, Bool, true, List, [], ◌∷◌, ap, subst, Option, None, Some, inl, inr}
+use Rattle.std.specs.Prelude.{Result, Ok, Err}
+use Rattle.byte_streams.specs.Streams.{StreamLog}
+use Rattle.dap_server.specs.Messages.{PlainEvent, PlainReply}
+use Rattle.dap_server.specs.Requests.{Request}
+use Rattle.dap_server.specs.Conversation.{State, state, Replies, Handles, Conversation}
+use Rattle.dap_server.specs.Inbox.{PlainItem, Bytes, Unasked, End, Failed, NoMemory, Gives, TakesOne}
+use Rattle.dap_server.specs.Serving.{FailsAt, FailsInFront, IsDone, BreaksWithin}
+use Rattle.dap_server.specs.ServingInbox.{ServingEndsBy, EndsWithin, EndsAt}
+use Rattle.dap_server.specs.Working.{Works, Polls, Course, begins, takes, works_on, EndsInWork, WorkerEnds, ServedWorker}
+use Rattle.dap_debug.specs.Replies.{Known}
+use Rattle.dap_debug.specs.Serving.{replied_by, worked_by, runs_in, Debugged}
+use Rattle.dap_debug.specs.Standings.{Standing, unused}
+use Rattle.dap_server.specs.declared.ending.Ending.{Ending}
+use Rattle.dap_server.specs.declared.ending.Ending.TheVariants as ending
+use Rattle.dap_server.specs.declared.ending.ServeFault.{ServeFault}
+use Rattle.dap_server.specs.declared.ending.ServeFault.TheVariants as fault
+
+-- what is promised of what is seen
+abbrev pub seen_replies : {S T : Type 0} → (S → T) → Replies T → Replies S
+seen_replies see replies = λ a command arguments reply b. replies (see a) command arguments reply (see b)
+
+abbrev pub seen_works : {S T : Type 0} → (S → T) → Works T → Works S
+seen_works see works = λ a events b. works (see a) events (see b)
+
+abbrev seen : {S T : Type 0} → (S → T) → State S → State T
+seen see a = state (see a.adapter) a.next a.present
+
+handled : {S T : Type 0} (see : S → T) (replies : Replies T) (a b : State S) (request : Option Request)
+    (texts : List (List ℕ)) → Handles (seen_replies see replies) a request texts b
+    → Handles replies (seen see a) request texts (seen see b)
+handled see replies a b None texts is = (is.0, ap (seen see) is.1)
+handled see replies a b (Some request) texts is = record {
+  reply = is.reply;
+  replied = is.replied;
+  texts_are = is.texts_are;
+  numbered = is.numbered;
+  left = is.left;
+}
+
+talked : {S T : Type 0} (see : S → T) (replies : Replies T) (a b : State S) (contents texts : List (List ℕ))
+    → Conversation (seen_replies see replies) a contents texts b
+    → Conversation replies (seen see a) contents texts (seen see b)
+talked see replies a b [] texts is = (is.0, ap (seen see) is.1)
+talked see replies a b (content ∷ contents) texts is = (
+  is.0,
+  (
+    seen see is.1.0,
+    is.1.1,
+    is.1.2,
+    (is.1.3.0, is.1.3.1, handled see replies a is.1.0 is.1.3.0 is.1.1 is.1.3.2),
+    talked see replies is.1.0 b contents is.1.2 is.1.4,
+    is.1.5,
+  ),
+)
+
+took : {S T : Type 0} (see : S → T) (replies : Replies T) (a b : State S) (rest later : List ℕ) (item : PlainItem)
+    (texts : List (List ℕ)) → TakesOne (seen_replies see replies) a rest item texts b later
+    → TakesOne replies (seen see a) rest item texts (seen see b) later
+took see replies a b rest later (Bytes bytes) texts is = (is.0, is.1, talked see replies a b is.0 texts is.2)
+took see replies a b rest later (Unasked event) texts is = (is.0, ap (seen see) is.1, is.2)
+took see replies a b rest later End texts is = absurd is
+took see replies a b rest later Failed texts is = absurd is
+took see replies a b rest later NoMemory texts is = absurd is
+
+coursed : {S T I : Type 0} (see : S → T) (replies : Replies T) (works : Works T) (busy : T → Bool) (gives : Gives I)
+    (polls : Polls I) (a : State S) (inbox : I) (b : State S) (rest : List ℕ) (left : I) (texts : List (List ℕ))
+    → Course (seen_replies see replies) (seen_works see works) (λ s. busy (see s)) gives polls a inbox b rest left texts
+    → Course replies works busy gives polls (seen see a) inbox (seen see b) rest left texts
+coursed see replies works busy gives polls a inbox b rest left texts begins = begins
+coursed see replies works busy gives polls a inbox b rest left texts
+    (takes m n before after j k item first later course there is_open comes taken) =
+    takes (seen see m) (seen see n) before after j k item first later
+    (coursed see replies works busy gives polls a inbox m before j first course) there is_open comes
+    (took see replies m n before after item later taken)
+coursed see replies works busy gives polls a inbox b rest left texts
+    (works_on m adapter before j k events first later course there is_open busy_is none worked told) =
+    works_on (seen see m) (see adapter) before j k events first later
+    (coursed see replies works busy gives polls a inbox m before j first course) there is_open busy_is none worked told
+
+-- ---- ends
+
+done : {S T : Type 0} (see : S → T) (b : State S) (adapter : S) (written later : StreamLog)
+    → IsDone b adapter written later → IsDone (seen see b) (see adapter) written later
+done see b adapter written later is = (ap see is.0, is.1)
+
+failed_at : {S T : Type 0} (see : S → T) (f : ServeFault) (replies : Replies T) (b : State S)
+    (request : Option Request) (adapter : S) (written later : StreamLog)
+    → FailsAt f (seen_replies see replies) b request adapter written later
+    → FailsAt f replies (seen see b) request (see adapter) written later
+failed_at see fault.Output replies b request adapter written later is = (
+  seen see is.0,
+  record {
+    texts = is.1.texts;
+    handles = handled see replies b is.0 request is.1.texts is.1.handles;
+    written = is.1.written;
+  },
+  ap see is.2,
+)
+failed_at see fault.NoSeq replies b None adapter written later is = absurd is.0
+failed_at see fault.NoSeq replies b (Some request) adapter written later is = is
+failed_at see fault.NoMemory replies b None adapter written later is = (ap see is.0, is.1)
+failed_at see fault.NoMemory replies b (Some request) adapter written later is = is
+failed_at see fault.Input replies b request adapter written later is = absurd is
+failed_at see (fault.Framing f) replies b request adapter written later is = absurd is
+
+failed_in_front : {S T : Type 0} (see : S → T) (f : ServeFault) (replies : Replies T) (b : State S) (rest : List ℕ)
+    (adapter : S) (written later : StreamLog)
+    → FailsInFront f (seen_replies see replies) b rest adapter written later
+    → FailsInFront f replies (seen see b) rest (see adapter) written later
+failed_in_front see f replies b rest adapter written later is =
+    (is.0, is.1, is.2, (is.3.0, is.3.1, failed_at see f replies b is.3.0 adapter written later is.3.2))
+
+broke : {S T : Type 0} (see : S → T) (f : ServeFault) (replies : Replies T) (b : State S) (rest : List ℕ) (adapter : S)
+    (written later : StreamLog) → BreaksWithin f (seen_replies see replies) b rest adapter written later
+    → BreaksWithin f replies (seen see b) rest (see adapter) written later
+broke see (fault.Framing f) replies b rest adapter written later is =
+    (done see b adapter written later is.0, is.1)
+broke see fault.Input replies b rest adapter written later is =
+    failed_in_front see fault.Input replies b rest adapter written later is
+broke see fault.Output replies b rest adapter written later is =
+    failed_in_front see fault.Output replies b rest adapter written later is
+broke see fault.NoMemory replies b rest adapter written later is =
+    failed_in_front see fault.NoMemory replies b rest adapter written later is
+broke see fault.NoSeq replies b rest adapter written later is =
+    failed_in_front see fault.NoSeq replies b rest adapter written later is
+
+ended_within : {S T : Type 0} (see : S → T) (result : Result Ending ServeFault) (replies : Replies T) (b : State S)
+    (rest : List ℕ) (adapter : S) (written later : StreamLog)
+    → EndsWithin result (seen_replies see replies) b rest adapter written later
+    → EndsWithin result replies (seen see b) rest (see adapter) written later
+ended_within see (Ok ending.Left) replies b rest adapter written later is =
+    (done see b adapter written later is.0, is.1)
+ended_within see (Ok ending.InputEnded) replies b rest adapter written later is = absurd is
+ended_within see (Err f) replies b rest adapter written later is =
+    (is.0, broke see f replies b rest adapter written later is.1)
+
+ended_by : {S T : Type 0} (see : S → T) (item : PlainItem) (result : Result Ending ServeFault) (b : State S)
+    (adapter : S) (written later : StreamLog) → ServingEndsBy item result b adapter written later
+    → ServingEndsBy item result (seen see b) (see adapter) written later
+ended_by see (Bytes bytes) result b adapter written later is =
+    (is.0, is.1, done see b adapter written later is.2)
+ended_by see (Unasked event) result b adapter written later is = (is.0, is.1, ap see is.2, is.3)
+ended_by see End result b adapter written later is = (is.0, done see b adapter written later is.1)
+ended_by see Failed result b adapter written later is = (is.0, done see b adapter written later is.1)
+ended_by see NoMemory result b adapter written later is = (is.0, done see b adapter written later is.1)
+
+ended_at : {S T I : Type 0} (see : S → T) (last : Option PlainItem) (gives : Gives I) (inbox left : I)
+    (result : Result Ending ServeFault) (replies : Replies T) (b : State S) (rest : List ℕ) (adapter : S)
+    (written later : StreamLog)
+    → EndsAt last gives inbox left result (seen_replies see replies) b rest adapter written later
+    → EndsAt last gives inbox left result replies (seen see b) rest (see adapter) written later
+ended_at see None gives inbox left result replies b rest adapter written later is =
+    (is.0, ended_within see result replies b rest adapter written later is.1)
+ended_at see (Some item) gives inbox left result replies b rest adapter written later is =
+    (is.0, is.1, is.2, ended_by see item result b adapter written later is.3)
+
+ended_in_work : {S T : Type 0} (see : S → T) (f : ServeFault) (works : Works T) (b : State S) (adapter : S)
+    (written later : StreamLog) → EndsInWork f (seen_works see works) b adapter written later
+    → EndsInWork f works (seen see b) (see adapter) written later
+ended_in_work see f works b adapter written later (inl is) = inl is
+ended_in_work see f works b adapter written later (inr is) = inr is
+
+ended : {S T I : Type 0} (see : S → T) (works : Works T) (busy : T → Bool) (gives : Gives I) (polls : Polls I)
+    (taken left : I) (result : Result Ending ServeFault) (replies : Replies T) (b : State S) (rest : List ℕ)
+    (adapter : S) (written later : StreamLog)
+    → WorkerEnds (seen_works see works) (λ s. busy (see s)) gives polls taken left result (seen_replies see replies) b
+    rest adapter written later
+    → WorkerEnds works busy gives polls taken left result replies (seen see b) rest (see adapter) written later
+ended see works busy gives polls taken left result replies b rest adapter written later (inl is) =
+    inl (is.0, ended_at see is.0 _ taken left result replies b rest adapter written later is.1)
+ended see works busy gives polls taken left result replies b rest adapter written later (inr is) =
+    inr (is.0, is.1, is.2, is.3, is.4, is.5, ended_in_work see is.0 works b adapter written later is.6)
+
+pub served : {S T I : Type 0} (see : S → T) (replies : Replies T) (works : Works T) (busy : T → Bool) (gives : Gives I)
+    (polls : Polls I) (before after : S) (inbox left : I) (written later : StreamLog)
+    (result : Result Ending ServeFault)
+    → ServedWorker (seen_replies see replies) (seen_works see works) (λ s. busy (see s)) gives polls before after inbox
+    left written later result
+    → ServedWorker replies works busy gives polls (see before) (see after) inbox left written later result
+served see replies works busy gives polls before after inbox left written later result is = record {
+  reached = seen see is.reached;
+  rest = is.rest;
+  answers = is.answers;
+  taken = is.taken;
+  working = record {
+    texts = is.working.texts;
+    course =
+        coursed see replies works busy gives polls (state before 1 true) inbox is.reached is.rest is.taken
+        is.working.texts is.working.course;
+    written = is.working.written;
+  };
+  ends =
+      ended see works busy gives polls is.taken left result replies is.reached is.rest after is.answers later is.ends;
+}
+
+-- the same of a session, from one without a program on
+pub debugged : {S T I : Type 0} (see : S → Standing T) (known : Known T) (gives : Gives I) (polls : Polls I)
+    (before after : S) (inbox left : I) (written later : StreamLog) (result : Result Ending ServeFault)
+    → see before ≡ unused
+    → ServedWorker (seen_replies see (replied_by known)) (seen_works see (worked_by known)) (λ s. runs_in (see s)) gives
+    polls before after inbox left written later result
+    → Debugged known gives polls inbox left written later result
+debugged see known gives polls before after inbox left written later result first is = record {
+  last = see after;
+  served =
+      subst (λ stood. ServedWorker (replied_by known) (worked_by known) runs_in gives polls stood (see after) inbox left
+      written later result) first
+      (served see (replied_by known) (worked_by known) runs_in gives polls before after inbox left written later result
+      is);
+}

@@ -1,0 +1,80 @@
+-- Each run of a conversation ends once: the sum of what its turns owe.
+use Rattle.std.proofs.Common.{◌≡◌, ◌+◌, ℕ, Bool, true, false, List, [], ◌∷◌, ◌∙◌, refl, sym, ap, subst, arith, Option, None, Some}
+use Rattle.std.specs.Prelude.{codes, if◌then◌else◌}
+use Rattle.std.proofs.lemmas.Slice.Eq.{bytes_eq-Decides}
+use Rattle.serde_json.specs.Data.{Data}
+use Rattle.dap_server.specs.Messages.{PlainEvent, PlainReply, events_after, leaves}
+use Rattle.dap_server.specs.Requests.{Request}
+use Rattle.dap_server.specs.Conversation.{State, Handles, Conversation}
+use Rattle.dap_server.specs.Inbox.{PlainItem, Bytes, Unasked, End, Failed, NoMemory, Gives, TakesOne}
+use Rattle.dap_server.specs.Working.{Polls, Course, begins, takes, works_on}
+use Rattle.dap_debug.specs.declared.command.Command.TheVariants as command
+use Rattle.dap_debug.specs.Commands.{command_of}
+use Rattle.dap_debug.specs.Laws.{asks, ends_told, owed}
+use Rattle.dap_debug.specs.Replies.{Known, Replies}
+use Rattle.dap_debug.specs.Serving.{replied_by, worked_by, runs_in}
+use Rattle.dap_debug.specs.Standings.{Standing}
+use Rattle.dap_debug.specs.Sums.{asked_by, asked_in, asked_at, asked, told_by, told_in, told_at, told}
+use Rattle.dap_debug.proofs.Balance.{work_balanced, replies_balanced}
+
+-- no event of a session comes with the answer to `disconnect`
+sent_alike : {S : Type 0} (known : Known S) (name : List ℕ) (arguments : Option Data) (stood stands : Standing S)
+    (reply : PlainReply) (b : Bool) → leaves name ≡ b → Replies known (command_of name) arguments stood reply stands
+    → ends_told (events_after name reply.events) ≡ ends_told reply.events
+sent_alike known name arguments stood stands reply false stays is =
+    ap (λ c. ends_told (if c then [] else reply.events)) stays
+sent_alike known name arguments stood stands reply true left is =
+    let same : name ≡ codes "disconnect" = (bytes_eq-Decides name (codes "disconnect")).0 left in
+    let quiet = subst (λ n. Replies known (command_of n) arguments stood reply stands) same is in
+    ap (λ c. ends_told (if c then [] else reply.events)) left
+    ∙ sym (ap (λ (r : PlainReply). ends_told r.events) quiet.0)
+
+still : {S : Type 0} (a b : State (Standing S)) → b ≡ a → owed b.adapter.phase ≡ owed a.adapter.phase
+still a b is = ap (λ (s : State (Standing _)). owed s.adapter.phase) is
+
+answered : {S : Type 0} (known : Known S) (a b : State (Standing S)) (request : Option Request)
+    (texts : List (List ℕ)) (is : Handles (replied_by known) a request texts b)
+    → owed b.adapter.phase + told_by known a b request texts is ≡ owed a.adapter.phase + asked_by a request
+answered known a b None texts is = let same = still a b is.1 in omega (arith, same)
+answered known a b (Some request) texts is =
+    let sum = replies_balanced known (command_of request.command) request.arguments a.adapter b.adapter is.reply
+    is.replied in
+    let sent = sent_alike known request.command request.arguments a.adapter b.adapter is.reply _ refl is.replied in
+    omega (arith, sum, sent)
+
+talked : {S : Type 0} (known : Known S) (a b : State (Standing S)) (contents texts : List (List ℕ))
+    (is : Conversation (replied_by known) a contents texts b)
+    → owed b.adapter.phase + told_in known a b contents texts is
+    ≡ owed a.adapter.phase + asked_in known a b contents texts is
+talked known a b [] texts is = let same = still a b is.1 in omega (arith, same)
+talked known a b (content ∷ contents) texts is =
+    let first = answered known a is.1.0 is.1.3.0 is.1.1 is.1.3.2 in
+    let later = talked known is.1.0 b contents is.1.2 is.1.4 in
+    omega (arith, first, later)
+
+took : {S : Type 0} (known : Known S) (a b : State (Standing S)) (rest later : List ℕ) (item : PlainItem)
+    (texts : List (List ℕ)) (is : TakesOne (replied_by known) a rest item texts b later)
+    → owed b.adapter.phase + told_at known a b rest later item texts is
+    ≡ owed a.adapter.phase + asked_at known a b rest later item texts is
+took known a b rest later (Bytes bytes) texts is = talked known a b is.0 texts is.2
+took known a b rest later (Unasked event) texts is = let same = still _ b is.1 in omega (arith, same)
+took known a b rest later End texts is = absurd is
+took known a b rest later Failed texts is = absurd is
+took known a b rest later NoMemory texts is = absurd is
+
+pub each_ends_once : {S I : Type 0} (known : Known S) (gives : Gives I) (polls : Polls I) (a : State (Standing S))
+    (inbox : I) (b : State (Standing S)) (rest : List ℕ) (left : I) (texts : List (List ℕ))
+    (course : Course (replied_by known) (worked_by known) runs_in gives polls a inbox b rest left texts)
+    → owed b.adapter.phase + told known gives polls a inbox b rest left texts course
+    ≡ owed a.adapter.phase + asked known gives polls a inbox b rest left texts course
+each_ends_once known gives polls a inbox b rest left texts begins = refl
+each_ends_once known gives polls a inbox b rest left texts
+    (takes m n before after j k item first later course there is_open comes taken) =
+    let earlier = each_ends_once known gives polls a inbox m before j first course in
+    let more = took known m n before after item later taken in
+    omega (arith, earlier, more)
+each_ends_once known gives polls a inbox b rest left texts
+    (works_on m adapter before j k events first later course there is_open busy none worked are) =
+    let earlier = each_ends_once known gives polls a inbox m before j first course in
+    let more = work_balanced known.takes known.sees m.adapter adapter events worked in
+    omega (arith, earlier, more)

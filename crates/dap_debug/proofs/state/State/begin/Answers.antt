@@ -1,0 +1,13 @@
+use Rattle.std.proofs.Common.{refl}
+use Rattle.dap_debug.proofs.state.State.begin.Goals as goal
+
+pub returns : goal.returns
+returns g c = record {
+  there = _;
+  more = _;
+  goes = c.in_ok-more.ensures;
+  first = _;
+  arrives = c.in_ok-ran.ensures;
+  path_is = refl;
+  events_are = c.in_ok-events.ensures;
+}

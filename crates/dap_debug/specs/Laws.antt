@@ -1,0 +1,49 @@
+-- States what holds of each session: each run ends once.
+use Rattle.std.specs.Prelude.{◌≡◌, ◌+◌, ◌||◌, ℕ, Bool, List, [], ◌∷◌, codes, Option, if◌then◌else◌}
+use Rattle.std.specs.Str.{bytes_eq}
+use Rattle.serde_json.specs.Data.{Data}
+use Rattle.dap_server.specs.Messages.{PlainEvent, PlainReply}
+use Rattle.debuggee.specs.Due.{Sight}
+use Rattle.debuggee.specs.Runs.{Meaning}
+use Rattle.dap_debug.specs.declared.command.Command.{Command}
+use Rattle.dap_debug.specs.declared.command.Command.TheVariants as command
+use Rattle.dap_debug.specs.declared.state.Phase.{Phase}
+use Rattle.dap_debug.specs.declared.state.Phase.TheVariants as phase
+use Rattle.dap_debug.specs.Replies.{Known, Replies}
+use Rattle.dap_debug.specs.Running.{WorksOn}
+use Rattle.dap_debug.specs.Standings.{Standing}
+
+-- the event tells that the program has stopped, or that it is gone
+abbrev pub is_end : PlainEvent → Bool
+is_end event = bytes_eq event.name (codes "stopped") || bytes_eq event.name (codes "terminated")
+
+-- how many of the events do
+abbrev pub ends_told : List PlainEvent → ℕ
+ends_told [] = 0
+ends_told (event ∷ events) = (if is_end event then 1 else 0) + ends_told events
+
+-- how many ends are still to be told: one while the program runs
+abbrev pub owed : {S : Type 0} → Phase S → ℕ
+owed (phase.Running program how) = 1
+owed _ = 0
+
+-- how many ends a request asks for: one where a program is started, goes on, or is ended that doesn't run
+abbrev pub asks : {S : Type 0} → Command → Phase S → ℕ
+asks command.ConfigurationDone (phase.Configuring program stop_on_entry) = 1
+asks (command.Resume how) (phase.Stopped program) = 1
+asks command.Terminate (phase.Configuring program stop_on_entry) = 1
+asks command.Terminate (phase.Stopped program) = 1
+asks _ _ = 0
+
+-- what is told of work, and what is owed after it, is what was owed
+abbrev pub WorkIsBalanced : {S : Type 0} → Meaning S → Sight S → Type 0
+WorkIsBalanced {S} takes sees =
+    (stood stands : Standing S) (events : List PlainEvent) → WorksOn takes sees stood events stands
+    → owed stands.phase + ends_told events ≡ owed stood.phase
+
+-- and with a reply it is what was owed and what the request asks for
+abbrev pub RepliesAreBalanced : {S : Type 0} → Known S → Type 0
+RepliesAreBalanced {S} known =
+    (asked : Command) (arguments : Option Data) (stood stands : Standing S) (reply : PlainReply)
+    → Replies known asked arguments stood reply stands
+    → owed stands.phase + ends_told reply.events ≡ owed stood.phase + asks asked stood.phase

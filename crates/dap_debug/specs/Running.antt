@@ -1,0 +1,136 @@
+-- Defines how a program is started, goes on, is paused and ended, by the steps that its language takes.
+use Rattle.std.specs.Prelude.{◌≡◌, ℕ, Bool, true, false, List, [], ◌∷◌, ◌++◌, codes, Option, None, Some, Result, Ok, Err}
+use Rattle.serde_json.specs.Data.{Data, boolean, object, no_members, member}
+use Rattle.dap_server.specs.Messages.{PlainEvent, PlainReply}
+use Rattle.debuggee.specs.Plain.{PlainBreakpoint, PlainHalt, AtEnd, PlainOutput}
+use Rattle.debuggee.specs.Due.{Sight}
+use Rattle.debuggee.specs.Runs.{Meaning, Runs, Arrives}
+use Rattle.debuggee.specs.declared.mode.Mode.{Mode}
+use Rattle.debuggee.specs.declared.mode.Mode.TheVariants as mode
+use Rattle.dap_debug.specs.declared.command.Resume.{Resume}
+use Rattle.dap_debug.specs.declared.command.Resume.TheVariants as resume
+use Rattle.dap_debug.specs.declared.state.Phase.{Phase}
+use Rattle.dap_debug.specs.declared.state.Phase.TheVariants as phase
+use Rattle.dap_debug.specs.Standings.{Standing}
+use Rattle.dap_debug.specs.Telling.{stopped, exited, terminated, told_of}
+
+-- In what follows `stood` says how the session stood before, and `stands` how it does after.
+
+-- the same session, whose program has come so far
+abbrev pub with_phase : {S : Type 0} → Standing S → Phase S → Standing S
+with_phase stood now = record stood { phase = now }
+
+-- ---- the program's work
+
+-- how far a program has come after a run that halted, or that goes on
+abbrev pub phase_after : {S : Type 0} → Option PlainHalt → S → Mode → Phase S
+phase_after None program how = phase.Running program how
+phase_after (Some (AtEnd status)) program how = phase.NoProgram
+phase_after (Some _) program how = phase.Stopped program
+
+-- A slice of a run: it goes by the language's own steps to the first state in which the program is due, to its end or
+-- into its fault, or halts at none of these; and the events are all that is told of it.
+abbrev pub Slice : {S : Type 0} → Meaning S → Sight S → S → Mode → List PlainBreakpoint → List PlainEvent → Phase S
+    → List PlainBreakpoint → Type 0
+Slice {S} takes sees program how old events now new =
+    (halt : Option PlainHalt) × (there : S) × (told : List PlainOutput)
+    × Runs takes sees how program old halt there new [] told
+    × (events ≡ told_of told halt) × (now ≡ phase_after halt there how)
+
+-- the same of the program of a session
+abbrev pub Goes : {S : Type 0} → Meaning S → Sight S → S → Mode → Standing S → List PlainEvent → Standing S → Type 0
+Goes takes sees program how stood events stands =
+    Slice takes sees program how stood.breakpoints events stands.phase stands.breakpoints × (stands.path ≡ stood.path)
+
+-- the same of a program that runs; another takes no step
+abbrev pub GoesFrom : {S : Type 0} → Meaning S → Sight S → Phase S → Standing S → List PlainEvent → Standing S
+    → Type 0
+GoesFrom takes sees (phase.Running program how) stood events stands = Goes takes sees program how stood events stands
+GoesFrom takes sees _ stood events stands = (events ≡ []) × (stands ≡ stood)
+
+-- the program's work: a slice, where it runs
+abbrev pub WorksOn : {S : Type 0} → Meaning S → Sight S → Standing S → List PlainEvent → Standing S → Type 0
+WorksOn takes sees stood events stands = GoesFrom takes sees stood.phase stood events stands
+
+-- ---- replies
+
+abbrev pub success : Option Data → List PlainEvent → PlainReply
+success body events = record { outcome = Ok body; events = events }
+
+-- a refusal, after which the session stands as before
+abbrev pub IsRefused : {S : Type 0} → Standing S → PlainReply → Standing S → Type 0
+IsRefused stood reply stands =
+    ((message : List ℕ) × (reply ≡ record { outcome = Err message; events = [] })) × (stands ≡ stood)
+
+-- The program arrives where it begins: breakpoints count and speak there, and one may stop it.
+abbrev pub Arrival : {S : Type 0} → Sight S → S → List PlainBreakpoint → List PlainEvent → Phase S
+    → List PlainBreakpoint → Type 0
+Arrival sees program old events now new =
+    (halt : Option PlainHalt) × (told : List PlainOutput) × Arrives sees mode.Continue program old halt new [] told
+    × (events ≡ told_of told halt) × (now ≡ phase_after halt program mode.Continue)
+
+-- Else it goes on, and what is told of its first slice follows.
+pub record Begins {S : Type 0} (takes : Meaning S) (sees : Sight S) (program : S) (old : List PlainBreakpoint)
+    (path : List ℕ) (events : List PlainEvent) (stands : Standing S) : Type 0 where
+  pub there : Standing S
+  pub more : List PlainEvent
+  pub goes : WorksOn takes sees there more stands
+  pub first : List PlainEvent
+  pub arrives : Arrival sees program old first there.phase there.breakpoints
+  pub path_is : there.path ≡ path
+  pub events_are : events ≡ first ++ more
+
+-- A program that waits is started: it stops where it begins, if that was asked for.
+abbrev pub StartsFrom : {S : Type 0} → Meaning S → Sight S → Phase S → Standing S → PlainReply → Standing S → Type 0
+StartsFrom takes sees (phase.Configuring program true) stood reply stands =
+    (reply ≡ success None (stopped (codes "entry") None ∷ [])) × (stands ≡ with_phase stood (phase.Stopped program))
+StartsFrom takes sees (phase.Configuring program false) stood reply stands =
+    (events : List PlainEvent) × Begins takes sees program stood.breakpoints stood.path events stands
+    × (reply ≡ success None events)
+StartsFrom takes sees _ stood reply stands = IsRefused stood reply stands
+
+abbrev pub Starts : {S : Type 0} → Meaning S → Sight S → Standing S → PlainReply → Standing S → Type 0
+Starts takes sees stood reply stands = StartsFrom takes sees stood.phase stood reply stands
+
+-- the mode of a run that begins where so many frames are alive
+abbrev pub mode_of : Resume → ℕ → Mode
+mode_of resume.Continue depth = mode.Continue
+mode_of resume.Next depth = mode.Over depth
+mode_of resume.StepIn depth = mode.In
+mode_of resume.StepOut depth = mode.Out depth
+
+-- the body of the reply to a request that lets the program go on
+abbrev pub resumed : Resume → Option Data
+resumed resume.Continue = Some (object (member (codes "allThreadsContinued") (boolean true) no_members))
+resumed resume.Next = None
+resumed resume.StepIn = None
+resumed resume.StepOut = None
+
+-- a program that is stopped goes on, and what is told of its first slice comes with the reply
+abbrev pub ResumesFrom : {S : Type 0} → Meaning S → Sight S → Phase S → Resume → Standing S → PlainReply → Standing S
+    → Type 0
+ResumesFrom takes sees (phase.Stopped program) how stood reply stands =
+    (reply.outcome ≡ Ok (resumed how))
+    × Goes takes sees program (mode_of how (sees.depth_of program)) stood reply.events stands
+ResumesFrom takes sees _ how stood reply stands = IsRefused stood reply stands
+
+abbrev pub Resumes : {S : Type 0} → Meaning S → Sight S → Resume → Standing S → PlainReply → Standing S → Type 0
+Resumes takes sees how stood reply stands = ResumesFrom takes sees stood.phase how stood reply stands
+
+-- a program that runs is stopped at once
+abbrev pub PausesFrom : {S : Type 0} → Phase S → Standing S → PlainReply → Standing S → Type 0
+PausesFrom (phase.Running program how) stood reply stands =
+    (reply ≡ success None (stopped (codes "pause") None ∷ [])) × (stands ≡ with_phase stood (phase.Stopped program))
+PausesFrom _ stood reply stands = IsRefused stood reply stands
+
+abbrev pub Pauses : {S : Type 0} → Standing S → PlainReply → Standing S → Type 0
+Pauses stood reply stands = PausesFrom stood.phase stood reply stands
+
+-- a program that there is ends
+abbrev pub ended : {S : Type 0} → Phase S → List PlainEvent
+ended phase.NoProgram = []
+ended _ = exited 0 ∷ (terminated ∷ [])
+
+abbrev pub Terminates : {S : Type 0} → Standing S → PlainReply → Standing S → Type 0
+Terminates stood reply stands =
+    (reply ≡ success None (ended stood.phase)) × (stands ≡ with_phase stood phase.NoProgram)

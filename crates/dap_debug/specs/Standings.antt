@@ -1,0 +1,28 @@
+-- Defines how a session stands.
+use Rattle.std.specs.Prelude.{ℕ, Bool, true, false, List, [], map, string_bytes}
+use Rattle.debuggee.specs.Plain.{PlainBreakpoint, plain_breakpoint}
+use Rattle.dap_debug.specs.declared.state.Phase.{Phase}
+use Rattle.dap_debug.specs.declared.state.Phase.TheVariants as phase
+use Rattle.dap_debug.specs.declared.state.State.{State}
+
+-- how a session stands: how far its program has come, the program's path, and the breakpoints that are set
+pub record Standing (S : Type 0) : Type 0 where
+  pub phase : Phase S
+  pub path : List ℕ
+  pub breakpoints : List PlainBreakpoint
+
+abbrev pub standing : {S : Type 0} → State S → Standing S
+standing state = record {
+  phase = state.phase;
+  path = string_bytes state.path;
+  breakpoints = map plain_breakpoint state.breakpoints.items;
+}
+
+-- a session that has just begun
+abbrev pub unused : {S : Type 0} → Standing S
+unused = record { phase = phase.NoProgram; path = []; breakpoints = [] }
+
+-- the program runs
+abbrev pub is_running : {S : Type 0} → Phase S → Bool
+is_running (phase.Running program mode) = true
+is_running _ = false

@@ -1,0 +1,83 @@
+-- States what holds of a whole conversation: each request that lets the program go on, or ends it, is followed by one
+-- event that tells that it has stopped or is gone, and no other event tells that.
+use Rattle.std.specs.Prelude.{◌≡◌, ◌+◌, ℕ, List, [], ◌∷◌, Option, None, Some}
+use Rattle.serde_json.specs.Data.{Data}
+use Rattle.dap_server.specs.Messages.{PlainEvent, PlainReply, events_after}
+use Rattle.dap_server.specs.Requests.{Request}
+use Rattle.dap_server.specs.Conversation.{State, Replies as Promise, Handles, Conversation}
+use Rattle.dap_server.specs.Inbox.{PlainItem, Bytes, Unasked, End, Failed, NoMemory, Gives, TakesOne}
+use Rattle.dap_server.specs.Working.{Works, Polls, Course, begins, takes, works_on}
+use Rattle.dap_debug.specs.Commands.{command_of}
+use Rattle.dap_debug.specs.Laws.{asks, ends_told, owed}
+use Rattle.dap_debug.specs.Replies.{Known}
+use Rattle.dap_debug.specs.Serving.{replied_by, worked_by, runs_in}
+use Rattle.dap_debug.specs.Standings.{Standing}
+
+-- ---- how many ends requests ask for
+
+abbrev pub asked_by : {S : Type 0} → State (Standing S) → Option Request → ℕ
+asked_by a None = 0
+asked_by a (Some request) = asks (command_of request.command) a.adapter.phase
+
+abbrev pub asked_in : {S : Type 0} → (known : Known S) → (a b : State (Standing S)) → (contents texts : List (List ℕ))
+    → Conversation (replied_by known) a contents texts b → ℕ
+asked_in known a b [] texts talk = 0
+asked_in known a b (content ∷ contents) texts talk =
+    asked_by a talk.1.3.0 + asked_in known talk.1.0 b contents talk.1.2 talk.1.4
+
+abbrev pub asked_at : {S : Type 0} → (known : Known S) → (a b : State (Standing S)) → (rest later : List ℕ)
+    → (item : PlainItem) → (texts : List (List ℕ)) → TakesOne (replied_by known) a rest item texts b later → ℕ
+asked_at known a b rest later (Bytes bytes) texts taken = asked_in known a b taken.0 texts taken.2
+asked_at known a b rest later _ texts taken = 0
+
+-- in a whole conversation
+abbrev pub asked : {S I : Type 0} → (known : Known S) → (gives : Gives I) → (polls : Polls I)
+    → (a : State (Standing S)) → (inbox : I) → (b : State (Standing S)) → (rest : List ℕ) → (left : I)
+    → (texts : List (List ℕ))
+    → Course (replied_by known) (worked_by known) runs_in gives polls a inbox b rest left texts → ℕ
+asked known gives polls a inbox b rest left texts begins = 0
+asked known gives polls a inbox b rest left texts
+    (takes m n before after j k item first later course there is_open comes taken) =
+    asked known gives polls a inbox m before j first course + asked_at known m n before after item later taken
+asked known gives polls a inbox b rest left texts
+    (works_on m adapter before j k events first later course there is_open busy none worked are) =
+    asked known gives polls a inbox m before j first course
+
+-- ---- how many ends are told
+
+abbrev pub told_by : {S : Type 0} → (known : Known S) → (a b : State (Standing S)) → (request : Option Request)
+    → (texts : List (List ℕ)) → Handles (replied_by known) a request texts b → ℕ
+told_by known a b None texts handled = 0
+told_by known a b (Some request) texts handled = ends_told (events_after request.command handled.reply.events)
+
+abbrev pub told_in : {S : Type 0} → (known : Known S) → (a b : State (Standing S)) → (contents texts : List (List ℕ))
+    → Conversation (replied_by known) a contents texts b → ℕ
+told_in known a b [] texts talk = 0
+told_in known a b (content ∷ contents) texts talk =
+    told_by known a talk.1.0 talk.1.3.0 talk.1.1 talk.1.3.2 + told_in known talk.1.0 b contents talk.1.2 talk.1.4
+
+abbrev pub told_at : {S : Type 0} → (known : Known S) → (a b : State (Standing S)) → (rest later : List ℕ)
+    → (item : PlainItem) → (texts : List (List ℕ)) → TakesOne (replied_by known) a rest item texts b later → ℕ
+told_at known a b rest later (Bytes bytes) texts taken = told_in known a b taken.0 texts taken.2
+told_at known a b rest later _ texts taken = 0
+
+-- in a whole conversation, by the session: what an inbox adds isn't counted
+abbrev pub told : {S I : Type 0} → (known : Known S) → (gives : Gives I) → (polls : Polls I)
+    → (a : State (Standing S)) → (inbox : I) → (b : State (Standing S)) → (rest : List ℕ) → (left : I)
+    → (texts : List (List ℕ))
+    → Course (replied_by known) (worked_by known) runs_in gives polls a inbox b rest left texts → ℕ
+told known gives polls a inbox b rest left texts begins = 0
+told known gives polls a inbox b rest left texts
+    (takes m n before after j k item first later course there is_open comes taken) =
+    told known gives polls a inbox m before j first course + told_at known m n before after item later taken
+told known gives polls a inbox b rest left texts
+    (works_on m adapter before j k events first later course there is_open busy none worked are) =
+    told known gives polls a inbox m before j first course + ends_told events
+
+-- What was told, and what is owed at the end, is what requests asked for, and what was owed at first.
+abbrev pub EachEndsOnce : {S I : Type 0} → Known S → Gives I → Polls I → Type 0
+EachEndsOnce {S} {I} known gives polls =
+    (a b : State (Standing S)) (inbox left : I) (rest : List ℕ) (texts : List (List ℕ))
+    (course : Course (replied_by known) (worked_by known) runs_in gives polls a inbox b rest left texts)
+    → owed b.adapter.phase + told known gives polls a inbox b rest left texts course
+    ≡ owed a.adapter.phase + asked known gives polls a inbox b rest left texts course

@@ -1,0 +1,51 @@
+//! Members of arguments.
+
+ghost use Rattle.std.specs.Prelude.{◌≡◌, option_map, unwrap_or};
+ghost use Rattle.serde_json.specs.View.{view, items_view};
+ghost use Rattle.dap_debug.specs.Arguments.{list_at, member_at, text_at, truth_at, whole_at};
+
+use serde_json::Value;
+
+/// Returns a member.
+pub fn member<'v>(arguments: Option<&'v Value>, key: &str) -> Option<&'v Value>
+    ensures { option_map (λ v. view v.now) result ≡ member_at key.now (option_map (λ v. view v.now) arguments.entry) }
+{
+    arguments?.get(key)
+}
+
+/// Returns a text.
+pub fn text<'v>(arguments: Option<&'v Value>, key: &str) -> Option<&'v str>
+    ensures { option_map (λ s. s.now) result ≡ text_at key.now (option_map (λ v. view v.now) arguments.entry) }
+{
+    arguments?.get(key)?.as_str()
+}
+
+/// Returns a whole number.
+pub fn whole(arguments: Option<&Value>, key: &str) -> Option<u64>
+    ensures { result ≡ whole_at key.now (option_map (λ v. view v.now) arguments.entry) }
+{
+    arguments?.get(key)?.as_u64()
+}
+
+/// Returns a truth value; `false` where there is none.
+pub fn truth(arguments: Option<&Value>, key: &str) -> bool
+    ensures { result ≡ truth_at key.now (option_map (λ v. view v.now) arguments.entry) }
+{
+    match arguments {
+        Some(arguments) => arguments.get(key).and_then(Value::as_bool).unwrap_or(false),
+        None => false,
+    }
+}
+
+/// Returns a list; an empty one where there is none.
+pub fn list<'v>(arguments: Option<&'v Value>, key: &str) -> &'v [Value]
+    ensures { items_view result.now ≡ list_at key.now (option_map (λ v. view v.now) arguments.entry) }
+{
+    let Some(arguments) = arguments else {
+        return &[];
+    };
+    match arguments.get(key).and_then(Value::as_array) {
+        Some(items) => items.as_slice(),
+        None => &[],
+    }
+}

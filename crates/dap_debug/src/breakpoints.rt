@@ -1,0 +1,278 @@
+//! Setting breakpoints.
+
+ghost use Rattle.std.specs.Prelude.{◌≡◌, ◌++◌, ◌∷◌, [], codes, decimal, None, Some, IfNone, IfOk, IfSome, OnOk, map, option_map, string_bytes};
+ghost use Rattle.std.specs.Bool.{Decides};
+ghost use Rattle.std.specs.Option.{option_to_list};
+ghost use Rattle.serde_json.specs.View.{items_view, view};
+ghost use Rattle.dap_server.specs.Messages.{plain_reply};
+ghost use Rattle.debuggee.specs.Plain.{Text, Expression, plain_breakpoint, plain_part};
+ghost use Rattle.dap_debug.specs.Arguments.{list_at};
+ghost use Rattle.dap_debug.specs.Standings.{standing};
+ghost use Rattle.dap_debug.specs.Breakpoints.{AreParts, AreUnset, HasExpression, IsMessage, IsUnclosed, IsRule, Sets, answer_unset, answers_reply, line_of, source_asked, text_of, unless_empty};
+
+use crate::arguments::{list, member, text, whole};
+use crate::language::Language;
+use crate::state::{Phase, State};
+use dap_server::Reply;
+use debuggee::{Breakpoint, Part, Rule};
+use serde_json::{Value, json};
+use std::alloc::{AllocError, Global};
+
+/// A breakpoint, if it is set, and what is answered.
+#[derive(Drop)]
+pub struct Answered {
+    pub breakpoint: Option<Breakpoint>,
+    pub answer: Value,
+}
+
+/// Breakpoints that are set, and what is answered.
+#[derive(Drop)]
+pub struct AllAnswered {
+    pub breakpoints: Vec<Breakpoint>,
+    pub answers: Vec<Value>,
+}
+
+impl<L: Language> State<L> {
+    /// Sets the breakpoints of the program, also while it runs: from its next step on they count.
+    pub fn set_breakpoints(
+        &mut self,
+        alloc: Global,
+        arguments: Option<&Value>,
+    ) -> Result<Reply, AllocError>
+        ensures { IfOk result (λ reply. Sets (standing self.old) (plain_reply reply) (standing self.new)) }
+    {
+        let program = match &self.phase {
+            Phase::NoProgram => return Reply::refused(alloc, "no program is loaded"),
+            Phase::Configuring(program, _) | Phase::Running(program, _) | Phase::Stopped(program) =>
+                program,
+        };
+        let asked = list(arguments, "breakpoints");
+        if !is_source(arguments, self.path.as_str()) {
+            let answers = refuse_all(alloc, asked)?;
+            return reply_with(alloc, answers);
+        }
+        let set = set_all(alloc, program, asked)?;
+        self.breakpoints = set.breakpoints;
+        reply_with(alloc, set.answers)
+    }
+}
+
+/// Whether breakpoints of the source at this path are asked for.
+fn is_source(arguments: Option<&Value>, path: &str) -> bool
+    ensures { Decides result (source_asked (option_map (λ v. view v.now) arguments.entry) ≡ Some path.now) }
+{
+    match text(member(arguments, "source"), "path") {
+        Some(asked) => asked == path,
+        None => false,
+    }
+}
+
+/// Returns the reply that gives these answers.
+fn reply_with(alloc: Global, answers: Vec<Value>) -> Result<Reply, AllocError>
+    ensures { IfOk result (λ reply. plain_reply reply ≡ answers_reply (items_view answers.items)) }
+{
+    let answers = Value::Array(answers);
+    let body = json!(in alloc; {"breakpoints": answers})?;
+    Ok(Reply::with_body(alloc, body))
+}
+
+/// Answers that none of these breakpoints is set.
+fn refuse_all(alloc: Global, asked: &[Value]) -> Result<Vec<Value>, AllocError>
+    ensures { IfOk result (λ answers. AreUnset (items_view asked.now) (items_view answers.items)) }
+{
+    let mut answers = Vec::new(alloc);
+    for one in asked {
+        let _ = one;
+        answers.push(unset(alloc, "this isn't the program's source")?)?;
+    }
+    Ok(answers)
+}
+
+/// Sets breakpoints.
+fn set_all<L: Language>(
+    alloc: Global,
+    program: &L,
+    asked: &[Value],
+) -> Result<AllAnswered, AllocError> {
+    let mut breakpoints = Vec::new(alloc);
+    let mut answers = Vec::new(alloc);
+    for one in asked {
+        let Answered { breakpoint, answer } = set_one(alloc, program, one)?;
+        keep(&mut breakpoints, breakpoint)?;
+        answers.push(answer)?;
+    }
+    Ok(AllAnswered {
+        breakpoints,
+        answers,
+    })
+}
+
+/// Adds a breakpoint, if there is one.
+fn keep(breakpoints: &mut Vec<Breakpoint>, breakpoint: Option<Breakpoint>) -> Result<(), AllocError>
+    ensures { OnOk result (map plain_breakpoint breakpoints.new.items ≡
+        map plain_breakpoint breakpoints.old.items ++ map plain_breakpoint (option_to_list breakpoint)) }
+{
+    match breakpoint {
+        Some(breakpoint) => breakpoints.push(breakpoint)?,
+        None => {}
+    }
+    Ok(())
+}
+
+/// Sets a breakpoint.
+fn set_one<L: Language>(alloc: Global, program: &L, asked: &Value) -> Result<Answered, AllocError> {
+    let Some(location) = program.place_for(line_of(asked)) else {
+        return refuse(alloc, "no place is at this line or after it");
+    };
+    let Some(rule) = rule_of(text_of(asked, "hitCondition")) else {
+        return refuse(alloc, "a hit condition is N, =N or %N");
+    };
+    let breakpoint = Breakpoint {
+        place: location.place,
+        condition: unless_empty(alloc, text_of(asked, "condition"))?,
+        rule,
+        arrivals: 0,
+        message: message_of(alloc, text_of(asked, "logMessage"))?,
+    };
+    let line = location.line;
+    Ok(Answered {
+        breakpoint: Some(breakpoint),
+        answer: json!(in alloc; {"line": line, "verified": true})?,
+    })
+}
+
+/// Answers that a breakpoint isn't set, and why.
+fn refuse(alloc: Global, why: &str) -> Result<Answered, AllocError>
+    ensures { IfOk result (λ set. (set.breakpoint ≡ None) × (view set.answer ≡ answer_unset why.now)) }
+{
+    Ok(Answered {
+        breakpoint: None,
+        answer: unset(alloc, why)?,
+    })
+}
+
+/// Returns the answer that a breakpoint isn't set, and why.
+fn unset(alloc: Global, why: &str) -> Result<Value, AllocError>
+    ensures { IfOk result (λ answer. view answer ≡ answer_unset why.now) }
+{
+    json!(in alloc; {"message": why, "verified": false})
+}
+
+/// Returns the line that a breakpoint is asked for; 0 where there is none.
+fn line_of(asked: &Value) -> u64
+    ensures { result ≡ line_of (view asked.now) }
+{
+    whole(Some(asked), "line").unwrap_or(0)
+}
+
+/// Returns a text of a breakpoint that is asked for; an absent one is empty.
+fn text_of<'v>(asked: &'v Value, key: &str) -> &'v str
+    ensures { result.now ≡ text_of key.now (view asked.now) }
+{
+    text(Some(asked), key).unwrap_or("")
+}
+
+/// Returns a text that isn't empty.
+fn unless_empty(alloc: Global, text: &str) -> Result<Option<String>, AllocError>
+    ensures { IfOk result (λ kept. option_map string_bytes kept ≡ unless_empty text.now) }
+{
+    if text.is_empty() {
+        Ok(None)
+    } else {
+        Ok(Some(String::from_str(alloc, text)?))
+    }
+}
+
+/// Returns the rule that a hit condition is; `None` where it is none.
+fn rule_of(text: &str) -> Option<Option<Rule>>
+    ensures { IfSome result (IsRule text.now) }
+{
+    if text.is_empty() {
+        return Some(None);
+    }
+    if let Some(divisor) = text.strip_prefix('%') {
+        return Some(Some(Rule::Every(number(divisor)?)));
+    }
+    if let Some(only) = text.strip_prefix('=') {
+        return Some(Some(Rule::Exactly(number(only)?)));
+    }
+    Some(Some(Rule::From(number(text)?)))
+}
+
+/// Returns the number that a text is in decimal, without a sign or a leading zero.
+fn number(text: &str) -> Option<u64>
+    ensures { IfSome result (λ n. text.now ≡ decimal n) }
+{
+    // `parse` takes these too.
+    if text.starts_with('0') || text.starts_with('+') {
+        return None;
+    }
+    match text.parse::<u64>() {
+        Ok(number) => Some(number),
+        Err(_) => None,
+    }
+}
+
+/// Returns the parts of a message, if there is one.
+fn message_of(alloc: Global, message: &str) -> Result<Option<Vec<Part>>, AllocError>
+    ensures { IfOk result (λ parts. IsMessage message.now (option_map (λ p. map plain_part p.items) parts)) }
+{
+    if message.is_empty() {
+        Ok(None)
+    } else {
+        Ok(Some(parts_of(alloc, message)?))
+    }
+}
+
+/// Returns the parts of a message, from the left.
+fn parts_of(alloc: Global, message: &str) -> Result<Vec<Part>, AllocError>
+    ensures { IfOk result (λ parts. AreParts message.now (map plain_part parts.items)) }
+{
+    let mut parts = Vec::new(alloc);
+    let mut rest = message;
+    while let Some((before, inner, later)) = split_expression(rest) {
+        push_parts(alloc, &mut parts, before, inner)?;
+        rest = later;
+    }
+    push_end(alloc, &mut parts, rest)?;
+    Ok(parts)
+}
+
+/// Adds what follows the last expression, and the end of the line.
+fn push_end(alloc: Global, parts: &mut Vec<Part>, rest: &str) -> Result<(), AllocError>
+    ensures { OnOk result (map plain_part parts.new.items ≡ map plain_part parts.old.items
+        ++ (Text rest.now ∷ (Text (codes "\n") ∷ []))) }
+{
+    parts.push(Part::Text(String::from_str(alloc, rest)?))?;
+    parts.push(Part::Text(String::from_str(alloc, "\n")?))?;
+    Ok(())
+}
+
+/// Returns what stands before the first expression of a text, the expression, and what follows.
+fn split_expression<'t>(text: &'t str) -> Option<(&'t str, &'t str, &'t str)>
+    ensures some { IfSome result (λ parts. HasExpression text.now parts.0.now parts.1.now parts.2.now) }
+    ensures none { IfNone result (IsUnclosed text.now) }
+{
+    match text.split_once('{') {
+        Some((before, opened)) => match opened.split_once('}') {
+            Some((inner, rest)) => Some((before, inner, rest)),
+            None => None,
+        },
+        None => None,
+    }
+}
+
+/// Adds what stands before an expression, and the expression.
+fn push_parts(
+    alloc: Global,
+    parts: &mut Vec<Part>,
+    before: &str,
+    inner: &str,
+) -> Result<(), AllocError>
+    ensures { OnOk result (map plain_part parts.new.items ≡ map plain_part parts.old.items
+        ++ (Text before.now ∷ (Expression inner.now ∷ []))) }
+{
+    parts.push(Part::Text(String::from_str(alloc, before)?))?;
+    parts.push(Part::Expression(String::from_str(alloc, inner)?))?;
+    Ok(())
+}

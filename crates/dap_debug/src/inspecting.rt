@@ -1,0 +1,290 @@
+//! Questions about the program where it stands.
+
+ghost use Rattle.std.specs.Prelude.{◌≡◌, ◌<◌, ◌≤◌, ◌^◌, ◌-◌, codes, Some, IfOk, map, option_map};
+ghost use Rattle.serde_json.specs.View.{view};
+ghost use Rattle.dap_server.specs.Messages.{plain_reply};
+ghost use Rattle.dap_debug.specs.Arguments.{text_at};
+ghost use Rattle.dap_debug.specs.Shown.{plain_frame, plain_scope, plain_variable};
+ghost use Rattle.dap_debug.specs.Standings.{standing};
+ghost use Rattle.dap_debug.specs.Inspecting.{Inspects, Shows, ShowsFrame, ShowsScope, ShowsScopes, ShowsStack, ShowsVariables, Evaluates, frame_asked, frame_count, frame_limit, frame_of_reference, frame_to_evaluate, frame_with, first_frame, index_of_reference, reference_asked, shown_scope, shown_variable};
+
+use crate::arguments::{text, whole};
+use crate::command::Question;
+use crate::language::{Language, Scope, Variable};
+use crate::state::{Phase, State};
+use dap_server::Reply;
+use debuggee::Evaluated;
+use serde_json::{Value, json};
+use std::alloc::{AllocError, Global};
+
+/// How many scopes of a frame are shown at most.
+const SCOPE_LIMIT: usize = 16;
+
+/// Of how many frames scopes are shown at most. So a reference is less than 2^31.
+const FRAME_LIMIT: usize = 67_108_864;
+
+impl<L: Language> State<L> {
+    /// Answers a question, if the program is stopped.
+    pub fn inspect(
+        &self,
+        alloc: Global,
+        question: Question,
+        arguments: Option<&Value>,
+    ) -> Result<Reply, AllocError>
+        ensures { IfOk result (λ reply. Inspects L.sees L.frame_of L.variables_of question
+            (option_map (λ v. view v.now) arguments.entry) (standing self.now) (plain_reply reply)) }
+    {
+        match &self.phase {
+            Phase::Stopped(program) => {
+                show(alloc, program, question, arguments, self.path.as_str())
+            }
+            _ => Reply::refused(alloc, "the program isn't stopped"),
+        }
+    }
+}
+
+/// Answers a question about a program that is stopped.
+fn show<L: Language>(
+    alloc: Global,
+    program: &L,
+    question: Question,
+    arguments: Option<&Value>,
+    path: &str,
+) -> Result<Reply, AllocError>
+    ensures { IfOk result (λ reply. Shows L.sees L.frame_of L.variables_of question
+        (option_map (λ v. view v.now) arguments.entry) path.now program.now (plain_reply reply)) }
+{
+    match question {
+        Question::StackTrace => stack_trace(alloc, program, arguments, path),
+        Question::Scopes => {
+            let many = program.depth().min(FRAME_LIMIT);
+            match frame_asked(many, arguments) {
+                Some(frame) => scopes(alloc, program, frame),
+                None => Reply::refused(alloc, "no such frame is alive"),
+            }
+        }
+        Question::Variables => variables(alloc, program, arguments),
+        Question::Evaluate => evaluate(alloc, program, arguments),
+    }
+}
+
+/// Shows the frames that are asked for.
+fn stack_trace<L: Language>(
+    alloc: Global,
+    program: &L,
+    arguments: Option<&Value>,
+    path: &str,
+) -> Result<Reply, AllocError>
+    ensures { IfOk result (λ reply. ShowsStack L.sees L.frame_of path.now
+        (option_map (λ v. view v.now) arguments.entry) program.now (plain_reply reply)) }
+{
+    let depth = program.depth();
+    let first = first_frame(arguments, depth);
+    let count = frame_count(arguments, depth - first);
+    let mut frames = Vec::new(alloc);
+    for index in first..first + count {
+        frames.push(frame(alloc, program, index, path)?)?;
+    }
+    let frames = Value::Array(frames);
+    let total = depth as u64;
+    let body = json!(in alloc; {"stackFrames": frames, "totalFrames": total})?;
+    Ok(Reply::with_body(alloc, body))
+}
+
+/// Returns the first of so many frames that is asked for; how many there are, where none is.
+fn first_frame(arguments: Option<&Value>, many: usize) -> usize
+    ensures first { result ≡ first_frame (option_map (λ v. view v.now) arguments.entry) many }
+    ensures some { result ≤ many }
+{
+    let first = whole(arguments, "startFrame").unwrap_or(0);
+    first.min(many as u64) as usize
+}
+
+/// Returns how many of so many frames are asked for.
+fn frame_count(arguments: Option<&Value>, many: usize) -> usize
+    ensures count { result ≡ frame_count (option_map (λ v. view v.now) arguments.entry) many }
+    ensures few { result ≤ many }
+{
+    match whole(arguments, "levels").unwrap_or(0) {
+        0 => many,
+        levels => levels.min(many as u64) as usize,
+    }
+}
+
+/// Shows a frame.
+fn frame<L: Language>(
+    alloc: Global,
+    program: &L,
+    index: usize,
+    path: &str,
+) -> Result<Value, AllocError>
+    requires alive { index < L.sees.depth_of program.now }
+    requires fits { index < 2 ^ 64 - 1 }
+    ensures { IfOk result (λ value. ShowsFrame L.frame_of path.now program.now index (view value)) }
+{
+    let frame = program.frame(alloc, index)?;
+    let column = frame.column;
+    let line = frame.line;
+    let name = frame.name;
+    let id = index as u64 + 1;
+    json!(in alloc; {
+        "column": column,
+        "id": id,
+        "line": line,
+        "name": name,
+        "source": {"path": path}
+    })
+}
+
+/// Returns the frame with this identifier, if it is one of so many.
+fn frame_with(many: usize, id: u64) -> Option<usize>
+    ensures { result ≡ frame_with many id }
+{
+    if 1 <= id && id <= many as u64 {
+        Some(id as usize - 1)
+    } else {
+        None
+    }
+}
+
+/// Returns the frame that is asked for, if it is one of so many.
+fn frame_asked(many: usize, arguments: Option<&Value>) -> Option<usize>
+    ensures { result ≡ frame_asked many (option_map (λ v. view v.now) arguments.entry) }
+{
+    frame_with(many, whole(arguments, "frameId")?)
+}
+
+/// Shows the scopes of a frame.
+fn scopes<L: Language>(alloc: Global, program: &L, frame: usize) -> Result<Reply, AllocError>
+    requires alive { frame < L.sees.depth_of program.now }
+    requires near { frame < frame_limit }
+    ensures { IfOk result (λ reply. ShowsScopes (plain_reply reply)) }
+{
+    let mut scopes = program.scopes(alloc, frame)?;
+    scopes.truncate(SCOPE_LIMIT);
+    let mut shown = Vec::new(alloc);
+    for index in 0..scopes.len() {
+        shown.push(scope(alloc, frame, index, &scopes[index])?)?;
+    }
+    let shown = Value::Array(shown);
+    let body = json!(in alloc; {"scopes": shown})?;
+    Ok(Reply::with_body(alloc, body))
+}
+
+/// Shows a scope.
+fn scope(alloc: Global, frame: usize, index: usize, scope: &Scope) -> Result<Value, AllocError>
+    requires near { frame < frame_limit }
+    requires few { index < 16 }
+    ensures { IfOk result (λ value. view value ≡ shown_scope frame index (plain_scope scope.now)) }
+{
+    let reference = frame as u64 * 16 + index as u64 + 1;
+    let name = scope.name.as_str();
+    json!(in alloc; {
+        "expensive": false,
+        "name": name,
+        "variablesReference": reference
+    })
+}
+
+/// Shows the variables of the scope that is asked for.
+fn variables<L: Language>(
+    alloc: Global,
+    program: &L,
+    arguments: Option<&Value>,
+) -> Result<Reply, AllocError>
+    ensures { IfOk result (λ reply. ShowsVariables L.variables_of
+        (frame_of_reference (L.sees.depth_of program.now)
+        (reference_asked (option_map (λ v. view v.now) arguments.entry)))
+        (index_of_reference (reference_asked (option_map (λ v. view v.now) arguments.entry))) program.now
+        (plain_reply reply)) }
+{
+    let reference = whole(arguments, "variablesReference").unwrap_or(0);
+    match frame_of_reference(program.depth(), reference) {
+        Some(frame) => {
+            let scopes = program.scopes(alloc, frame)?;
+            match scopes.get(index_of_reference(reference)) {
+                Some(scope) => shown_variables(alloc, scope),
+                None => Reply::refused(alloc, "no variables have this reference"),
+            }
+        }
+        None => Reply::refused(alloc, "no variables have this reference"),
+    }
+}
+
+/// Returns the frame of the scope with a reference, if it is one of so many.
+fn frame_of_reference(many: usize, reference: u64) -> Option<usize>
+    ensures { result ≡ frame_of_reference many reference }
+{
+    if reference == 0 {
+        None
+    } else {
+        frame_with(many, (reference - 1) / SCOPE_LIMIT as u64 + 1)
+    }
+}
+
+/// Returns the index of the scope with a reference.
+fn index_of_reference(reference: u64) -> usize
+    ensures { result ≡ index_of_reference reference }
+{
+    (reference.saturating_sub(1) % SCOPE_LIMIT as u64) as usize
+}
+
+/// Shows the variables of a scope.
+fn shown_variables(alloc: Global, scope: &Scope) -> Result<Reply, AllocError>
+    ensures { IfOk result (λ reply. ShowsScope (Some (plain_scope scope.now)) (plain_reply reply)) }
+{
+    let shown = Value::Array(all_variables(alloc, scope.variables.as_slice())?);
+    let body = json!(in alloc; {"variables": shown})?;
+    Ok(Reply::with_body(alloc, body))
+}
+
+/// Shows variables.
+fn all_variables(alloc: Global, variables: &[Variable]) -> Result<Vec<Value>, AllocError>
+    ensures { IfOk result (λ shown. map view shown.items ≡ map shown_variable (map plain_variable variables.now)) }
+{
+    let mut shown = Vec::new(alloc);
+    for variable in variables {
+        shown.push(shown_variable(alloc, variable)?)?;
+    }
+    Ok(shown)
+}
+
+/// Shows a variable.
+fn shown_variable(alloc: Global, variable: &Variable) -> Result<Value, AllocError>
+    ensures { IfOk result (λ value. view value ≡ shown_variable (plain_variable variable.now)) }
+{
+    let name = variable.name.as_str();
+    let value = variable.value.as_str();
+    json!(in alloc; {
+        "name": name,
+        "value": value,
+        "variablesReference": 0u64
+    })
+}
+
+/// Shows the value of an expression.
+fn evaluate<L: Language>(
+    alloc: Global,
+    program: &L,
+    arguments: Option<&Value>,
+) -> Result<Reply, AllocError>
+    ensures { IfOk result (λ reply. Evaluates L.sees
+        (text_at (codes "expression") (option_map (λ v. view v.now) arguments.entry))
+        (frame_to_evaluate (L.sees.depth_of program.now) (option_map (λ v. view v.now) arguments.entry))
+        program.now (plain_reply reply)) }
+{
+    let Some(expression) = text(arguments, "expression") else {
+        return Reply::refused(alloc, "`expression` is missing");
+    };
+    let id = whole(arguments, "frameId").unwrap_or(1);
+    let Some(frame) = frame_with(program.depth(), id) else {
+        return Reply::refused(alloc, "no such frame is alive");
+    };
+    match program.evaluate(alloc, frame, expression)? {
+        Evaluated::Value(value, _) => {
+            let body = json!(in alloc; {"result": value, "variablesReference": 0u64})?;
+            Ok(Reply::with_body(alloc, body))
+        }
+        Evaluated::NoValue(why) => Reply::refused(alloc, why.as_str()),
+    }
+}

@@ -1,0 +1,226 @@
+//! Starting a program, and letting it go on.
+
+ghost use Rattle.std.specs.Prelude.{◌≡◌, ◌++◌, [], None, IfOk, map, option_map};
+ghost use Rattle.dap_server.specs.Messages.{plain_event, plain_reply};
+ghost use Rattle.debuggee.specs.Plain.{plain_breakpoint, plain_halt};
+ghost use Rattle.dap_debug.specs.Standings.{standing};
+ghost use Rattle.dap_debug.specs.Running.{Arrival, Begins, mode_of, phase_after, resumed, success, Pauses, Resumes, Slice, Starts, Terminates, WorksOn};
+
+use crate::command::Resume;
+use crate::language::Language;
+use crate::state::{Phase, State};
+use crate::telling::{exited, stopped, tell};
+use dap_server::{Event, Reply};
+use debuggee::{Breakpoint, Halt, Mode, arrive, run};
+use serde_json::{Value, json};
+use std::alloc::{AllocError, Global};
+use std::mem;
+
+/// How far a program has come after a slice, and what is told of that.
+#[derive(Drop)]
+struct Ran<L> {
+    phase: Phase<L>,
+    events: Vec<Event>,
+}
+
+impl<L: Language> State<L> {
+    /// Runs the program for a slice, if it runs, and returns what is told of that.
+    pub fn run_on(&mut self, alloc: Global) -> Result<Vec<Event>, AllocError>
+        ensures { IfOk result (λ events. WorksOn L.takes L.sees (standing self.old) (map plain_event events.items)
+            (standing self.new)) }
+    {
+        match mem::replace(&mut self.phase, Phase::NoProgram) {
+            Phase::Running(program, mode) => {
+                let ran = run_slice(alloc, program, mode, &mut self.breakpoints)?;
+                self.phase = ran.phase;
+                Ok(ran.events)
+            }
+            phase => {
+                self.phase = phase;
+                Ok(Vec::new(alloc))
+            }
+        }
+    }
+
+    /// Starts the program once the client has set its breakpoints.
+    pub fn start(&mut self, alloc: Global) -> Result<Reply, AllocError>
+        ensures { IfOk result (λ reply. Starts L.takes L.sees (standing self.old) (plain_reply reply)
+            (standing self.new)) }
+    {
+        match mem::replace(&mut self.phase, Phase::NoProgram) {
+            Phase::Configuring(program, true) => {
+                self.phase = Phase::Stopped(program);
+                let mut reply = Reply::done(alloc);
+                reply.push(stopped(alloc, "entry", None)?)?;
+                Ok(reply)
+            }
+            Phase::Configuring(program, false) => {
+                let events = self.begin(alloc, program)?;
+                Ok(done_with(alloc, events))
+            }
+            phase => {
+                self.phase = phase;
+                Reply::refused(alloc, "no program waits to be started")
+            }
+        }
+    }
+
+    /// Lets a program arrive where it begins, and go on, if it isn't to stop there. Returns what is told of that.
+    fn begin(&mut self, alloc: Global, program: L) -> Result<Vec<Event>, AllocError>
+        ensures { IfOk result (λ events. Begins L.takes L.sees program (standing self.old).breakpoints
+            (standing self.old).path (map plain_event events.items) (standing self.new)) }
+    {
+        let ran = arrive_first(alloc, program, &mut self.breakpoints)?;
+        self.phase = ran.phase;
+        let more = self.run_on(alloc)?;
+        let events = joined(ran.events, more)?;
+        Ok(events)
+    }
+
+    /// Lets the program go on. What is told of its first slice comes with the reply.
+    pub fn resume(&mut self, alloc: Global, resume: Resume) -> Result<Reply, AllocError>
+        ensures { IfOk result (λ reply. Resumes L.takes L.sees resume (standing self.old) (plain_reply reply)
+            (standing self.new)) }
+    {
+        match mem::replace(&mut self.phase, Phase::NoProgram) {
+            Phase::Stopped(program) => {
+                let mode = mode_of(resume, program.depth());
+                self.phase = Phase::Running(program, mode);
+                let mut reply = resumed(alloc, resume)?;
+                reply.events = self.run_on(alloc)?;
+                Ok(reply)
+            }
+            phase => {
+                self.phase = phase;
+                Reply::refused(alloc, "the program isn't stopped")
+            }
+        }
+    }
+
+    /// Stops a program that runs.
+    pub fn pause(&mut self, alloc: Global) -> Result<Reply, AllocError>
+        ensures { IfOk result (λ reply. Pauses (standing self.old) (plain_reply reply) (standing self.new)) }
+    {
+        match mem::replace(&mut self.phase, Phase::NoProgram) {
+            Phase::Running(program, _) => {
+                self.phase = Phase::Stopped(program);
+                let mut reply = Reply::done(alloc);
+                reply.push(stopped(alloc, "pause", None)?)?;
+                Ok(reply)
+            }
+            phase => {
+                self.phase = phase;
+                Reply::refused(alloc, "the program doesn't run")
+            }
+        }
+    }
+
+    /// Ends the program, if there is one.
+    pub fn terminate(&mut self, alloc: Global) -> Result<Reply, AllocError>
+        ensures { IfOk result (λ reply. Terminates (standing self.old) (plain_reply reply) (standing self.new)) }
+    {
+        let mut reply = Reply::done(alloc);
+        match mem::replace(&mut self.phase, Phase::NoProgram) {
+            Phase::NoProgram => {}
+            Phase::Configuring(_, _) | Phase::Running(_, _) | Phase::Stopped(_) => {
+                reply.push(exited(alloc, 0)?)?;
+                reply.push(Event::new(alloc, "terminated", None)?)?;
+            }
+        }
+        Ok(reply)
+    }
+}
+
+/// Lets a program arrive where it begins.
+fn arrive_first<L: Language>(
+    alloc: Global,
+    program: L,
+    breakpoints: &mut Vec<Breakpoint>,
+) -> Result<Ran<L>, AllocError>
+    ensures { IfOk result (λ ran. Arrival L.sees program (map plain_breakpoint breakpoints.old.items)
+        (map plain_event ran.events.items) ran.phase (map plain_breakpoint breakpoints.new.items)) }
+{
+    let mut told = Vec::new(alloc);
+    let halt = arrive(alloc, &program, breakpoints, Mode::Continue, &mut told)?;
+    let events = tell(alloc, told, &halt)?;
+    Ok(Ran {
+        phase: phase_after(halt, program, Mode::Continue),
+        events,
+    })
+}
+
+/// Returns events, and then others.
+fn joined(first: Vec<Event>, more: Vec<Event>) -> Result<Vec<Event>, AllocError>
+    ensures { IfOk result (λ all. map plain_event all.items
+        ≡ map plain_event first.items ++ map plain_event more.items) }
+{
+    let mut all = first;
+    let mut others = more;
+    all.append(&mut others)?;
+    Ok(all)
+}
+
+/// Returns a successful response with no body, and these events after it.
+fn done_with(alloc: Global, events: Vec<Event>) -> Reply
+    ensures { plain_reply result ≡ success None (map plain_event events.items) }
+{
+    let mut reply = Reply::done(alloc);
+    reply.events = events;
+    reply
+}
+
+/// Runs a program for a slice.
+fn run_slice<L: Language>(
+    alloc: Global,
+    program: L,
+    mode: Mode,
+    breakpoints: &mut Vec<Breakpoint>,
+) -> Result<Ran<L>, AllocError>
+    ensures { IfOk result (λ ran. Slice L.takes L.sees program mode (map plain_breakpoint breakpoints.old.items)
+        (map plain_event ran.events.items) ran.phase (map plain_breakpoint breakpoints.new.items)) }
+{
+    let mut program = program;
+    let mut told = Vec::new(alloc);
+    let halt = run(alloc, &mut program, breakpoints, mode, &mut told)?;
+    let events = tell(alloc, told, &halt)?;
+    Ok(Ran {
+        phase: phase_after(halt, program, mode),
+        events,
+    })
+}
+
+/// Returns how far a program has come after a run that halted, or that goes on.
+fn phase_after<L: Language>(halt: Option<Halt>, program: L, mode: Mode) -> Phase<L>
+    ensures { result ≡ phase_after (option_map plain_halt halt) program mode }
+{
+    match halt {
+        None => Phase::Running(program, mode),
+        Some(Halt::AtEnd(_)) => Phase::NoProgram,
+        Some(Halt::AtBreakpoint | Halt::AtStep | Halt::AtFault(_)) => Phase::Stopped(program),
+    }
+}
+
+/// Returns the mode of a run that begins where so many frames are alive.
+fn mode_of(resume: Resume, depth: usize) -> Mode
+    ensures { result ≡ mode_of resume depth }
+{
+    match resume {
+        Resume::Continue => Mode::Continue,
+        Resume::Next => Mode::Over(depth),
+        Resume::StepIn => Mode::In,
+        Resume::StepOut => Mode::Out(depth),
+    }
+}
+
+/// Returns the reply that lets the program go on, with no event yet.
+fn resumed(alloc: Global, resume: Resume) -> Result<Reply, AllocError>
+    ensures { IfOk result (λ reply. plain_reply reply ≡ success (resumed resume) []) }
+{
+    match resume {
+        Resume::Continue => Ok(Reply::with_body(
+            alloc,
+            json!(in alloc; {"allThreadsContinued": true})?,
+        )),
+        Resume::Next | Resume::StepIn | Resume::StepOut => Ok(Reply::done(alloc)),
+    }
+}

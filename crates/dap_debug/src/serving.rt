@@ -1,0 +1,43 @@
+//! Serving a client.
+
+ghost use Rattle.dap_server.specs.ServingInbox.{OutputFailures};
+ghost use Rattle.dap_debug.specs.Serving.{Debugged};
+
+use crate::language::Language;
+use crate::session::Session;
+use byte_streams::Sink;
+use dap_server::{Ending, Polled, ServeFault, serve_worker};
+use std::alloc::Global;
+use std::rt::{Clock, Files};
+use std::sync::Wait;
+
+/// Serves a client that debugs programs of a language, over an inbox that gives what the client sends.
+///
+/// # Errors
+///
+/// As [`serve_worker`].
+pub fn serve_language_inbox<L, R, I, O>(
+    rt: &R,
+    alloc: Global,
+    inbox: &mut I,
+    output: &mut O,
+) -> Result<Ending, ServeFault>
+where
+    L: Language,
+    R: Wait + Files + Clock,
+    I: Polled,
+    O: Sink,
+    ensures served { Debugged (record {
+      takes = L.takes;
+      sees = L.sees;
+      begins = L.begins;
+      first_place = L.first_place;
+      frame_of = L.frame_of;
+      variables_of = L.variables_of;
+    }) I.gives I.polls
+        inbox.old inbox.new (O.output output.old).written (O.output output.new).written result }
+    ensures failures { OutputFailures result (O.output output.old).failures (O.output output.new).failures }
+{
+    let mut session = Session::<R, L>::new(rt, alloc);
+    serve_worker(rt, alloc, &mut session, inbox, output)
+}

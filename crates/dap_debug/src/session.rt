@@ -1,0 +1,181 @@
+//! A session: what is replied to each request, and the program's work between them.
+
+ghost use Rattle.std.specs.Prelude.{◌≡◌, IfOk, option_map};
+ghost use Rattle.serde_json.specs.View.{view};
+ghost use Rattle.dap_server.specs.Messages.{plain_reply};
+ghost use Rattle.dap_debug.specs.Standings.{standing, unused};
+ghost use Rattle.dap_debug.specs.Replies.{Loads, Replies, capabilities, threads};
+
+use crate::arguments::{text, truth};
+use crate::command::{Command, command_of};
+use crate::language::Language;
+use crate::state::{Phase, State};
+use byte_streams::{BEGINNING_LIMIT, ReadFault, Reading, read_beginning};
+use dap_server::{Event, Reply, Responder, Worker};
+use serde_json::{Value, json};
+use std::alloc::{AllocError, Global};
+use std::fs;
+use std::rt::{Clock, Files};
+use std::sync::Wait;
+
+/// A session.
+#[derive(Drop)]
+pub struct Session<'a, R, L> {
+    rt: &'a R,
+    state: State<L>,
+}
+
+impl<R: Wait + Files + Clock, L: Language> Responder for Session<'_, R, L> {
+    ghost use Rattle.dap_debug.specs.Commands.{command_of};
+    ghost use Rattle.dap_debug.specs.Standings.{standing};
+    ghost use Rattle.dap_debug.specs.Replies.{Replies};
+
+    ghost replies = { λ before command arguments reply after. Replies (record {
+      takes = L.takes;
+      sees = L.sees;
+      begins = L.begins;
+      first_place = L.first_place;
+      frame_of = L.frame_of;
+      variables_of = L.variables_of;
+    })
+        (command_of command) arguments (standing before.state) reply (standing after.state) };
+
+    fn respond(
+        &mut self,
+        alloc: Global,
+        command: &str,
+        arguments: Option<&Value>,
+    ) -> Result<Reply, AllocError> {
+        self.reply_to(alloc, command_of(command), arguments)
+    }
+}
+
+impl<R: Wait + Files + Clock, L: Language> Worker for Session<'_, R, L> {
+    ghost use Rattle.dap_debug.specs.Standings.{standing, is_running};
+    ghost use Rattle.dap_debug.specs.Running.{WorksOn};
+
+    ghost works = { λ before events after. WorksOn L.takes L.sees (standing before.state) events
+        (standing after.state) };
+
+    ghost busy = { λ s. is_running s.state.phase };
+
+    fn is_busy(&self) -> bool {
+        matches!(self.state.phase, Phase::Running(_, _))
+    }
+
+    fn work(&mut self, alloc: Global) -> Result<Vec<Event>, AllocError> {
+        self.state.run_on(alloc)
+    }
+}
+
+impl<'a, R: Wait + Files + Clock, L: Language> Session<'a, R, L> {
+    /// Returns a session with no program.
+    pub fn new(rt: &'a R, alloc: Global) -> Session<'a, R, L>
+        ensures { standing result.state ≡ unused }
+    {
+        Session {
+            rt,
+            state: State::new(alloc),
+        }
+    }
+
+    /// Returns what is replied to a command.
+    fn reply_to(
+        &mut self,
+        alloc: Global,
+        command: Command,
+        arguments: Option<&Value>,
+    ) -> Result<Reply, AllocError>
+        ensures { IfOk result (λ reply. Replies (record {
+          takes = L.takes;
+          sees = L.sees;
+          begins = L.begins;
+          first_place = L.first_place;
+          frame_of = L.frame_of;
+          variables_of = L.variables_of;
+        }) command
+            (option_map (λ v. view v.now) arguments.entry) (standing self.old.state) (plain_reply reply)
+            (standing self.new.state)) }
+    {
+        match command {
+            Command::Initialize => Ok(Reply::with_body(alloc, capabilities(alloc)?)),
+            Command::Launch => self.launch(alloc, arguments),
+            Command::SetBreakpoints => self.state.set_breakpoints(alloc, arguments),
+            Command::ConfigurationDone => self.state.start(alloc),
+            Command::Threads => Ok(Reply::with_body(alloc, threads(alloc)?)),
+            Command::Resume(resume) => self.state.resume(alloc, resume),
+            Command::Pause => self.state.pause(alloc),
+            Command::Terminate => self.state.terminate(alloc),
+            Command::Inspect(question) => self.state.inspect(alloc, question, arguments),
+            Command::Disconnect => Ok(Reply::done(alloc)),
+            Command::Unsupported => Reply::refused(alloc, "unsupported"),
+        }
+    }
+
+    /// Loads a program, in the place of the one that there is.
+    fn launch(&mut self, alloc: Global, arguments: Option<&Value>) -> Result<Reply, AllocError>
+        ensures { IfOk result (λ reply. Loads L.begins (option_map (λ v. view v.now) arguments.entry)
+            (standing self.old.state) (plain_reply reply) (standing self.new.state)) }
+    {
+        if let Phase::Running(_, _) = self.state.phase {
+            return Reply::refused(alloc, "a program runs");
+        }
+        let Some(path) = text(arguments, "program") else {
+            return Reply::refused(alloc, "`program` is missing");
+        };
+        let Some(source) = read_text(self.rt, alloc, path)? else {
+            return Reply::refused(alloc, "the program can't be read");
+        };
+        match L::load(alloc, source.as_str())? {
+            Ok(program) => {
+                self.state.path = String::from_str(alloc, path)?;
+                self.state.breakpoints = Vec::new(alloc);
+                self.state.phase = Phase::Configuring(program, truth(arguments, "stopOnEntry"));
+                let mut reply = Reply::done(alloc);
+                reply.push(Event::new(alloc, "initialized", None)?)?;
+                Ok(reply)
+            }
+            Err(mistake) => Reply::refused(alloc, mistake.as_str()),
+        }
+    }
+}
+
+/// Reads a file's text; `None` where it can't be read, is too long, or isn't UTF-8.
+fn read_text<R: Wait + Files + Clock>(
+    rt: &R,
+    alloc: Global,
+    path: &str,
+) -> Result<Option<String>, AllocError> {
+    let Ok(file) = fs::open(rt, path) else {
+        return Ok(None);
+    };
+    match read_beginning(rt, alloc, &mut Reading::new(rt, file)) {
+        Ok(bytes) if bytes.len() < BEGINNING_LIMIT => match String::from_utf8(bytes) {
+            Ok(text) => Ok(Some(text)),
+            Err(_) => Ok(None),
+        },
+        Ok(_) | Err(ReadFault::CannotRead) => Ok(None),
+        Err(ReadFault::NoMemory) => Err(AllocError),
+    }
+}
+
+/// Returns what the adapter can do.
+fn capabilities(alloc: Global) -> Result<Value, AllocError>
+    ensures { IfOk result (λ body. view body ≡ capabilities) }
+{
+    json!(in alloc; {
+        "supportsConditionalBreakpoints": true,
+        "supportsConfigurationDoneRequest": true,
+        "supportsEvaluateForHovers": true,
+        "supportsHitConditionalBreakpoints": true,
+        "supportsLogPoints": true,
+        "supportsTerminateRequest": true
+    })
+}
+
+/// Returns the one thread.
+fn threads(alloc: Global) -> Result<Value, AllocError>
+    ensures { IfOk result (λ body. view body ≡ threads) }
+{
+    json!(in alloc; {"threads": [{"id": 1u64, "name": "main"}]})
+}

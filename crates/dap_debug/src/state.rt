@@ -1,0 +1,39 @@
+//! How far a session has come.
+
+ghost use Rattle.std.specs.Prelude.{◌≡◌};
+ghost use Rattle.dap_debug.specs.Standings.{standing, unused};
+
+use debuggee::{Breakpoint, Mode};
+use std::alloc::Global;
+
+/// How far the program has come.
+#[derive(Drop)]
+pub enum Phase<L> {
+    /// None was launched, or it has ended.
+    NoProgram,
+    /// It is loaded, and waits to be started. Whether it is to stop where it begins.
+    Configuring(L, bool),
+    Running(L, Mode),
+    Stopped(L),
+}
+
+/// The program, its path, and the breakpoints that are set in it.
+#[derive(Drop)]
+pub struct State<L> {
+    pub phase: Phase<L>,
+    pub path: String,
+    pub breakpoints: Vec<Breakpoint>,
+}
+
+impl<L> State<L> {
+    /// Returns a state with no program.
+    pub fn new(alloc: Global) -> State<L>
+        ensures { standing result ≡ unused }
+    {
+        State {
+            phase: Phase::NoProgram,
+            path: String::new(alloc),
+            breakpoints: Vec::new(alloc),
+        }
+    }
+}
