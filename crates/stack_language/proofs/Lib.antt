@@ -1,0 +1,6 @@
+-- Lines without an instruction; for `line_at_or_after`.
+mod Lines
+-- The top of the stack; for `make_one`.
+mod Tops
+-- Variables that are listed one after another; for `variables`.
+mod Variables

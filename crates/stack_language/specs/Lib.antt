@@ -1,0 +1,6 @@
+-- what each instruction does
+pub mod Language
+-- lines, frames, what a debugger sees of a state, and what a client is shown
+pub mod Shown
+-- worked examples of instructions and steps
+pub mod WorkedSteps

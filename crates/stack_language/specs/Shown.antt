@@ -1,0 +1,112 @@
+-- Defines lines and frames, what a debugger sees of a state, and what a client is shown.
+use Rattle.std.specs.Prelude.{◌≡◌, ◌≤◌, ◌<◌, ◌+◌, ◌-◌, ◌^◌, ℕ, min, map, ℤ, pos, Bool, true, false, not, nat_eq, List, [], ◌∷◌, length, codes, slice_get, unwrap_or, Option, None, Some, if◌then◌else◌}
+use Rattle.std.specs.Char.{is_ascii_lowercase}
+use Rattle.std.specs.Fmt.{signed_decimal}
+use Rattle.std.specs.List.{range_with_len}
+use Rattle.std.specs.Option.{option_map_or}
+use Rattle.std.specs.Ordering.{int_eq}
+use Rattle.dap_debug.specs.Shown.{PlainFrame, PlainVariable, PlainScope}
+use Rattle.dap_debug.specs.declared.language.Location.{Location}
+use Rattle.debuggee.specs.Due.{Sight}
+use Rattle.debuggee.specs.Plain.{PlainEvaluated, Value, NoValue}
+use Rattle.stack_language.specs.declared.machine.Machine.{Machine}
+use Rattle.stack_language.specs.declared.program.Instruction.{Instruction}
+use Rattle.stack_language.specs.declared.program.Instruction.TheVariants as instruction
+use Rattle.stack_language.specs.Language.{PlainState, Begins, plain_state, value_of}
+
+-- whether an instruction does something: a line that is empty, or a comment, has one that doesn't
+abbrev pub does_something : Instruction → Bool
+does_something instruction.Nothing = false
+does_something (instruction.Push number) = true
+does_something (instruction.Load variable) = true
+does_something (instruction.Store variable) = true
+does_something (instruction.Calculate operator) = true
+does_something instruction.Print = true
+does_something (instruction.Jump line) = true
+does_something (instruction.JumpZero line) = true
+does_something (instruction.Call line) = true
+does_something instruction.Return = true
+
+-- whether a line has an instruction; the first line is 0
+abbrev pub has_instruction : Machine → ℕ → Bool
+has_instruction m line = option_map_or does_something (slice_get m.program.items line) false
+
+-- the first line at or after `from` that has an instruction, or that there is none
+abbrev pub IsFirstFrom : Machine → ℕ → Option ℕ → Type 0
+IsFirstFrom m from None = (line : ℕ) → from ≤ line → has_instruction m line ≡ false
+IsFirstFrom m from (Some first) =
+    (from ≤ first) × (has_instruction m first ≡ true)
+    × ((line : ℕ) → from ≤ line → line < first → has_instruction m line ≡ false)
+
+-- how many calls are alive
+abbrev pub call_count : Machine → ℕ
+call_count m = length m.state.returns.items
+
+-- The line where a frame stands. The newest frame is 0, and stands at the line that comes next; each other one stands
+-- at the call that made the frame before it, in front of the line to which that returns.
+abbrev pub line_of_frame : Machine → ℕ → ℕ
+line_of_frame m frame =
+    if nat_eq frame 0 then m.state.line
+    else unwrap_or (slice_get m.state.returns.items (call_count m - frame)) 0 - 1
+
+-- ---- expressions
+
+-- the variable of this name, a letter from a to z
+abbrev pub variable_named : List ℕ → Option ℕ
+variable_named (letter ∷ []) = if is_ascii_lowercase letter then Some (letter - 97) else None
+variable_named _ = None
+
+-- a condition holds unless its value is 0
+abbrev pub evaluated : ℤ → PlainEvaluated
+evaluated value = Value (signed_decimal value) (not (int_eq value (pos 0)))
+
+abbrev pub value_at : Machine → Option ℕ → PlainEvaluated
+value_at m None = NoValue (codes "no variable has this name")
+value_at m (Some variable) = evaluated (value_of variable (plain_state m.state))
+
+-- ---- what a debugger sees
+
+-- A program stops at lines that have an instruction. A frame is alive for the program, and one for each call. An
+-- expression is the name of a variable, and evaluates to the same in each frame.
+abbrev pub sees : Sight Machine
+sees = record {
+  place_of = λ m. if has_instruction m m.state.line then Some m.state.line else None;
+  depth_of = λ m. call_count m + 1;
+  value_of = λ m frame expression. value_at m (variable_named expression);
+}
+
+-- ---- what a client is shown
+
+-- a program is before its first step; no word is said of which text it is
+abbrev pub begins : List ℕ → Machine → Type 0
+begins text m = Begins (plain_state m.state)
+
+-- the number of a line for the client, which counts from 1
+abbrev pub shown_line : ℕ → ℕ
+shown_line line = min (line + 1) (2 ^ 64 - 1)
+
+-- a breakpoint is set at the first instruction at or after its line
+abbrev pub first_place : Machine → ℕ → Option Location → Type 0
+first_place m line None = IsFirstFrom m (line - 1) None
+first_place m line (Some location) =
+    IsFirstFrom m (line - 1) (Some location.place) × (location.line ≡ shown_line location.place)
+
+-- the oldest frame is called `main`
+abbrev pub frame_of : Machine → ℕ → PlainFrame → Type 0
+frame_of m index frame =
+    frame ≡ record {
+      name = if nat_eq index (call_count m) then codes "main" else codes "call";
+      line = shown_line (line_of_frame m index);
+      column = 1;
+    }
+
+abbrev pub variable_of : PlainState → ℕ → PlainVariable
+variable_of s variable = record { name = (97 + variable) ∷ []; value = signed_decimal (value_of variable s) }
+
+-- each frame has one scope, with all variables
+abbrev pub variables_of : Machine → ℕ → List PlainScope → Type 0
+variables_of m frame scopes =
+    scopes ≡ record {
+      name = codes "variables";
+      variables = map (variable_of (plain_state m.state)) (range_with_len 0 26);
+    } ∷ []

@@ -1,0 +1,156 @@
+//! What a debugger is to know of the stack language.
+
+ghost use Rattle.std.specs.Prelude.{◌≡◌, ◌<◌, IfOk, map};
+ghost use Rattle.std.specs.List.{range_with_len};
+ghost use Rattle.debuggee.specs.Plain.{plain_step};
+ghost use Rattle.dap_debug.specs.Shown.{plain_variable};
+ghost use Rattle.stack_language.specs.Language.{plain_state, reason, step_of};
+ghost use Rattle.stack_language.specs.Shown.{variable_of, shown_line};
+
+use crate::machine::Machine;
+use crate::parsing::{Parsed, parse, variable};
+use crate::program::VARIABLES;
+use crate::state::{Fault, Outcome, State};
+use dap_debug::{Frame, Language, Location, Scope, Variable};
+use debuggee::{Debuggee, Evaluated, Step};
+use std::alloc::{AllocError, Global};
+
+impl Debuggee for Machine {
+    ghost use Rattle.stack_language.specs.Language.{takes};
+    ghost use Rattle.stack_language.specs.Shown.{sees};
+
+    ghost takes = { takes };
+
+    ghost sees = { sees };
+
+    fn step(&mut self, alloc: Global) -> Result<Step, AllocError> {
+        step_of(alloc, self.take_step()?)
+    }
+
+    fn place(&self) -> Option<usize> {
+        let line = self.state().line;
+        if self.has_instruction(line) {
+            Some(line)
+        } else {
+            None
+        }
+    }
+
+    fn depth(&self) -> usize {
+        self.state().returns.len() + 1
+    }
+
+    fn evaluate(
+        &self,
+        alloc: Global,
+        _frame: usize,
+        expression: &str,
+    ) -> Result<Evaluated, AllocError> {
+        match variable(expression) {
+            Some(variable) => {
+                let value = self.state().value(variable);
+                Ok(Evaluated::Value(format!(in alloc; "{value}")?, value != 0))
+            }
+            None => Ok(Evaluated::NoValue(String::from_str(alloc, "no variable has this name")?)),
+        }
+    }
+}
+
+impl Language for Machine {
+    ghost use Rattle.stack_language.specs.Shown.{begins, first_place, frame_of, variables_of};
+
+    ghost begins = { begins };
+
+    ghost first_place = { first_place };
+
+    ghost frame_of = { frame_of };
+
+    ghost variables_of = { variables_of };
+
+    fn load(alloc: Global, text: &str) -> Result<Result<Machine, String>, AllocError> {
+        match parse(alloc, text)? {
+            Parsed::Program(program) => Ok(Ok(Machine::new(alloc, program))),
+            Parsed::Mistake(line) => Ok(Err(format!(in alloc; "line {line} is no instruction")?)),
+        }
+    }
+
+    fn place_for(&self, line: u64) -> Option<Location> {
+        let place = self.line_at_or_after(line.saturating_sub(1) as usize)?;
+        let line = shown_line(place);
+        Some(Location { place, line })
+    }
+
+    fn frame(&self, alloc: Global, index: usize) -> Result<Frame, AllocError> {
+        let is_oldest = index == self.state().returns.len();
+        let name = if is_oldest { "main" } else { "call" };
+        Ok(Frame {
+            name: String::from_str(alloc, name)?,
+            line: shown_line(self.line_of_frame(index)),
+            column: 1,
+        })
+    }
+
+    fn scopes(&self, alloc: Global, _frame: usize) -> Result<Vec<Scope>, AllocError> {
+        let mut scopes = Vec::new(alloc);
+        scopes.push(Scope {
+            name: String::from_str(alloc, "variables")?,
+            variables: variables(alloc, self.state())?,
+        })?;
+        Ok(scopes)
+    }
+}
+
+/// Returns the number of a line for the client, which counts from 1.
+fn shown_line(line: usize) -> u64
+    ensures { result ≡ shown_line line }
+{
+    (line as u64).saturating_add(1)
+}
+
+/// Returns all variables.
+fn variables(alloc: Global, state: &State) -> Result<Vec<Variable>, AllocError>
+    ensures { IfOk result (λ all. map plain_variable all.items ≡
+        map (variable_of (plain_state state.now)) (range_with_len 0 VARIABLES)) }
+{
+    let mut all = Vec::new(alloc);
+    for index in 0..VARIABLES {
+        all.push(named(alloc, state, index)?)?;
+    }
+    Ok(all)
+}
+
+/// Returns a variable.
+fn named(alloc: Global, state: &State, index: usize) -> Result<Variable, AllocError>
+    requires { index < VARIABLES }
+    ensures { IfOk result (λ one. plain_variable one ≡ variable_of (plain_state state.now) index) }
+{
+    let letter = char::from(b'a' + index as u8);
+    Ok(Variable {
+        name: format!(in alloc; "{letter}")?,
+        value: format!(in alloc; "{}", state.value(index))?,
+    })
+}
+
+/// Returns what is told of an outcome.
+fn step_of(alloc: Global, outcome: Outcome) -> Result<Step, AllocError>
+    ensures { IfOk result (λ step. plain_step step ≡ step_of outcome) }
+{
+    match outcome {
+        Outcome::Went => Ok(Step::Goes),
+        Outcome::Printed(number) => Ok(Step::Prints(format!(in alloc; "{number}\n")?)),
+        Outcome::Ended => Ok(Step::Ends(0)),
+        Outcome::Failed(fault) => Ok(Step::Fails(String::from_str(alloc, reason(fault))?)),
+    }
+}
+
+/// Returns why an instruction can't be carried out.
+fn reason(fault: Fault) -> &'static str
+    ensures { result.now ≡ reason fault }
+{
+    match fault {
+        Fault::Overflow => "overflow",
+        Fault::DivisionByZero => "division by zero",
+        Fault::TooFew => "a number is missing on the stack",
+        Fault::TooMany => "there are too many numbers or calls",
+    }
+}

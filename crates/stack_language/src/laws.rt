@@ -1,0 +1,18 @@
+//! Worked examples of the language.
+
+ghost use Rattle.stack_language.specs.WorkedSteps.{LinesFollow, NumbersAreCalculated, NumbersAreMissing, NumbersMove, QuotientsAreRounded, ResultsOverflow, RoomIsLimited, StepsFollow, StepsTell, ZeroJumps};
+
+/// What each instruction does, which fail, and the steps of a program, computed from the definitions. A wrong definition
+/// doesn't meet them. It does nothing: its contract is the examples.
+pub fn worked_steps()
+    ensures moved { NumbersMove }
+    ensures calculated { NumbersAreCalculated }
+    ensures rounded { QuotientsAreRounded }
+    ensures lines { LinesFollow }
+    ensures zero { ZeroJumps }
+    ensures missing { NumbersAreMissing }
+    ensures overflow { ResultsOverflow }
+    ensures room { RoomIsLimited }
+    ensures steps { StepsFollow }
+    ensures told { StepsTell }
+{}
