@@ -5,7 +5,7 @@ use Rattle.byte_streams.specs.Streams.{StreamLog}
 use Rattle.dap_server.specs.Messages.{PlainEvent, PlainReply}
 use Rattle.dap_server.specs.Requests.{Request}
 use Rattle.dap_server.specs.Conversation.{State, state, Replies, Handles, Conversation}
-use Rattle.dap_server.specs.Inbox.{PlainItem, Bytes, Unasked, End, Failed, NoMemory, Gives, TakesOne}
+use Rattle.dap_server.specs.Inbox.{PlainItem, Bytes, Event, End, Failed, NoMemory, Gives, TakesOne}
 use Rattle.dap_server.specs.Serving.{FailsAt, FailsInFront, IsDone, BreaksWithin}
 use Rattle.dap_server.specs.ServingInbox.{ServingEndsBy, EndsWithin, EndsAt}
 use Rattle.dap_server.specs.Working.{Works, Polls, Course, begins, takes, works_on, EndsInWork, WorkerEnds, ServedWorker}
@@ -59,7 +59,7 @@ took : {S T : Type 0} (see : S → T) (replies : Replies T) (a b : State S) (res
     (texts : List (List ℕ)) → TakesOne (seen_replies see replies) a rest item texts b later
     → TakesOne replies (seen see a) rest item texts (seen see b) later
 took see replies a b rest later (Bytes bytes) texts is = (is.0, is.1, talked see replies a b is.0 texts is.2)
-took see replies a b rest later (Unasked event) texts is = (is.0, ap (seen see) is.1, is.2)
+took see replies a b rest later (Event event) texts is = (is.0, ap (seen see) is.1, is.2)
 took see replies a b rest later End texts is = absurd is
 took see replies a b rest later Failed texts is = absurd is
 took see replies a b rest later NoMemory texts is = absurd is
@@ -130,7 +130,7 @@ ended_within : {S T : Type 0} (see : S → T) (result : Result Ending ServeFault
     (rest : List ℕ) (adapter : S) (written later : StreamLog)
     → EndsWithin result (seen_replies see replies) b rest adapter written later
     → EndsWithin result replies (seen see b) rest (see adapter) written later
-ended_within see (Ok ending.Left) replies b rest adapter written later is =
+ended_within see (Ok ending.Disconnected) replies b rest adapter written later is =
     (done see b adapter written later is.0, is.1)
 ended_within see (Ok ending.InputEnded) replies b rest adapter written later is = absurd is
 ended_within see (Err f) replies b rest adapter written later is =
@@ -141,7 +141,7 @@ ended_by : {S T : Type 0} (see : S → T) (item : PlainItem) (result : Result En
     → ServingEndsBy item result (seen see b) (see adapter) written later
 ended_by see (Bytes bytes) result b adapter written later is =
     (is.0, is.1, done see b adapter written later is.2)
-ended_by see (Unasked event) result b adapter written later is = (is.0, is.1, ap see is.2, is.3)
+ended_by see (Event event) result b adapter written later is = (is.0, is.1, ap see is.2, is.3)
 ended_by see End result b adapter written later is = (is.0, done see b adapter written later is.1)
 ended_by see Failed result b adapter written later is = (is.0, done see b adapter written later is.1)
 ended_by see NoMemory result b adapter written later is = (is.0, done see b adapter written later is.1)

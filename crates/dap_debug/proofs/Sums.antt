@@ -6,7 +6,7 @@ use Rattle.serde_json.specs.Data.{Data}
 use Rattle.dap_server.specs.Messages.{PlainEvent, PlainReply, events_after, leaves}
 use Rattle.dap_server.specs.Requests.{Request}
 use Rattle.dap_server.specs.Conversation.{State, Handles, Conversation}
-use Rattle.dap_server.specs.Inbox.{PlainItem, Bytes, Unasked, End, Failed, NoMemory, Gives, TakesOne}
+use Rattle.dap_server.specs.Inbox.{PlainItem, Bytes, Event, End, Failed, NoMemory, Gives, TakesOne}
 use Rattle.dap_server.specs.Working.{Polls, Course, begins, takes, works_on}
 use Rattle.dap_debug.specs.declared.command.Command.TheVariants as command
 use Rattle.dap_debug.specs.Commands.{command_of}
@@ -57,7 +57,7 @@ took : {S : Type 0} (known : Known S) (a b : State (Standing S)) (rest later : L
     → owed b.adapter.phase + told_at known a b rest later item texts is
     ≡ owed a.adapter.phase + asked_at known a b rest later item texts is
 took known a b rest later (Bytes bytes) texts is = talked known a b is.0 texts is.2
-took known a b rest later (Unasked event) texts is = let same = still _ b is.1 in omega (arith, same)
+took known a b rest later (Event event) texts is = let same = still _ b is.1 in omega (arith, same)
 took known a b rest later End texts is = absurd is
 took known a b rest later Failed texts is = absurd is
 took known a b rest later NoMemory texts is = absurd is

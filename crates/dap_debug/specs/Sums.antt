@@ -5,7 +5,7 @@ use Rattle.serde_json.specs.Data.{Data}
 use Rattle.dap_server.specs.Messages.{PlainEvent, PlainReply, events_after}
 use Rattle.dap_server.specs.Requests.{Request}
 use Rattle.dap_server.specs.Conversation.{State, Replies as Promise, Handles, Conversation}
-use Rattle.dap_server.specs.Inbox.{PlainItem, Bytes, Unasked, End, Failed, NoMemory, Gives, TakesOne}
+use Rattle.dap_server.specs.Inbox.{PlainItem, Bytes, Event, End, Failed, NoMemory, Gives, TakesOne}
 use Rattle.dap_server.specs.Working.{Works, Polls, Course, begins, takes, works_on}
 use Rattle.dap_debug.specs.Commands.{command_of}
 use Rattle.dap_debug.specs.Laws.{asks, ends_told, owed}
