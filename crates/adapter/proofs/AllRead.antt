@@ -18,8 +18,7 @@ use Rattle.dap_history.specs.Readings.{ending_of}
 use Rattle.dap_history.specs.Interleaving.{Load, AwaitsNone, Interleaves}
 use Rattle.dap_history.specs.Laws.{stream_of, HistoryIsOne, ContentsAreOfTheStream, EachIsAnsweredOnce, RestIsOpen, ClosedByItsEvent, IsAmong, AreReadAs, contents_read, read_as, waiting, request_of_item}
 use Rattle.dap_history.specs.Taken.{EventsAreTaken, EachItemEndsOrNot, ends_by}
-use Rattle.dap_history.proofs.FirstKept.{first_by_event, first_kept}
-use Rattle.dap_session.proofs.Standing.{history_one_more}
+use Rattle.dap_session.proofs.Standing.{leads_one_more}
 use Rattle.dap_session.specs.Serving.{ReachesLast, SessionOutcome, closes}
 use Rattle.dap_wires.specs.Senders.{from_client}
 use Rattle.dap_wires.specs.Transfer.{IsRead, AreRead}
@@ -27,7 +26,8 @@ use Rattle.byte_streams.specs.Streams.{Supply, WritesAll}
 use Rattle.adapter.specs.AllRead.{asked, AnswersAll, ClosesBy, AnswersAllRead, AllReadIsAnswered}
 use Rattle.adapter.specs.Laws.{TakesWholeInput, InputIsTakenWhole}
 use Rattle.adapter.specs.Serving.{World, nothing_sent, TasksEnd}
-use Rattle.adapter.proofs.InputTaken.{first_event, later_events, IsLast, no_last_loads, takes_all, read_to_end}
+use Rattle.dap_history.proofs.Closings.{first_event, later_events}
+use Rattle.adapter.proofs.InputTaken.{IsLast, no_last_loads, takes_all, read_to_end}
 use Rattle.adapter.proofs.SessionFaults.{outcome_is_of_session}
 
 -- the laws of the histories of sessions that the law follows from
@@ -109,20 +109,22 @@ awaits_none f own last so_far (e ∷ events) given loads (inr from) (x ∷ front
 
 -- ---- the history up to the event, and after it
 
-record IsParted (past : History) (rest : Rest) (front : List Incoming) (own : Incoming) (back : List Incoming)
+record IsParted (f : FirstSeq) (past : History) (rest : Rest) (front : List Incoming) (own : Incoming)
+    (back : List Incoming)
     (new : History) (left : Rest) : Type 0 where
   pub mid : History
   pub between : Rest
   pub next : History
   pub after : Rest
-  pub before : LeadsByEvents past rest front mid between
-  pub at : LeadsByEvent mid between own next after
-  pub later : LeadsByEvents next after back new left
+  pub before : LeadsByEvents f past rest front mid between
+  pub at : LeadsByEvent f mid between own next after
+  pub later : LeadsByEvents f next after back new left
 
-parted : (past : History) (rest : Rest) (front : List Incoming) (own : Incoming) (back : List Incoming) (new : History)
-    (left : Rest) → LeadsByEvents past rest (front ++ own ∷ back) new left
-    → IsParted past rest front own back new left
-parted past rest [] own back new left all = record {
+parted : (f : FirstSeq) (past : History) (rest : Rest) (front : List Incoming) (own : Incoming) (back : List Incoming)
+    (new : History)
+    (left : Rest) → LeadsByEvents f past rest (front ++ own ∷ back) new left
+    → IsParted f past rest front own back new left
+parted f past rest [] own back new left all = record {
   mid = past;
   between = rest;
   next = all.0;
@@ -131,8 +133,8 @@ parted past rest [] own back new left all = record {
   at = all.2;
   later = all.3;
 }
-parted past rest (e ∷ front) own back new left all =
-    let more = parted all.0 all.1 front own back new left all.3 in
+parted f past rest (e ∷ front) own back new left all =
+    let more = parted f all.0 all.1 front own back new left all.3 in
     record {
       mid = more.mid;
       between = more.between;
@@ -144,51 +146,45 @@ parted past rest (e ∷ front) own back new left all =
     }
 
 -- the same of a history from its beginning
-record IsHistoryParted (front : List Incoming) (own : Incoming) (back : List Incoming) (new : History) (left : Rest)
+record IsHistoryParted (f : FirstSeq) (front : List Incoming) (own : Incoming) (back : List Incoming) (new : History)
+    (left : Rest)
     : Type 0 where
   pub mid : History
   pub between : Rest
   pub next : History
   pub after : Rest
-  pub first_is : between.first ≡ left.first
-  pub before : IsHistoryOf front mid between
-  pub at : LeadsByEvent mid between own next after
-  pub up_to : IsHistoryOf (front ++ own ∷ []) next after
-  pub later : LeadsByEvents next after back new left
+  pub before : IsHistoryOf f front mid between
+  pub at : LeadsByEvent f mid between own next after
+  pub up_to : IsHistoryOf f (front ++ own ∷ []) next after
+  pub later : LeadsByEvents f next after back new left
 
-history_parted : (front : List Incoming) (own : Incoming) (back : List Incoming) (new : History) (left : Rest)
-    → IsHistoryOf (front ++ own ∷ back) new left → IsHistoryParted front own back new left
-history_parted front own back new left history = record {
+history_parted : (f : FirstSeq) (front : List Incoming) (own : Incoming) (back : List Incoming) (new : History)
+    (left : Rest)
+    → IsHistoryOf f (front ++ own ∷ back) new left → IsHistoryParted f front own back new left
+history_parted f front own back new left history = record {
   mid = parts.mid;
   between = parts.between;
   next = parts.next;
   after = parts.after;
-  first_is = first_is;
-  before = before;
+  before = parts.before;
   at = parts.at;
-  up_to = history_one_more front parts.mid parts.between own parts.next parts.after before parts.at;
+  up_to = leads_one_more f [] (only_bytes []) front parts.mid parts.between own parts.next parts.after parts.before
+      parts.at;
   later = parts.later;
 }
   where
-    parts : IsParted [] (only_bytes left.first []) front own back new left
-    parts = parted [] (only_bytes left.first []) front own back new left history
-
-    first_is : parts.between.first ≡ left.first
-    first_is = first_kept [] (only_bytes left.first []) front parts.mid parts.between parts.before
-
-    before : IsHistoryOf front parts.mid parts.between
-    before = subst (λ n. LeadsByEvents [] (only_bytes n []) front parts.mid parts.between) (sym first_is) parts.before
+    parts : IsParted f [] (only_bytes []) front own back new left
+    parts = parted f [] (only_bytes []) front own back new left history
 
 -- a session that is over takes nothing more
-stays : EventsAreTaken → (events back : List Incoming) (mid : History) (between : Rest) (new : History) (left : Rest)
-    → IsHistoryOf events mid between → ¬ IsTaking mid → LeadsByEvents mid between back new left → new ≡ mid
-stays taken events [] mid between new left history over all = all.0
-stays taken events (e ∷ back) mid between new left history over all =
-    let next = history_one_more events mid between e all.0 all.1 history all.2 in
-    let same : all.0 ≡ mid =
-    (taken events e mid all.0 between all.1 history next
-    (sym (first_by_event mid between e all.0 all.1 all.2))).1 over in
-    stays taken (events ++ e ∷ []) back all.0 all.1 new left next (subst (λ h. ¬ IsTaking h) (sym same) over) all.3
+stays : EventsAreTaken → (f : FirstSeq) (events back : List Incoming) (mid : History) (between : Rest) (new : History)
+    (left : Rest)
+    → IsHistoryOf f events mid between → ¬ IsTaking mid → LeadsByEvents f mid between back new left → new ≡ mid
+stays taken f events [] mid between new left history over all = all.0
+stays taken f events (e ∷ back) mid between new left history over all =
+    let next = leads_one_more f [] (only_bytes []) events mid between e all.0 all.1 history all.2 in
+    let same : all.0 ≡ mid = (taken f events e mid all.0 between all.1 history next).1 over in
+    stays taken f (events ++ e ∷ []) back all.0 all.1 new left next (subst (λ h. ¬ IsTaking h) (sym same) over) all.3
     ∙ same
 
 -- ---- requests
@@ -224,19 +220,21 @@ none_asked past step none =
 pub record Closing (by : Closed) (own : Incoming) (item : Item) : Type 0 where
   pub last : IsLast own
   pub known : (e : Incoming) → (own ≡ e) ⊎ ¬ (own ≡ e)
-  pub takes : (past : History) (rest : Rest) (new : History) (left : Rest) → LeadsByEvent past rest own new left
+  pub takes : (f : FirstSeq) (past : History) (rest : Rest) (new : History) (left : Rest)
+      → LeadsByEvent f past rest own new left
       → MayTake past item new
   pub unasked : request_of_item item ≡ None
   pub ends : ends_by item ≡ Some (ending.Closed by)
-  pub among : (events : List Incoming) (past : History) (rest : Rest) → IsHistoryOf events past rest
+  pub among : (f : FirstSeq) (events : List Incoming) (past : History) (rest : Rest) → IsHistoryOf f events past rest
       → ending_of past ≡ Some (ending.Closed by) → IsAmong own events
 
 -- a session that took it is over
 closes_there : EachItemEndsOrNot → {by : Closed} {own : Incoming} {item : Item} → Closing by own item
-    → {front back : List Incoming} {new : History} {left : Rest} → (parts : IsHistoryParted front own back new left)
+    → {f : FirstSeq} {front back : List Incoming} {new : History} {left : Rest}
+    → (parts : IsHistoryParted f front own back new left)
     → IsAfter parts.mid item parts.next → ¬ IsTaking parts.next
-closes_there ends_or_not {by} {own} {item} closing {front} {back} {new} {left} parts after still =
-    let ends = (ends_or_not (front ++ own ∷ []) parts.next parts.after parts.up_to parts.mid after.step []
+closes_there ends_or_not {by} {own} {item} closing {f} {front} {back} {new} {left} parts after still =
+    let ends = (ends_or_not f (front ++ own ∷ []) parts.next parts.after parts.up_to parts.mid after.step []
     after.new_is).1 in
     let e : None ≡ Some (ending.Closed by) =
     sym still ∙ ap ending_of after.new_is ∙ ends ∙ ap ends_by after.item_is ∙ closing.ends in
@@ -249,8 +247,8 @@ pub record AnswersUpTo (own : Incoming) (f : FirstSeq) (events : List Incoming) 
   pub answers : AnswersAll f (stream_of front) (messages_of past)
 
 module _ (laws : HistoryLaws) (f : FirstSeq) (events given : List Incoming) (loads : List Load)
-    (from : Interleaves f [] events given loads) (past : History) (rest : Rest) (first_is : rest.first ≡ f)
-    (history : IsHistoryOf events past rest) (by : Closed) (own : Incoming) (item : Item)
+    (from : Interleaves f [] events given loads) (past : History) (rest : Rest)
+    (history : IsHistoryOf f events past rest) (by : Closed) (own : Incoming) (item : Item)
     (closing : Closing by own item) (ending_is : ending_of past ≡ Some (ending.Closed by)) where
   pub answers_up_to : AnswersUpTo own f events past
   answers_up_to = record {
@@ -258,50 +256,50 @@ module _ (laws : HistoryLaws) (f : FirstSeq) (events given : List Incoming) (loa
     back = such.back;
     events_are = such.are;
     answers = record {
-      contents = told.0;
-      rest = parts.between.bytes;
-      frames = told.1;
-      unfinished = (laws.unread such.front parts.mid parts.between parts.before way.0).0 none_waits;
       requests = requests;
-      read = subst (λ n. AreReadAs n told.0 requests) (parts.first_is ∙ first_is)
-          (subst (λ l. AreReadAs parts.between.first told.0 l)
-          (ap (λ o. requests ++ waiting o) none_waits ∙ append-nil requests) told.2);
-      answers = laws.answered events past rest history
+      rest = parts.between.bytes;
+      unfinished = (laws.unread f such.front parts.mid parts.between parts.before way.0).0 none_waits;
+      answers = record {
+      contents = told.0;
+      frames = told.1;
+      read = subst (AreReadAs f told.0) (ap (λ o. requests ++ waiting o) none_waits ∙ append-nil requests) told.2;
+      answers = laws.answered f events past rest history
           ∙ ap (λ h. filter_map request_of_item (items_of h)) past_is
           ∙ none_asked parts.mid step (ap request_of_item way.1.item_is ∙ closing.unasked)
           ∙ sym (asked_are (items_of parts.mid));
+      };
     };
   }
     where
       there : IsAmong own events
-      there = closing.among events past rest history ending_is
+      there = closing.among f events past rest history ending_is
 
       such : FirstSuch own events
       such = first_such own closing.known events there.0 there.1 there.2
 
-      parts : IsHistoryParted such.front own such.back past rest
-      parts = history_parted such.front own such.back past rest
-          (subst (λ l. IsHistoryOf l past rest) such.are history)
+      parts : IsHistoryParted f such.front own such.back past rest
+      parts = history_parted f such.front own such.back past rest
+          (subst (λ l. IsHistoryOf f l past rest) such.are history)
 
       -- it was not over before
       was_taken : MayTake parts.mid item parts.next → IsTaking parts.mid × IsAfter parts.mid item parts.next
       was_taken (inr is) = is
       was_taken (inl is) =
           let same : past ≡ parts.mid =
-          stays laws.taken such.front (own ∷ such.back) parts.mid parts.between past rest parts.before is.0
+          stays laws.taken f such.front (own ∷ such.back) parts.mid parts.between past rest parts.before is.0
           (parts.next, parts.after, parts.at, parts.later) in
-          absurd (such.first (closing.among such.front parts.mid parts.between parts.before
+          absurd (such.first (closing.among f such.front parts.mid parts.between parts.before
           (ap ending_of (sym same) ∙ ending_is)))
 
       way : IsTaking parts.mid × IsAfter parts.mid item parts.next
-      way = was_taken (closing.takes parts.mid parts.between parts.next parts.after parts.at)
+      way = was_taken (closing.takes f parts.mid parts.between parts.next parts.after parts.at)
 
       step : Step
       step = way.1.step
 
       past_is : past ≡ parts.mid ++ step ∷ []
       past_is =
-          stays laws.taken (such.front ++ own ∷ []) such.back parts.next parts.after past rest parts.up_to
+          stays laws.taken f (such.front ++ own ∷ []) such.back parts.next parts.after past rest parts.up_to
           (closes_there laws.ends closing parts way.1) parts.later
           ∙ way.1.new_is
 
@@ -309,8 +307,7 @@ module _ (laws : HistoryLaws) (f : FirstSeq) (events given : List Incoming) (loa
       awaits = awaits_none f own closing.last [] events given loads from such.front such.back such.are
 
       same_there : (parts.mid ≡ awaits.past) × (parts.between ≡ awaits.rest)
-      same_there = laws.one such.front parts.mid awaits.past parts.between awaits.rest parts.before awaits.history
-          (parts.first_is ∙ first_is ∙ sym awaits.first_is)
+      same_there = laws.one f such.front parts.mid awaits.past parts.between awaits.rest parts.before awaits.history
 
       by_waits : (¬ IsTaking awaits.past) ⊎ (awaits.rest.launch ≡ None) → parts.between.launch ≡ None
       by_waits (inl over) = absurd (over (subst (λ h. IsTaking h) same_there.0 way.0))
@@ -323,8 +320,8 @@ module _ (laws : HistoryLaws) (f : FirstSeq) (events given : List Incoming) (loa
       requests = filter_map read_as (items_of parts.mid)
 
       told : (contents : List (List ℕ)) × Frames (stream_of such.front) contents parts.between.bytes
-          × AreReadAs parts.between.first contents (contents_read parts.mid parts.between.launch)
-      told = laws.contents such.front parts.mid parts.between parts.before
+          × AreReadAs f contents (contents_read parts.mid parts.between.launch)
+      told = laws.contents f such.front parts.mid parts.between parts.before
 
 -- ---- no event comes after one that closes a session
 
@@ -342,32 +339,33 @@ among_earlier own last other (x ∷ front) back (y ∷ earlier) is =
 
 -- a session that takes items has taken none
 none_taken : EventsAreTaken → EachItemEndsOrNot → {by : Closed} {own : Incoming} {item : Item} → Closing by own item
-    → (events : List Incoming) (past : History) (rest : Rest) → IsHistoryOf events past rest → IsTaking past
+    → (f : FirstSeq) (events : List Incoming) (past : History) (rest : Rest) → IsHistoryOf f events past rest
+    → IsTaking past
     → ¬ IsAmong own events
-none_taken taken ends {by} {own} {item} closing events past rest history taking (front, back, is) =
-    over (closing.takes parts.mid parts.between parts.next parts.after parts.at)
+none_taken taken ends {by} {own} {item} closing f events past rest history taking (front, back, is) =
+    over (closing.takes f parts.mid parts.between parts.next parts.after parts.at)
   where
-    parts : IsHistoryParted front own back past rest
-    parts = history_parted front own back past rest (subst (λ l. IsHistoryOf l past rest) is history)
+    parts : IsHistoryParted f front own back past rest
+    parts = history_parted f front own back past rest (subst (λ l. IsHistoryOf f l past rest) is history)
 
     over : MayTake parts.mid item parts.next → ⊥
     over (inl before) =
         before.0 (subst IsTaking
-        (stays taken front (own ∷ back) parts.mid parts.between past rest parts.before before.0
+        (stays taken f front (own ∷ back) parts.mid parts.between past rest parts.before before.0
         (parts.next, parts.after, parts.at, parts.later))
         taking)
     over (inr there) =
         let closed_there = closes_there ends closing parts there.1 in
         closed_there (subst IsTaking
-        (stays taken (front ++ own ∷ []) back parts.next parts.after past rest parts.up_to closed_there parts.later)
+        (stays taken f (front ++ own ∷ []) back parts.next parts.after past rest parts.up_to closed_there parts.later)
         taking)
 
 nothing_after : EventsAreTaken → EachItemEndsOrNot → {by : Closed} {own : Incoming} {item : Item} → Closing by own item
     → {f : FirstSeq} {events : List Incoming} → ReachesLast f events
     → (front back : List Incoming) → events ≡ front ++ own ∷ back → back ≡ []
 nothing_after taken ends closing reaches front [] is = refl
-nothing_after taken ends {by} {own} closing reaches front (other ∷ back) is =
-    absurd (none_taken taken ends closing reaches.before reaches.past reaches.rest reaches.history reaches.taking
+nothing_after taken ends {by} {own} closing {f = f} reaches front (other ∷ back) is =
+    absurd (none_taken taken ends closing f reaches.before reaches.past reaches.rest reaches.history reaches.taking
     (among_earlier own reaches.last other front back reaches.before (sym is ∙ reaches.events_are)))
 
 -- ---- all together
@@ -384,20 +382,20 @@ by_end : ClosedByItsEvent → Closing closed.InputEnded End InputEnd
 by_end closed_by = record {
   last = tt;
   known = known_end;
-  takes = λ past rest new left leads. leads.0;
+  takes = λ f past rest new left leads. leads.0;
   unasked = refl;
   ends = refl;
-  among = λ events past rest history is. (closed_by events past rest history).0 is;
+  among = λ f events past rest history is. (closed_by f events past rest history).0 is;
 }
 
 by_failure : ClosedByItsEvent → Closing closed.ReadFailed ReadFailed ReadFailure
 by_failure closed_by = record {
   last = tt;
   known = known_failure;
-  takes = λ past rest new left leads. leads.0;
+  takes = λ f past rest new left leads. leads.0;
   unasked = refl;
   ends = refl;
-  among = λ events past rest history is. (closed_by events past rest history).1 is;
+  among = λ f events past rest history is. (closed_by f events past rest history).1 is;
 }
 
 failures_grow : (e : Incoming) (old later : Supply) → IsRead e old later → old.failures ≤ later.failures
@@ -427,7 +425,7 @@ answers_all_read : HistoryLaws → (f : FirstSeq) (before after : World) (by : C
 answers_all_read laws f before after by own item closing driven taken ends (closes from serves) =
     let told =
     answers_up_to laws f driven.session.events driven.given driven.session.loaded from serves.past serves.rest
-    serves.first_is serves.history by own item closing serves.ending_is in
+    serves.history by own item closing serves.ending_is in
     let all =
     takes_all f driven.session.events driven.given driven.reader.client driven.session.loaded driven.reader.end
     before.streams.input after.streams.input from driven.reader.read driven.reader.of_whole taken own closing.last
@@ -464,7 +462,7 @@ input_taken_whole taken ends closed_by f wrote before after driven = by_drives d
         → TakesWholeInput driven.session.events before.streams.input after.streams.input
     by_drives (closes from serves) =
         let there : IsAmong End driven.session.events =
-        (by_end closed_by).among driven.session.events serves.past serves.rest serves.history serves.ending_is in
+        (by_end closed_by).among f driven.session.events serves.past serves.rest serves.history serves.ending_is in
         let all =
         takes_all f driven.session.events driven.given driven.reader.client driven.session.loaded driven.reader.end
         before.streams.input after.streams.input from driven.reader.read driven.reader.of_whole

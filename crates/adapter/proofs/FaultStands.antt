@@ -16,7 +16,7 @@ use Rattle.dap_history.specs.declared.launch.Launch.{Launch}
 use Rattle.dap_history.specs.History.{Item, Content, Loaded, Accepted, Fault, InputEnd, ReadFailure, MemoryFailure, History}
 use Rattle.dap_history.specs.Readings.{closing_command, closing_report, closing, ending_of}
 use Rattle.dap_history.specs.Emission.{IsAfter}
-use Rattle.dap_history.specs.Events.{Incoming, Piece, End, ReadFailed, File, Report, Rest, only_bytes, IsTaking, Takes, one_more, closed, open_ended, faulty, waits, MayTake, LeadsByPiece, LeadsByFile, LeadsByReport, LeadsByEvent, LeadsByEvents, IsHistoryOf}
+use Rattle.dap_history.specs.Events.{Incoming, Piece, End, ReadFailed, File, Report, Rest, only_bytes, IsTaking, TakesSome, no_content, one_content, Rests, closed, open_ended, faulty, waits, Takes, MayTake, LeadsByPiece, LeadsByFile, LeadsByReport, LeadsByEvent, LeadsByEvents, IsHistoryOf}
 use Rattle.dap_history.specs.Events.{NoMemory as NoMemoryCame}
 use Rattle.dap_history.proofs.Closings.{ends_by}
 use Rattle.dap_history.proofs.Cuts.{fault_more}
@@ -65,49 +65,59 @@ same_there : (past new : History) (rest left : Rest) → new ≡ past → left �
 same_there past new rest left same_past same_rest here =
     subst (λ h. FaultStands h left) (sym same_past) (subst (FaultStands past) (sym same_rest) here)
 
-takes_stand : {first : FirstSeq} {past : History} {bytes : List ℕ} {new : History} {rest : Rest}
-    → Takes first past bytes new rest → FaultStands past (only_bytes first bytes) → FaultStands new rest
-takes_stand {first = first} {past = past} (one_more {mid = mid} {more = more} request taking front unwanted after taken)
-    here =
-    takes_stand taken (other_item past (Content request) mid (only_bytes first more) taking after tt)
-takes_stand (closed not) here = here
-takes_stand (open_ended taking is) here = here
-takes_stand {past = past} {bytes = bytes} (faulty k new taking fault after) here = λ j is.
+some_stand : {first : FirstSeq} {past new : History} {bytes left : List ℕ} → TakesSome first past bytes new left
+    → FaultStands past (only_bytes bytes) → FaultStands new (only_bytes left)
+some_stand no_content here = here
+some_stand {first = first} {past = past}
+    (one_content {mid = mid} {more = more} request taking front unwanted after some) here =
+    some_stand some (other_item past (Content request) mid (only_bytes more) taking after tt)
+
+rests_stand : {first : FirstSeq} {past : History} {bytes : List ℕ} {new : History} {rest : Rest}
+    → Rests first past bytes new rest → FaultStands past (only_bytes bytes) → FaultStands new rest
+rests_stand (closed not) here = here
+rests_stand (open_ended taking is) here = here
+rests_stand {past = past} {bytes = bytes} (faulty k new taking fault after) here = λ j is.
     let e : Some (ending.Fault (Frame k)) ≡ Some (ending.Fault (Frame j)) =
     sym (ends_by past (Fault k) new taking after) ∙ is in
     let same : k ≡ j = cc in
     (refl, subst (FaultAt bytes) same fault)
-takes_stand (waits request launch more taking front wanted) here = λ k is. let e = sym taking ∙ is in absurd cc
+rests_stand (waits request launch more taking front wanted) here = λ k is. let e = sym taking ∙ is in absurd cc
+
+takes_stand : (first : FirstSeq) (past : History) (bytes : List ℕ) (new : History) (rest : Rest)
+    → Takes first past bytes new rest → FaultStands past (only_bytes bytes) → FaultStands new rest
+takes_stand first past bytes new rest taken here = rests_stand taken.3 (some_stand taken.2 here)
 
 may_stand : (past : History) (item : Item) (new : History) (rest : Rest) → IsNoFault item → MayTake past item new
     → FaultStands past rest → FaultStands new rest
 may_stand past item new rest other (inl over) here = same_there past new rest rest over.1 refl here
 may_stand past item new rest other (inr is) here = other_item past item new rest is.0 is.1 other
 
-piece_stands : (past : History) (rest : Rest) (launch : Option Launch) (piece : List ℕ) (new : History) (left : Rest)
-    → rest.launch ≡ launch → LeadsByPiece rest.first past launch (rest.bytes ++ piece) new left → FaultStands past rest
+piece_stands : (f : FirstSeq) (past : History) (rest : Rest) (launch : Option Launch) (piece : List ℕ) (new : History)
+    (left : Rest)
+    → rest.launch ≡ launch → LeadsByPiece f past launch (rest.bytes ++ piece) new left → FaultStands past rest
     → FaultStands new left
-piece_stands past rest None piece new left same leads here =
-    takes_stand leads (λ k is. (refl, fault_more rest.bytes piece k (here k is).1))
-piece_stands past rest (Some launch) piece new left same leads here = λ k is.
+piece_stands f past rest None piece new left same leads here =
+    takes_stand f past (rest.bytes ++ piece) new left leads
+    (λ k is. (refl, fault_more rest.bytes piece k (here k is).1))
+piece_stands f past rest (Some launch) piece new left same leads here = λ k is.
     let e = sym same ∙ (here k (sym (ap ending_of leads.0) ∙ is)).0 in absurd cc
 
-file_stands : (past : History) (rest : Rest) (launch : Option Launch) (file : Result (List ℕ) LoadFault)
-    (new : History) (left : Rest) → LeadsByFile past rest launch file new left → FaultStands past rest
+file_stands : (f : FirstSeq) (past : History) (rest : Rest) (launch : Option Launch) (file : Result (List ℕ) LoadFault)
+    (new : History) (left : Rest) → LeadsByFile f past rest launch file new left → FaultStands past rest
     → FaultStands new left
-file_stands past rest None file new left leads here = same_there past new rest left leads.0 leads.1 here
-file_stands past rest (Some launch) (Ok file) new left (inl over) here =
+file_stands f past rest None file new left leads here = same_there past new rest left leads.0 leads.1 here
+file_stands f past rest (Some launch) (Ok file) new left (inl over) here =
     same_there past new rest left over.1 over.2 here
-file_stands past rest (Some launch) (Ok file) new left (inr loads) here =
-    takes_stand loads.after
-    (other_item past (Loaded launch (Some file)) loads.mid (only_bytes rest.first rest.bytes) loads.taking loads.loaded
+file_stands f past rest (Some launch) (Ok file) new left (inr loads) here =
+    takes_stand f loads.mid rest.bytes new left loads.after
+    (other_item past (Loaded launch (Some file)) loads.mid (only_bytes rest.bytes) loads.taking loads.loaded
     tt)
-file_stands past rest (Some launch) (Err load_fault.CannotRead) new left (inl over) here =
+file_stands f past rest (Some launch) (Err load_fault.CannotRead) new left (inl over) here =
     same_there past new rest left over.1 over.2 here
-file_stands past rest (Some launch) (Err load_fault.CannotRead) new left (inr loads) here =
-    takes_stand loads.after
-    (other_item past (Loaded launch None) loads.mid (only_bytes rest.first rest.bytes) loads.taking loads.loaded tt)
-file_stands past rest (Some launch) (Err load_fault.NoMemory) new left leads here =
+file_stands f past rest (Some launch) (Err load_fault.CannotRead) new left (inr loads) here =
+    takes_stand f loads.mid rest.bytes new left loads.after
+    (other_item past (Loaded launch None) loads.mid (only_bytes rest.bytes) loads.taking loads.loaded tt)
+file_stands f past rest (Some launch) (Err load_fault.NoMemory) new left leads here =
     subst (FaultStands new) (sym leads.1) (may_stand past MemoryFailure new rest tt leads.0 here)
 
 report_stands : (past : History) (rest : Rest) (r : PlainReport) (new : History) → LeadsByReport past r new
@@ -115,28 +125,29 @@ report_stands : (past : History) (rest : Rest) (r : PlainReport) (new : History)
 report_stands past rest r new (inl over) here = same_there past new rest rest over.1 refl here
 report_stands past rest r new (inr is) here = other_item past (Accepted r) new rest is.0 is.2 tt
 
-event_stands : (past : History) (rest : Rest) (e : Incoming) (new : History) (left : Rest)
-    → LeadsByEvent past rest e new left → FaultStands past rest → FaultStands new left
-event_stands past rest (Piece piece) new left leads here =
-    piece_stands past rest rest.launch piece new left refl leads here
-event_stands past rest End new left leads here =
+event_stands : (f : FirstSeq) (past : History) (rest : Rest) (e : Incoming) (new : History) (left : Rest)
+    → LeadsByEvent f past rest e new left → FaultStands past rest → FaultStands new left
+event_stands f past rest (Piece piece) new left leads here =
+    piece_stands f past rest rest.launch piece new left refl leads here
+event_stands f past rest End new left leads here =
     subst (FaultStands new) (sym leads.1) (may_stand past InputEnd new rest tt leads.0 here)
-event_stands past rest ReadFailed new left leads here =
+event_stands f past rest ReadFailed new left leads here =
     subst (FaultStands new) (sym leads.1) (may_stand past ReadFailure new rest tt leads.0 here)
-event_stands past rest NoMemoryCame new left leads here =
+event_stands f past rest NoMemoryCame new left leads here =
     subst (FaultStands new) (sym leads.1) (may_stand past MemoryFailure new rest tt leads.0 here)
-event_stands past rest (File file) new left leads here = file_stands past rest rest.launch file new left leads here
-event_stands past rest (Report r) new left leads here =
+event_stands f past rest (File file) new left leads here = file_stands f past rest rest.launch file new left leads here
+event_stands f past rest (Report r) new left leads here =
     subst (FaultStands new) (sym leads.1) (report_stands past rest r new leads.0 here)
 
-events_stand : (past : History) (rest : Rest) (events : List Incoming) (new : History) (left : Rest)
-    → LeadsByEvents past rest events new left → FaultStands past rest → FaultStands new left
-events_stand past rest [] new left all here = same_there past new rest left all.0 all.1 here
-events_stand past rest (e ∷ events) new left all here =
-    events_stand all.0 all.1 events new left all.3 (event_stands past rest e all.0 all.1 all.2 here)
+events_stand : (f : FirstSeq) (past : History) (rest : Rest) (events : List Incoming) (new : History) (left : Rest)
+    → LeadsByEvents f past rest events new left → FaultStands past rest → FaultStands new left
+events_stand f past rest [] new left all here = same_there past new rest left all.0 all.1 here
+events_stand f past rest (e ∷ events) new left all here =
+    events_stand f all.0 all.1 events new left all.3 (event_stands f past rest e all.0 all.1 all.2 here)
 
-pub fault_stands : (events : List Incoming) (past : History) (rest : Rest) → IsHistoryOf events past rest
+pub fault_stands : (f : FirstSeq) (events : List Incoming) (past : History) (rest : Rest)
+    → IsHistoryOf f events past rest
     → FaultStands past rest
-fault_stands events past rest history =
-    events_stand [] (only_bytes rest.first []) events past rest history
-    (none_ended [] (only_bytes rest.first []) refl)
+fault_stands f events past rest history =
+    events_stand f [] (only_bytes []) events past rest history
+    (none_ended [] (only_bytes []) refl)

@@ -260,12 +260,12 @@ takes_client : (f : FirstSeq) (result : Result Closed SessionFault) (events give
     → TakenOfSent result (from_client given) client
 takes_client f (Ok closed.Disconnected) events given client loads sent end old later drives read begins = begins
 takes_client f (Ok closed.InputEnded) events given client loads sent end old later (closes from serves) read begins =
-    let by = closed_by_end events serves.past serves.rest serves.history serves.ending_is in
+    let by = closed_by_end f events serves.past serves.rest serves.history serves.ending_is in
     let own = interleaved_end f events given loads from by.0 by.1 by.2 in
     all_taken end (from_client given) client (from_client own.0) (from_client own.1) End old later read begins (λ p. p)
     (ap from_client own.2 ∙ client_append own.0 (End ∷ own.1))
 takes_client f (Ok closed.ReadFailed) events given client loads sent end old later (closes from serves) read begins =
-    let by = closed_by_failure events serves.past serves.rest serves.history serves.ending_is in
+    let by = closed_by_failure f events serves.past serves.rest serves.history serves.ending_is in
     let own = interleaved_failure f events given loads from by.0 by.1 by.2 in
     all_taken end (from_client given) client (from_client own.0) (from_client own.1) ReadFailed old later read begins
     (λ p. p) (ap from_client own.2 ∙ client_append own.0 (ReadFailed ∷ own.1))
@@ -279,7 +279,8 @@ all_orders f events by sent acts serves begins (inl quits) =
     let whole : orders_of serves.past ≡ quits.0 ++ Quit ∷ begins.0 =
     sym serves.orders_are ∙ (sym begins.1 ∙ (ap (λ l. l ++ begins.0) quits.1
     ∙ append_assoc quits.0 (Quit ∷ []) begins.0)) in
-    let nothing : begins.0 ≡ [] = quit_is_last events serves.past serves.rest serves.history quits.0 begins.0 whole in
+    let nothing : begins.0 ≡ [] =
+    quit_is_last f events serves.past serves.rest serves.history quits.0 begins.0 whole in
     inl (sym (append-nil (flat_map order_in acts)) ∙ (ap (λ l. flat_map order_in acts ++ l) (sym nothing) ∙ begins.1))
 all_orders f events by sent acts serves begins (inr refused) = inr (begins, refused)
 

@@ -16,7 +16,7 @@ use Rattle.dap_history.specs.Events.{Incoming, Piece, End, ReadFailed, File, Rep
 use Rattle.dap_history.specs.Events.{NoMemory as NoMemoryCame}
 use Rattle.dap_history.specs.Interleaving.{Load, IsLoad, Interleaves}
 use Rattle.dap_history.specs.Laws.{stream_of, DisconnectIsLast}
-use Rattle.dap_history.proofs.Closings.{IsFile}
+use Rattle.dap_history.proofs.Closings.{IsFile, first_event, later_events}
 use Rattle.dap_session.specs.Sending.{IsPrefixOf}
 use Rattle.dap_session.specs.Serving.{SessionOutcome, closes}
 use Rattle.dap_wires.specs.declared.reading.ReadEnd.{ReadEnd}
@@ -99,14 +99,6 @@ lost_stream ends.NoMemory lost mid later loses =
     subst (λ l. Appends mid.read later.read (stream_of l)) (sym loses.0) (consumed_at mid later loses.1)
 
 -- ---- the reader came to an end
-
-abbrev pub first_event : Incoming → List Incoming → Incoming
-first_event other [] = other
-first_event other (e ∷ events) = e
-
-abbrev pub later_events : List Incoming → List Incoming
-later_events [] = []
-later_events (e ∷ events) = events
 
 -- the input's end or a failed read, which a reader sends last
 abbrev pub IsLast : Incoming → Type 0
@@ -359,20 +351,19 @@ not_none (y ∷ xs) x is = absurd cc
 
 module _ (last : DisconnectIsLast) (f : FirstSeq) (events : List Incoming) (old later : Supply)
     (all : BeginsRead events old later) where
-  first_disconnect : (past : History) (rest : Rest) → rest.first ≡ f → IsHistoryOf events past rest
+  first_disconnect : (past : History) (rest : Rest) → IsHistoryOf f events past rest
       → ending_of past ≡ Some (ending.Closed closed.Disconnected) → TakesFirstDisconnect f events old later
-  first_disconnect past rest same_first history is = record {
+  first_disconnect past rest history is = record {
     read = all.read;
     consumed = all.consumed;
     begins = all.begins;
     before = closer.front;
     step = closer.found;
     rest = rest;
-    first_is = same_first;
-    history = subst (λ h. IsHistoryOf events h rest) past_is history;
+    history = subst (λ h. IsHistoryOf f events h rest) past_is history;
     asks = asks;
     first = λ front other back before_is others.
-        not_none back closer.found (last events past rest history front other (back ++ closer.found ∷ []) others.0
+        not_none back closer.found (last f events past rest history front other (back ++ closer.found ∷ []) others.0
         (past_is ∙ ap (λ l. l ++ closer.found ∷ []) before_is ∙ append_assoc front (other ∷ back) (closer.found ∷ []))
         others.1).0;
   }
@@ -386,7 +377,7 @@ module _ (last : DisconnectIsLast) (f : FirstSeq) (events : List Incoming) (old 
       past_is : past ≡ closer.front ++ closer.found ∷ []
       past_is =
           closer.are ∙ ap (λ l. closer.front ++ closer.found ∷ l)
-          (last events past rest history closer.front closer.found closer.back asks.0 closer.are asks.1).0
+          (last f events past rest history closer.front closer.found closer.back asks.0 closer.are asks.1).0
 
 pub first_disconnect_closes : DisconnectIsLast → FirstDisconnectCloses
 first_disconnect_closes last f wrote before after driven = by_drives session.drives
@@ -402,4 +393,4 @@ first_disconnect_closes last f wrote before after driven = by_drives session.dri
         (begins_read f session.events driven.given driven.reader.client session.loaded driven.reader.end
         before.streams.input after.streams.input from driven.reader.read driven.reader.of_whole
         driven.reader.client_taken)
-        serves.past serves.rest serves.first_is serves.history serves.ending_is
+        serves.past serves.rest serves.history serves.ending_is

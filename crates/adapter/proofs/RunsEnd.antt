@@ -371,11 +371,11 @@ takes_first by acts pushed (inr some) = some.0
 
 module _ (f : FirstSeq) (events given : List Incoming) (loads : List Load) (past : History) (rest : Rest)
     (acts : List Act)
-    (from : Interleaves f [] events given loads) (history : IsHistoryOf events past rest)
+    (from : Interleaves f [] events given loads) (history : IsHistoryOf f events past rest)
     (orders : IsPrefixOf (flat_map order_in acts) (orders_of past))
     (reports : IsPrefixOf (reports_among given) (flat_map sent_in acts)) where
   ended : RunsEnd past
-  ended = along (λ e. Unit {0}) RunsEnd (runs_end_kept (λ e. Unit {0})) runs_end_first events past rest
+  ended = along (λ e. Unit {0}) RunsEnd (runs_end_kept (λ e. Unit {0})) runs_end_first f events past rest
       (any_events events) history
 
   all_runs_are : filter_map go (flat_map order_in acts) ++ filter_map go orders.0 ≡ filter_map go (orders_of past)
@@ -397,7 +397,7 @@ module _ (f : FirstSeq) (events given : List Incoming) (loads : List Load) (past
   -- the next run was ordered only after a last report of this one had come
   not_endless : (n : ℕ) → ¬ IsEndless n acts
   not_endless n endless =
-      along (IsOther n) (λ p. ¬ HasEnded n p) (not_ended_kept n) (λ none. none) events past rest
+      along (IsOther n) (λ p. ¬ HasEnded n p) (not_ended_kept n) (λ none. none) f events past rest
       (others_come f n [] events given loads from (others_given n given
       (no_end_front n (reports_among given) reports.0 (subst (NoEnd n) (sym reports.1) endless.none))))
       history

@@ -110,11 +110,11 @@ read_with_last past step asks =
     ∙ ap (λ i. filter_map read_as (items_of past) ++ cons_option (read_as i) []) asks.1
 
 -- the answers to what is read of the items
-answers_are : EachIsAnsweredOnce → (events : List Incoming) (past : History) (rest : Rest)
-    → IsHistoryOf events past rest
+answers_are : EachIsAnsweredOnce → (f : FirstSeq) (events : List Incoming) (past : History) (rest : Rest)
+    → IsHistoryOf f events past rest
     → filter_map answered_request (messages_of past) ≡ filter_map asked (filter_map read_as (items_of past))
-answers_are answered events past rest history =
-    answered events past rest history ∙ sym (asked_are (items_of past))
+answers_are answered f events past rest history =
+    answered f events past rest history ∙ sym (asked_are (items_of past))
 
 -- ---- up to a `disconnect`
 
@@ -136,11 +136,11 @@ module _ (one : HistoryIsOne) (contents : ContentsAreOfTheStream) (answered : Ea
       frames = subst (λ bytes. Frames bytes first.contents (first.rest ++ taken.begins.0)) taken.begins.1
           (frames_before_more (stream_of driven.session.events) first.contents first.rest taken.begins.0 first.frames);
       read = first.read;
-      answers = answers_are answered driven.session.events all_taken taken.rest taken.history
+      answers = answers_are answered f driven.session.events all_taken taken.rest taken.history
           ∙ ap (filter_map asked) read_are;
     };
     before = messages_of taken.before;
-    is_last = (last driven.session.events all_taken taken.rest taken.history taken.before taken.step [] taken.asks.0
+    is_last = (last f driven.session.events all_taken taken.rest taken.history taken.before taken.step [] taken.asks.0
         refl taken.asks.1).1;
   }
     where
@@ -151,15 +151,13 @@ module _ (one : HistoryIsOne) (contents : ContentsAreOfTheStream) (answered : Ea
       read_are = read_with_last taken.before taken.step taken.asks
 
       told : (contents : List (List ℕ)) × Frames (stream_of driven.session.events) contents taken.rest.bytes
-          × AreReadAs taken.rest.first contents (filter_map read_as (items_of all_taken) ++ waiting taken.rest.launch)
-      told = contents driven.session.events all_taken taken.rest taken.history
+          × AreReadAs f contents (filter_map read_as (items_of all_taken) ++ waiting taken.rest.launch)
+      told = contents f driven.session.events all_taken taken.rest taken.history
 
       first : FirstFrames f (stream_of driven.session.events) (earlier ++ disconnect taken.asks.0 ∷ [])
       first = first_frames f (earlier ++ disconnect taken.asks.0 ∷ []) (waiting taken.rest.launch)
           (stream_of driven.session.events) told.0 taken.rest.bytes told.1
-          (subst (λ n. AreReadAs n told.0 ((earlier ++ disconnect taken.asks.0 ∷ []) ++ waiting taken.rest.launch))
-          taken.first_is
-          (subst (λ l. AreReadAs taken.rest.first told.0 (l ++ waiting taken.rest.launch)) read_are told.2))
+          (subst (λ l. AreReadAs f told.0 (l ++ waiting taken.rest.launch)) read_are told.2)
 
   disconnected : SessionOutcome f driven.session.events driven.given driven.session.loaded nothing_sent driven.sent
       (Ok closed.Disconnected) → AnswersRead (AnswersToDisconnect f) before after
@@ -168,8 +166,8 @@ module _ (one : HistoryIsOne) (contents : ContentsAreOfTheStream) (answered : Ea
     consumed = taken.consumed;
     messages = messages_of serves.past;
     answers = subst (λ h. AnswersToDisconnect f taken.read (messages_of h))
-        (one driven.session.events all_taken serves.past taken.rest serves.rest taken.history serves.history
-        (taken.first_is ∙ sym serves.first_is)).0 to_disconnect;
+        (one f driven.session.events all_taken serves.past taken.rest serves.rest taken.history serves.history).0
+        to_disconnect;
     written = subst (λ frames. WritesAll (concat frames) before.streams.output after.streams.output)
         serves.frames_are driven.writer.written;
   }
@@ -185,18 +183,16 @@ disconnect_is_answered one contents answered last f before after served =
 
 to_fault : ContentsAreOfTheStream → EachIsAnsweredOnce → (k : FramingFault) (f : FirstSeq) (events : List Incoming)
     (past : History) (rest : Rest)
-    → rest.first ≡ f → IsHistoryOf events past rest → (rest.launch ≡ None) → (more : List ℕ)
+    → IsHistoryOf f events past rest → (rest.launch ≡ None) → (more : List ℕ)
     → FaultAt (rest.bytes ++ more) k → AnswersToFault k f (stream_of events ++ more) (messages_of past)
-to_fault of_stream answered k f events past rest first_is history none_waits more stands = record {
+to_fault of_stream answered k f events past rest history none_waits more stands = record {
   requests = requests;
   rest = rest.bytes ++ more;
   answers = record {
     contents = told.0;
     frames = frames_before_more (stream_of events) told.0 rest.bytes more told.1;
-    read = subst (λ n. AreReadAs n told.0 requests) first_is
-        (subst (AreReadAs rest.first told.0)
-        (ap (λ o. requests ++ waiting o) none_waits ∙ append-nil requests) told.2);
-    answers = answers_are answered events past rest history;
+    read = subst (AreReadAs f told.0) (ap (λ o. requests ++ waiting o) none_waits ∙ append-nil requests) told.2;
+    answers = answers_are answered f events past rest history;
   };
   stands = stands;
 }
@@ -205,8 +201,8 @@ to_fault of_stream answered k f events past rest first_is history none_waits mor
     requests = filter_map read_as (items_of past)
 
     told : (contents : List (List ℕ)) × Frames (stream_of events) contents rest.bytes
-        × AreReadAs rest.first contents (requests ++ waiting rest.launch)
-    told = of_stream events past rest history
+        × AreReadAs f contents (requests ++ waiting rest.launch)
+    told = of_stream f events past rest history
 
 no_framing_fault : (fault : SessionFault) (k : FramingFault) → CannotSend fault → ¬ (fault ≡ Frame k)
 no_framing_fault fault k no_seq_is_left is = absurd cc
@@ -222,7 +218,7 @@ at_fault contents answered k f before after driven (ends_at_fault from serves) =
     let all = begins_read f driven.session.events driven.given driven.reader.client driven.session.loaded
     driven.reader.end before.streams.input after.streams.input from driven.reader.read
     driven.reader.of_whole driven.reader.client_taken in
-    let there = fault_stands driven.session.events serves.serves.past serves.serves.rest serves.serves.history k
+    let there = fault_stands f driven.session.events serves.serves.past serves.serves.rest serves.serves.history k
     serves.serves.ending_is in
     record {
       read = all.read;
@@ -230,7 +226,7 @@ at_fault contents answered k f before after driven (ends_at_fault from serves) =
       messages = messages_of serves.serves.past;
       answers = subst (λ bytes. AnswersToFault k f bytes (messages_of serves.serves.past)) all.begins.1
           (to_fault contents answered k f driven.session.events serves.serves.past serves.serves.rest
-          serves.serves.first_is serves.serves.history there.0 all.begins.0
+          serves.serves.history there.0 all.begins.0
           (fault_more serves.serves.rest.bytes all.begins.0 k there.1));
       written = subst (λ frames. WritesAll (concat frames) before.streams.output after.streams.output)
           (serves.quit.frames_are ∙ serves.serves.frames_are) driven.writer.written;

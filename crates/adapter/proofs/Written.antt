@@ -12,7 +12,6 @@ use Rattle.dap_history.specs.History.{History, messages_of}
 use Rattle.dap_history.specs.Output.{frames_from}
 use Rattle.dap_history.specs.Interleaving.{Load, Interleaves}
 use Rattle.dap_history.specs.Laws.{HistoryIsOne}
-use Rattle.dap_history.specs.ReadingLaws.{ReadingsGoOn}
 use Rattle.dap_history.proofs.OneHistory.{IsReadOnce}
 use Rattle.dap_session.specs.Ports.{Ports}
 use Rattle.dap_session.specs.Laws.{IsReached}
@@ -69,7 +68,7 @@ takes_part (Err failed) put frames old later wrote begins =
       );
     }
 
-module _ (laws : ReadingsGoOn) (once : IsReadOnce) (one : HistoryIsOne) where
+module _ (once : IsReadOnce) (one : HistoryIsOne) where
   pub output_is_of_history : OutputIsOfHistory
   output_is_of_history f wrote result before after driven = record {
     read = taken.read;
@@ -96,7 +95,7 @@ module _ (laws : ReadingsGoOn) (once : IsReadOnce) (one : HistoryIsOne) where
 
       few : (reached : History) × IsReached f session.events reached × PutsFew reached nothing_sent driven.sent
       few =
-          drives_few laws once one f result session.events driven.given session.loaded nothing_sent driven.sent
+          drives_few once one f result session.events driven.given session.loaded nothing_sent driven.sent
           session.lawful session.drives
 
       begins : IsPrefixOf driven.sent.frames (frames_from 1 (messages_of few.0))

@@ -22,16 +22,21 @@ abbrev pub asked : Option Request → Option (ℕ × CommandName)
 asked None = None
 asked (Some request) = Some (request.seq, name_of request.body)
 
--- The bytes are whole frames, and then less than one. The answers among the messages are, in order, one for each
--- request among the contents of these frames, under its own seq and command.
-pub record AnswersAll (first : FirstSeq) (bytes : List ℕ) (messages : List Outgoing) : Type 0 where
+-- The bytes are whole frames, whose contents are read as these, and then the rest. The answers among the messages are,
+-- in order, one for each request among the contents, under its own seq and command.
+pub record AnswersFrames (first : FirstSeq) (bytes : List ℕ) (requests : List (Option Request)) (rest : List ℕ)
+    (messages : List Outgoing) : Type 0 where
   pub contents : List (List ℕ)
-  pub rest : List ℕ
   pub frames : Frames bytes contents rest
-  pub unfinished : IsOpen rest
-  pub requests : List (Option Request)
   pub read : AreReadAs first contents requests
   pub answers : filter_map answered_request messages ≡ filter_map asked requests
+
+-- Behind the whole frames stands less than one.
+pub record AnswersAll (first : FirstSeq) (bytes : List ℕ) (messages : List Outgoing) : Type 0 where
+  pub requests : List (Option Request)
+  pub rest : List ℕ
+  pub answers : AnswersFrames first bytes requests rest messages
+  pub unfinished : IsOpen rest
 
 -- no byte is left, or a read failed
 abbrev pub ClosesBy : Closed → Supply → Supply → Type 0

@@ -66,8 +66,7 @@ pub record TakesFirstDisconnect (client_first : FirstSeq) (events : List Incomin
   pub before : History
   pub step : Step
   pub rest : Rest
-  pub first_is : rest.first ≡ client_first
-  pub history : IsHistoryOf events (before ++ step ∷ []) rest
+  pub history : IsHistoryOf client_first events (before ++ step ∷ []) rest
   pub asks : AsksToDisconnect step.item
   pub first : (front : History) (other : Step) (back : History) → before ≡ front ++ other ∷ back
       → ¬ AsksToDisconnect other.item

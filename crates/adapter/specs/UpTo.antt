@@ -1,7 +1,6 @@
 -- States what a client gets that disconnects, or whose input has a framing fault, in terms of bytes and messages alone.
 use Rattle.std.specs.Prelude.{◌≡◌, ◌++◌, ◌∷◌, [], ℕ, List, Option, Some, Ok, Err}
-use Rattle.std.specs.List.{concat, filter_map}
-use Rattle.dap_frame.specs.Frame.{Frames}
+use Rattle.std.specs.List.{concat}
 use Rattle.dap_frame.specs.Header.{FaultAt}
 use Rattle.dap_frame.specs.declared.fault.FramingFault.{FramingFault}
 use Rattle.dap_msg.specs.declared.command.Command.TheVariants as command
@@ -13,22 +12,12 @@ use Rattle.dap_msg.specs.declared.outgoing.Outgoing.TheVariants.{Answer}
 use Rattle.dap_msg.specs.declared.request.FirstSeq.{FirstSeq}
 use Rattle.dap_msg.specs.declared.request.Request.{Request}
 use Rattle.dap_history.specs.declared.fault.SessionFault.TheVariants.{Frame}
-use Rattle.dap_history.specs.Laws.{AreReadAs, answered_request}
 use Rattle.dap_history.specs.Output.{frames_from}
 use Rattle.byte_streams.specs.Streams.{WritesAll, IsReadOf}
 use Rattle.adapter.specs.declared.serving.Served.TheVariants.{Disconnected}
 use Rattle.adapter.specs.declared.serving.ServeFault.TheVariants.{Session}
-use Rattle.adapter.specs.AllRead.{asked}
+use Rattle.adapter.specs.AllRead.{AnswersFrames}
 use Rattle.adapter.specs.Serving.{World, IsServed}
-
--- The bytes are whole frames, whose contents are read as these, and then the rest. The answers among the messages are,
--- in order, one for each request among the contents, under its own seq and command.
-pub record AnswersFrames (first : FirstSeq) (bytes : List ℕ) (requests : List (Option Request)) (rest : List ℕ)
-    (messages : List Outgoing) : Type 0 where
-  pub contents : List (List ℕ)
-  pub frames : Frames bytes contents rest
-  pub read : AreReadAs first contents requests
-  pub answers : filter_map answered_request messages ≡ filter_map asked requests
 
 -- a request to disconnect
 abbrev pub disconnect : ℕ → Option Request

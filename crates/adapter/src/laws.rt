@@ -7,7 +7,7 @@ ghost use Rattle.adapter.specs.WorkedExits.{StatusesAre, LastLinesAre, FramingFa
 ghost use Rattle.adapter.specs.Laws.{OutcomeIsOfSession, InputIsTakenWhole, FirstDisconnectCloses, RunsEndOnce, NobodyIsGone, FullAfterEnough};
 
 use dap_frame::frame_laws;
-use dap_history::{command_laws, history_laws, reading_laws};
+use dap_history::{command_laws, history_laws};
 use dap_msg::message_laws;
 use dbg_runner::runner_laws;
 
@@ -27,7 +27,6 @@ pub fn serving_laws()
 {
     frame_laws();
     message_laws();
-    reading_laws();
     history_laws();
     command_laws();
     runner_laws();

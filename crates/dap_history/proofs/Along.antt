@@ -1,5 +1,5 @@
 -- What holds along a history: what holds at first and is kept by each item that is taken.
-use Rattle.dap_history.proofs.Common.{Accepted, Accepts, AreLawful, Content, Ending, Err, Fault, File, FirstSeq, History, Incoming, InputEnd, IsAfter, IsHistoryOf, IsLawfulReport, IsTaking, Item, Launch, LeadsByEvent, LeadsByEvents, LeadsByFile, LeadsByPiece, LeadsByReport, LoadFault, Loaded, Loads, MayTake, MemoryFailure, NoMemory, None, Ok, Option, Piece, PlainReport, ReadFailed, ReadFailure, Ready, Report, Request, Rest, Situation, Some, Takes, [], ap, closed, closing, ending_of, faulty, inl, inr, one_more, only_bytes, open_ended, or_else, refl, situation, subst, sym, waits, wanted_in, ℕ, ◌++◌, ◌∙◌, ◌∷◌, ◌≡◌}
+use Rattle.dap_history.proofs.Common.{Accepted, Accepts, AreLawful, Content, Ending, Err, Fault, File, FirstSeq, History, Incoming, InputEnd, IsAfter, IsHistoryOf, IsLawfulReport, IsTaking, Item, Launch, LeadsByEvent, LeadsByEvents, LeadsByFile, LeadsByPiece, LeadsByReport, LoadFault, Loaded, Loads, MayTake, MemoryFailure, NoMemory, None, Ok, Option, Piece, PlainReport, ReadFailed, ReadFailure, Ready, Report, Request, Rest, Situation, Some, Rests, Takes, TakesSome, [], ap, closed, closing, ending_of, faulty, inl, inr, no_content, one_content, only_bytes, open_ended, or_else, refl, situation, subst, sym, waits, wanted_in, ℕ, ◌++◌, ◌∙◌, ◌∷◌, ◌≡◌}
 use Rattle.std.proofs.Common.{List, Result}
 use Rattle.dap_history.specs.declared.fault.LoadFault.TheVariants as load_fault
 use Rattle.dap_history.proofs.Readings.{ending_of-snoc}
@@ -65,17 +65,25 @@ module _ (Q : Incoming → Type 0) (P : History → Type 0) (kept : IsKept Q P) 
   abbrev Holds : History → Rest → Type 0
   Holds past rest = P past × WaitsWell past rest
 
-  along_takes : {first : FirstSeq} {past : History} {bytes : List ℕ} {new : History} {rest : Rest}
-      → Takes first past bytes new rest → P past
-      → Holds new rest
-  along_takes (one_more {past = past} {mid = mid} request taking front unwanted after more) here =
-      along_takes more (kept.step past (Content request) mid taking unwanted after here)
-  along_takes (closed not) here = (here, λ taking launch is. absurd (not taking))
-  along_takes (open_ended taking is) here = (here, λ taking launch is. absurd cc)
-  along_takes {past = past} (faulty k new taking is after) here =
+  along_some : {first : FirstSeq} {past new : History} {bytes left : List ℕ} → TakesSome first past bytes new left
+      → P past
+      → P new
+  along_some no_content here = here
+  along_some (one_content {past = past} {mid = mid} request taking front unwanted after some) here =
+      along_some some (kept.step past (Content request) mid taking unwanted after here)
+
+  along_rests : {first : FirstSeq} {past new : History} {bytes : List ℕ} {rest : Rest}
+      → Rests first past bytes new rest → P past → Holds new rest
+  along_rests (closed not) here = (here, λ taking launch is. absurd (not taking))
+  along_rests (open_ended taking is) here = (here, λ taking launch is. absurd cc)
+  along_rests {past = past} (faulty k new taking is after) here =
       (kept.step past (Fault k) new taking tt after here, λ taking launch is. absurd cc)
-  along_takes {past = past} (waits request launch more taking front wanted) here =
+  along_rests {past = past} (waits request launch more taking front wanted) here =
       (here, λ taking launch is. wanted_ready (situation past) request _ wanted)
+
+  along_takes : (first : FirstSeq) (past : History) (bytes : List ℕ) (new : History) (rest : Rest)
+      → Takes first past bytes new rest → P past → Holds new rest
+  along_takes first past bytes new rest taken here = along_rests taken.3 (along_some taken.2 here)
 
   along_may : (past : History) (rest : Rest) (item : Item) (new : History) (by : Ending) → IsTaken Q past item
       → closing item ≡ Some by → MayTake past item new → Holds past rest → Holds new rest
@@ -89,7 +97,7 @@ module _ (Q : Incoming → Type 0) (P : History → Type 0) (kept : IsKept Q P) 
   along_piece : (first : FirstSeq) (past : History) (rest : Rest) (launch : Option Launch) (bytes : List ℕ)
       (new : History) (left : Rest)
       → rest.launch ≡ launch → LeadsByPiece first past launch bytes new left → Holds past rest → Holds new left
-  along_piece first past rest None bytes new left same all here = along_takes all here.0
+  along_piece first past rest None bytes new left same all here = along_takes first past bytes new left all here.0
   along_piece first past rest (Some launch) bytes new left same is here =
       subst (λ h. Holds h left) (sym is.0) (here.0, λ taking other waits_. here.1 taking launch same)
 
@@ -97,23 +105,23 @@ module _ (Q : Incoming → Type 0) (P : History → Type 0) (kept : IsKept Q P) 
       (new : History)
       (left : Rest) → situation past ≡ Ready → Loads first past launch file bytes new left → P past → Holds new left
   along_loads first past launch file bytes new left ready loads here =
-      along_takes loads.after
+      along_takes first loads.mid bytes new left loads.after
       (kept.step past (Loaded launch file) loads.mid loads.taking ready loads.loaded here)
 
-  along_file : (past : History) (rest : Rest) (launch : Option Launch) (file : Result (List ℕ) LoadFault)
-      (new : History) (left : Rest) → rest.launch ≡ launch → LeadsByFile past rest launch file new left
+  along_file : (f : FirstSeq) (past : History) (rest : Rest) (launch : Option Launch) (file : Result (List ℕ) LoadFault)
+      (new : History) (left : Rest) → rest.launch ≡ launch → LeadsByFile f past rest launch file new left
       → Holds past rest → Holds new left
-  along_file past rest None file new left same is here =
+  along_file f past rest None file new left same is here =
       subst (λ h. Holds h left) (sym is.0) (subst (λ r. Holds past r) (sym is.1) here)
-  along_file past rest (Some launch) (Ok file) new left same (inl is) here =
+  along_file f past rest (Some launch) (Ok file) new left same (inl is) here =
       subst (λ h. Holds h left) (sym is.1) (subst (λ r. Holds past r) (sym is.2) here)
-  along_file past rest (Some launch) (Ok file) new left same (inr loads) here =
-      along_loads rest.first past launch (Some file) rest.bytes new left (here.1 loads.taking launch same) loads here.0
-  along_file past rest (Some launch) (Err load_fault.CannotRead) new left same (inl is) here =
+  along_file f past rest (Some launch) (Ok file) new left same (inr loads) here =
+      along_loads f past launch (Some file) rest.bytes new left (here.1 loads.taking launch same) loads here.0
+  along_file f past rest (Some launch) (Err load_fault.CannotRead) new left same (inl is) here =
       subst (λ h. Holds h left) (sym is.1) (subst (λ r. Holds past r) (sym is.2) here)
-  along_file past rest (Some launch) (Err load_fault.CannotRead) new left same (inr loads) here =
-      along_loads rest.first past launch None rest.bytes new left (here.1 loads.taking launch same) loads here.0
-  along_file past rest (Some launch) (Err load_fault.NoMemory) new left same is here =
+  along_file f past rest (Some launch) (Err load_fault.CannotRead) new left same (inr loads) here =
+      along_loads f past launch None rest.bytes new left (here.1 loads.taking launch same) loads here.0
+  along_file f past rest (Some launch) (Err load_fault.NoMemory) new left same is here =
       subst (λ r. Holds new r) (sym is.1) (along_may past rest MemoryFailure new _ tt refl is.0 here)
 
   along_report : (past : History) (rest : Rest) (r : PlainReport) (new : History) → Q (Report r)
@@ -124,36 +132,36 @@ module _ (Q : Incoming → Type 0) (P : History → Type 0) (kept : IsKept Q P) 
     λ taking launch waits_. let e = sym is.1.running ∙ here.1 is.0 launch waits_ in absurd cc,
   )
 
-  along_event : (past : History) (rest : Rest) (event : Incoming) (new : History) (left : Rest) → Q event
-      → LeadsByEvent past rest event new left → Holds past rest → Holds new left
-  along_event past rest (Piece piece) new left good leads here =
-      along_piece rest.first past rest rest.launch (rest.bytes ++ piece) new left refl leads here
-  along_event past rest End new left good leads here =
+  along_event : (f : FirstSeq) (past : History) (rest : Rest) (event : Incoming) (new : History) (left : Rest) → Q event
+      → LeadsByEvent f past rest event new left → Holds past rest → Holds new left
+  along_event f past rest (Piece piece) new left good leads here =
+      along_piece f past rest rest.launch (rest.bytes ++ piece) new left refl leads here
+  along_event f past rest End new left good leads here =
       subst (λ r. Holds new r) (sym leads.1) (along_may past rest InputEnd new _ good refl leads.0 here)
-  along_event past rest ReadFailed new left good leads here =
+  along_event f past rest ReadFailed new left good leads here =
       subst (λ r. Holds new r) (sym leads.1) (along_may past rest ReadFailure new _ good refl leads.0 here)
-  along_event past rest NoMemory new left good leads here =
+  along_event f past rest NoMemory new left good leads here =
       subst (λ r. Holds new r) (sym leads.1) (along_may past rest MemoryFailure new _ tt refl leads.0 here)
-  along_event past rest (File file) new left good leads here =
-      along_file past rest rest.launch file new left refl leads here
-  along_event past rest (Report r) new left good leads here =
+  along_event f past rest (File file) new left good leads here =
+      along_file f past rest rest.launch file new left refl leads here
+  along_event f past rest (Report r) new left good leads here =
       subst (λ l. Holds new l) (sym leads.1) (along_report past rest r new good leads.0 here)
 
-  along_from : (past : History) (rest : Rest) (events : List Incoming) (new : History) (left : Rest)
-      → AllEvents Q events → LeadsByEvents past rest events new left → Holds past rest → Holds new left
-  along_from past rest [] new left good all here =
+  along_from : (f : FirstSeq) (past : History) (rest : Rest) (events : List Incoming) (new : History) (left : Rest)
+      → AllEvents Q events → LeadsByEvents f past rest events new left → Holds past rest → Holds new left
+  along_from f past rest [] new left good all here =
       subst (λ h. Holds h left) (sym all.0) (subst (λ r. Holds past r) (sym all.1) here)
-  along_from past rest (e ∷ events) new left good all here =
-      along_from all.0 all.1 events new left good.1 all.3 (along_event past rest e all.0 all.1 good.0 all.2 here)
+  along_from f past rest (e ∷ events) new left good all here =
+      along_from f all.0 all.1 events new left good.1 all.3 (along_event f past rest e all.0 all.1 good.0 all.2 here)
 
   -- What holds of no steps, and is kept, holds of each history.
-  pub along : P [] → (events : List Incoming) (past : History) (rest : Rest) → AllEvents Q events
-      → IsHistoryOf events past rest → P past
-  along first events past rest good history =
-      (along_from [] (only_bytes rest.first []) events past rest good history (first, λ taking launch is. absurd cc)).0
+  pub along : P [] → (f : FirstSeq) (events : List Incoming) (past : History) (rest : Rest) → AllEvents Q events
+      → IsHistoryOf f events past rest → P past
+  along first f events past rest good history =
+      (along_from f [] (only_bytes []) events past rest good history (first, λ taking launch is. absurd cc)).0
 
   -- a launch waits in Ready alone
-  pub along_waits : P [] → (events : List Incoming) (past : History) (rest : Rest) → AllEvents Q events
-      → IsHistoryOf events past rest → WaitsWell past rest
-  along_waits first events past rest good history =
-      (along_from [] (only_bytes rest.first []) events past rest good history (first, λ taking launch is. absurd cc)).1
+  pub along_waits : P [] → (f : FirstSeq) (events : List Incoming) (past : History) (rest : Rest) → AllEvents Q events
+      → IsHistoryOf f events past rest → WaitsWell past rest
+  along_waits first f events past rest good history =
+      (along_from f [] (only_bytes []) events past rest good history (first, λ taking launch is. absurd cc)).1

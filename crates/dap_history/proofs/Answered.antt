@@ -51,5 +51,5 @@ once_kept = record {
 }
 
 pub each_answered : EachIsAnsweredOnce
-each_answered events past rest history =
-    along (λ e. Unit {0}) Once once_kept refl events past rest (any_events events) history
+each_answered f events past rest history =
+    along (λ e. Unit {0}) Once once_kept refl f events past rest (any_events events) history

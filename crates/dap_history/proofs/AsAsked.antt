@@ -340,7 +340,7 @@ module _ (last : LastDueIsLast) (l : Launched) (run : Heading) where
 
 pub stops_as_asked : OneProgram → WrittenJoins → RunsHaveNoGaps → NothingFollowsTheEnd → LastDueIsLast
     → EachStopIsAsAsked
-stops_as_asked one joins no_gaps ends last events past rest lawful history before s m stops_at run run_is = (
+stops_as_asked one joins no_gaps ends last f events past rest lawful history before s m stops_at run run_is = (
   right.0,
   by.asked,
   by.from,
@@ -352,12 +352,12 @@ stops_as_asked one joins no_gaps ends last events past rest lawful history befor
 )
   where
     right : (l : Launched) × (launched before ≡ Some l) × IsRightStop l before (last_run before) s m
-    right = each_stop_right one joins events past rest lawful history before s m stops_at
+    right = each_stop_right one joins f events past rest lawful history before s m stops_at
 
     was : WasTaken IsLawfulEvent (Kept one joins) before stops_at.step
     was = (along IsLawfulEvent (EachTaken IsLawfulEvent (Kept one joins))
         (each_kept IsLawfulEvent (Kept one joins) (kept_kept one joins))
-        (each_first IsLawfulEvent (Kept one joins) (kept_first one joins)) events past rest
+        (each_first IsLawfulEvent (Kept one joins) (kept_first one joins)) f events past rest
         (lawful_events events lawful) history).each before stops_at.step stops_at.after stops_at.past_is
 
     by : WentBy before right.0 run
@@ -371,7 +371,7 @@ stops_as_asked one joins no_gaps ends last events past rest lawful history befor
         (stopped_last before stops_at.step s stops_at.front stops_at.back was.causes stops_at.events_are))
 
 pub none_passed : OneProgram → WrittenJoins → NoStopIsPassed
-none_passed one joins events past rest lawful history running run run_is forward = (
+none_passed one joins f events past rest lawful history running run run_is forward = (
   there.0,
   by.asked,
   by.from,
@@ -385,7 +385,7 @@ none_passed one joins events past rest lawful history running run run_is forward
 )
   where
     was : Kept one joins past
-    was = along IsLawfulEvent (Kept one joins) (kept_kept one joins) (kept_first one joins) events past rest
+    was = along IsLawfulEvent (Kept one joins) (kept_kept one joins) (kept_first one joins) f events past rest
         (lawful_events events lawful) history
 
     launched_then : (o : Option Launched) → launched past ≡ o → (l : Launched) × (launched past ≡ Some l)

@@ -44,11 +44,11 @@ number_at n [] run back are = omega (arith, are.0)
 number_at n (r ∷ front) run back are = let h = number_at (n + 1) front run back are.1 in omega (arith, h)
 
 pub runs_count : RunsCountFromOne
-runs_count events past rest history front back run orders_are =
+runs_count f events past rest history front back run orders_are =
     let parts : all_runs past ≡ filter_map go front ++ run ∷ filter_map go back =
     ap (filter_map go) orders_are ∙ filter_map-append go front (Go run ∷ back) in
     let here =
-    along (λ e. Unit {0}) AreInOrder (in_order_kept (λ e. Unit {0})) tt events past rest (any_events events) history
+    along (λ e. Unit {0}) AreInOrder (in_order_kept (λ e. Unit {0})) tt f events past rest (any_events events) history
     in
     let number = number_at 1 (filter_map go front) run (filter_map go back) (subst (AreNumbered 1) parts here) in
     omega (arith, number)
@@ -160,13 +160,13 @@ module _ (one : OneProgram) (joins : WrittenJoins) where
       let e = sym goes ∙ ap (λ (e : Effect). last_such go e.orders) is.effect_is in absurd cc
 
   pub each_as_asked : EachRunIsAsAsked
-  each_as_asked events past rest lawful history before step after past_is run orders =
+  each_as_asked f events past rest lawful history before step after past_is run orders =
       item_mode before step.item step was.taken was.causes was.held run (ordered_last before step run was.causes orders)
     where
       each : EachTaken IsLawfulEvent (Ran one joins) past
       each = along IsLawfulEvent (EachTaken IsLawfulEvent (Ran one joins))
           (each_kept IsLawfulEvent (Ran one joins) (ran_kept one joins))
-          (each_first IsLawfulEvent (Ran one joins) (ran_first one joins)) events past rest
+          (each_first IsLawfulEvent (Ran one joins) (ran_first one joins)) f events past rest
           (lawful_events events lawful) history
 
       was : WasTaken IsLawfulEvent (Ran one joins) before step

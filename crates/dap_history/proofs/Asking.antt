@@ -19,7 +19,6 @@ asked_now first before (File file) after load (answer_is, awaits) = record {
   events_are = ap (λ f. before ++ File f ∷ after) (sym answer_is);
   past = awaits.past;
   rest = awaits.rest;
-  first_is = awaits.first_is;
   history = awaits.history;
   goes_on = awaits.taking;
   launch = awaits.launch;
@@ -56,12 +55,12 @@ each_asked first events given loads is front load back loads_are =
 
 -- where a launch waits, the next event is not the inbox's
 not_awaited : HistoryIsOne → (first : FirstSeq) (before : List Incoming) → AwaitsNone first before → (past : History)
-    (rest : Rest) → rest.first ≡ first → IsHistoryOf before past rest → IsTaking past → (launch : Launch)
+    (rest : Rest) → IsHistoryOf first before past rest → IsTaking past → (launch : Launch)
     → ¬ (rest.launch ≡ Some launch)
-not_awaited one first before none past rest first_is history taking launch waits = by_none none.waits
+not_awaited one first before none past rest history taking launch waits = by_none none.waits
   where
     same : (past ≡ none.past) × (rest ≡ none.rest)
-    same = one before past none.past rest none.rest history none.history (first_is ∙ sym none.first_is)
+    same = one first before past none.past rest none.rest history none.history
 
     by_none : ¬ ((¬ IsTaking none.past) ⊎ (none.rest.launch ≡ None))
     by_none (inl not) = not (subst IsTaking same.0 taking)
@@ -69,12 +68,11 @@ not_awaited one first before none past rest first_is history taking launch waits
 
 answer_now : HistoryIsOne → (first : FirstSeq) (before : List Incoming) (e : Incoming) (load : Load)
     (loads more : List Load) → loads ≡ load ∷ more → IsLoad first before e load → (past : History) (rest : Rest)
-    → rest.first ≡ first → IsHistoryOf before past rest → (launch : Launch) → rest.launch ≡ Some launch
+    → IsHistoryOf first before past rest → (launch : Launch) → rest.launch ≡ Some launch
     → IsAnswerFor loads launch.arguments.program e
-answer_now one first before (File file) load loads more are (answer_is, awaits) past rest first_is history launch
+answer_now one first before (File file) load loads more are (answer_is, awaits) past rest history launch
     waits =
-    let same =
-    (one before past awaits.past rest awaits.rest history awaits.history (first_is ∙ sym awaits.first_is)).1 in
+    let same = (one first before past awaits.past rest awaits.rest history awaits.history).1 in
     let launch_is : launch ≡ awaits.launch =
     let e = sym waits ∙ ap (λ (r : Rest). r.launch) same ∙ awaits.waits in cc in record {
       front = [];
@@ -84,11 +82,11 @@ answer_now one first before (File file) load loads more are (answer_is, awaits) 
       path_is = awaits.path_is ∙ ap (λ (l : Launch). l.arguments.program) (sym launch_is);
       event_is = ap File (sym answer_is);
     }
-answer_now one first before (Piece piece) load loads more are is past rest first_is history launch waits = absurd is
-answer_now one first before End load loads more are is past rest first_is history launch waits = absurd is
-answer_now one first before ReadFailed load loads more are is past rest first_is history launch waits = absurd is
-answer_now one first before NoMemory load loads more are is past rest first_is history launch waits = absurd is
-answer_now one first before (Report r) load loads more are is past rest first_is history launch waits = absurd is
+answer_now one first before (Piece piece) load loads more are is past rest history launch waits = absurd is
+answer_now one first before End load loads more are is past rest history launch waits = absurd is
+answer_now one first before ReadFailed load loads more are is past rest history launch waits = absurd is
+answer_now one first before NoMemory load loads more are is past rest history launch waits = absurd is
+answer_now one first before (Report r) load loads more are is past rest history launch waits = absurd is
 
 longer : (so_far before : List Incoming) (x e : Incoming) → x ≡ e
     → so_far ++ x ∷ before ≡ (so_far ++ e ∷ []) ++ before
@@ -108,38 +106,38 @@ answer_later load loads more path e are is = record {
 
 loaded_along : HistoryIsOne → (first : FirstSeq) (so_far events given : List Incoming) (loads : List Load)
     → Interleaves first so_far events given loads → (before : List Incoming) (event : Incoming)
-    (after : List Incoming) → events ≡ before ++ event ∷ after → (past : History) (rest : Rest) → rest.first ≡ first
-    → IsHistoryOf (so_far ++ before) past rest → IsTaking past → (launch : Launch) → rest.launch ≡ Some launch
+    (after : List Incoming) → events ≡ before ++ event ∷ after → (past : History) (rest : Rest)
+    → IsHistoryOf first (so_far ++ before) past rest → IsTaking past → (launch : Launch) → rest.launch ≡ Some launch
     → IsAnswerFor loads launch.arguments.program event
-loaded_along one first so_far [] given loads is before event after are past rest first_is history taking launch waits =
+loaded_along one first so_far [] given loads is before event after are past rest history taking launch waits =
     absurd (none_within before after event are)
 loaded_along one first so_far (e ∷ events) given loads (inl (l, more, loads_are, loaded, later)) [] event after are past
-    rest first_is history taking launch waits =
+    rest history taking launch waits =
     let same : e ≡ event = cc in
     subst (IsAnswerFor loads launch.arguments.program) same
-    (answer_now one first so_far e l loads more loads_are loaded past rest first_is
-    (subst (λ es. IsHistoryOf es past rest) (append-nil so_far) history) launch waits)
+    (answer_now one first so_far e l loads more loads_are loaded past rest
+    (subst (λ es. IsHistoryOf first es past rest) (append-nil so_far) history) launch waits)
 loaded_along one first so_far (e ∷ events) given loads (inr (more, given_is, none, later)) [] event after are past rest
-    first_is history taking launch waits =
-    absurd (not_awaited one first so_far none past rest first_is
-    (subst (λ es. IsHistoryOf es past rest) (append-nil so_far) history) taking launch waits)
+    history taking launch waits =
+    absurd (not_awaited one first so_far none past rest
+    (subst (λ es. IsHistoryOf first es past rest) (append-nil so_far) history) taking launch waits)
 loaded_along one first so_far (e ∷ events) given loads (inl (l, more, loads_are, loaded, later)) (x ∷ before) event
-    after are past rest first_is history taking launch waits =
+    after are past rest history taking launch waits =
     let same : x ≡ e = cc in
     let rest_are : events ≡ before ++ event ∷ after = cc in
     answer_later l loads more launch.arguments.program event loads_are
-    (loaded_along one first (so_far ++ e ∷ []) events given more later before event after rest_are past rest first_is
-    (subst (λ es. IsHistoryOf es past rest) (longer so_far before x e same) history) taking launch waits)
+    (loaded_along one first (so_far ++ e ∷ []) events given more later before event after rest_are past rest
+    (subst (λ es. IsHistoryOf first es past rest) (longer so_far before x e same) history) taking launch waits)
 loaded_along one first so_far (e ∷ events) given loads (inr (more, given_is, none, later)) (x ∷ before) event after are
-    past rest first_is history taking launch waits =
+    past rest history taking launch waits =
     let same : x ≡ e = cc in
     let rest_are : events ≡ before ++ event ∷ after = cc in
-    loaded_along one first (so_far ++ e ∷ []) events more loads later before event after rest_are past rest first_is
-    (subst (λ es. IsHistoryOf es past rest) (longer so_far before x e same) history) taking launch waits
+    loaded_along one first (so_far ++ e ∷ []) events more loads later before event after rest_are past rest
+    (subst (λ es. IsHistoryOf first es past rest) (longer so_far before x e same) history) taking launch waits
 
 pub each_loaded : HistoryIsOne → EachLaunchIsLoaded
-each_loaded one first events given loads is before event after are past rest first_is history taking launch waits =
-    loaded_along one first [] events given loads is before event after are past rest first_is history taking launch
+each_loaded one first events given loads is before event after are past rest history taking launch waits =
+    loaded_along one first [] events given loads is before event after are past rest history taking launch
     waits
 
 -- ---- the events are all that came

@@ -66,14 +66,14 @@ module _ (own : Incoming) (is_own : (e : Incoming) → (own ≡ e) ⊎ ¬ (own �
           (sym (ends_by past item new taking after) ∙ is);
     }
 
-    closed_by : (events : List Incoming) (past : History) (rest : Rest) → IsHistoryOf events past rest
+    closed_by : (f : FirstSeq) (events : List Incoming) (past : History) (rest : Rest) → IsHistoryOf f events past rest
         → ending_of past ≡ Some (ending.Closed by) → IsAmong own events
-    closed_by events past rest history is = found (stands_or_not events)
+    closed_by f events past rest history is = found (stands_or_not events)
       where
         found : IsAmong own events ⊎ AllEvents (λ e. ¬ (own ≡ e)) events → IsAmong own events
         found (inl there) = there
         found (inr none) =
-            absurd (along (λ e. ¬ (own ≡ e)) IsNotClosed not_closed_kept (λ first. absurd cc) events past rest none
+            absurd (along (λ e. ¬ (own ≡ e)) IsNotClosed not_closed_kept (λ first. absurd cc) f events past rest none
             history is)
 
 is_end : (e : Incoming) → (End ≡ e) ⊎ ¬ (End ≡ e)
@@ -85,12 +85,14 @@ is_failure ReadFailed = inl refl
 is_failure _ = inr (λ same. absurd cc)
 
 -- A session that the input's end closed has taken it.
-pub closed_by_end : (events : List Incoming) (past : History) (rest : Rest) → IsHistoryOf events past rest
+pub closed_by_end : (f : FirstSeq) (events : List Incoming) (past : History) (rest : Rest)
+    → IsHistoryOf f events past rest
     → ending_of past ≡ Some (ending.Closed closed.InputEnded) → IsAmong End events
 closed_by_end = closed_by End is_end closed.InputEnded (λ same. absurd cc) (λ same. refl) (λ same. absurd cc)
 
 -- A session that a failed read closed has taken it.
-pub closed_by_failure : (events : List Incoming) (past : History) (rest : Rest) → IsHistoryOf events past rest
+pub closed_by_failure : (f : FirstSeq) (events : List Incoming) (past : History) (rest : Rest)
+    → IsHistoryOf f events past rest
     → ending_of past ≡ Some (ending.Closed closed.ReadFailed) → IsAmong ReadFailed events
 closed_by_failure =
     closed_by ReadFailed is_failure closed.ReadFailed (λ same. absurd cc) (λ same. absurd cc) (λ same. refl)
@@ -276,13 +278,13 @@ quits_first = record {
 
 -- Nothing is ordered after a Quit.
 pub quit_is_last : QuitIsLast
-quit_is_last events past rest history =
-    (along (λ e. Unit {0}) Quits quits_kept quits_first events past rest (any_events events) history).last
+quit_is_last f events past rest history =
+    (along (λ e. Unit {0}) Quits quits_kept quits_first f events past rest (any_events events) history).last
 
 -- A session that was closed by no fault has ordered Quit.
 pub quit_closes : QuitCloses
-quit_closes events past rest history =
-    (along (λ e. Unit {0}) Quits quits_kept quits_first events past rest (any_events events) history).closes
+quit_closes f events past rest history =
+    (along (λ e. Unit {0}) Quits quits_kept quits_first f events past rest (any_events events) history).closes
 
 -- ---- what an inbox gave
 
@@ -295,11 +297,11 @@ only_files_load : (first : FirstSeq) (before : List Incoming) (e : Incoming) (lo
 only_files_load f before (File file) load no_file is = no_file tt
 only_files_load f before _ load no_file is = is
 
-abbrev first_event : Incoming → List Incoming → Incoming
+abbrev pub first_event : Incoming → List Incoming → Incoming
 first_event other [] = other
 first_event other (e ∷ events) = e
 
-abbrev later_events : List Incoming → List Incoming
+abbrev pub later_events : List Incoming → List Incoming
 later_events [] = []
 later_events (e ∷ events) = events
 

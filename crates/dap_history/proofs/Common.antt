@@ -4,7 +4,7 @@ pub use Rattle.dap_frame.specs.declared.fault.FramingFault.{FramingFault}
 pub use Rattle.dap_history.specs.Breakpoints.{AreAskedAs, IsAskedAs, IsResolved, answer_to_line, effect_in, hold_once, is_same_path, line_offset, offset}
 pub use Rattle.dap_history.specs.Considered.{all_runs, before_start, end_in, run_end, run_texts, starts_by}
 pub use Rattle.dap_history.specs.Emission.{Answers, Causes, HasEffect, IsAfter, RepliesIn}
-pub use Rattle.dap_history.specs.Events.{AreLawful, File, Incoming, IsHistoryOf, IsInFront, IsTaking, LeadsByEvent, LeadsByEvents, LeadsByFile, LeadsByPiece, LeadsByReport, Loads, MayTake, NoMemory, Piece, ReadFailed, Report, Rest, Takes, closed, faulty, one_more, only_bytes, open_ended, waits}
+pub use Rattle.dap_history.specs.Events.{AreLawful, File, Incoming, IsHistoryOf, IsInFront, IsTaking, LeadsByEvent, LeadsByEvents, LeadsByFile, LeadsByPiece, LeadsByReport, Loads, MayTake, NoMemory, Piece, ReadFailed, Report, Rest, Rests, Takes, TakesSome, closed, faulty, no_content, one_content, only_bytes, open_ended, waits}
 pub use Rattle.dap_history.specs.Frames.{Counting, at_most, frame_by_id, scopes_from, shown_column, shown_frame, shown_frames, shown_line}
 pub use Rattle.dap_history.specs.GoingBack.{back_by, back_in, back_of, held_by}
 pub use Rattle.dap_history.specs.History.{Accepted, Content, Effect, Fault, History, InputEnd, Item, Launched, Loaded, MemoryFailure, ReadFailure, Step, messages, messages_of, orders_of, with_answer}

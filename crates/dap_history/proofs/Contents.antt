@@ -1,5 +1,5 @@
 -- The contents taken are those of the joined stream.
-use Rattle.dap_history.proofs.Common.{Accepted, AreReadAs, Command, Content, ContentsAreOfTheStream, Err, Fault, File, FirstSeq, History, Incoming, InputEnd, IsAfter, IsInFront, Item, Launch, LeadsByEvents, LeadsByFile, LeadsByPiece, LeadsByReport, LoadFault, Loaded, Loads, MayTake, MemoryFailure, NoMemory, None, Ok, Option, Piece, PlainReport, ReadFailed, ReadFailure, Ready, Report, Request, Rest, Situation, Some, Step, Takes, [], ap, append-nil, closed, faulty, filter_map, filter_map-append, inl, inr, launch_request, map-append, one_more, only_bytes, open_ended, read_as, refl, situation, subst, sym, waiting, waits, wanted_in, ℕ, ◌++◌, ◌∙◌, ◌∷◌, ◌≡◌}
+use Rattle.dap_history.proofs.Common.{Accepted, AreReadAs, Command, Content, ContentsAreOfTheStream, Err, Fault, File, FirstSeq, History, Incoming, InputEnd, IsAfter, IsInFront, Item, Launch, LeadsByEvents, LeadsByFile, LeadsByPiece, LeadsByReport, LoadFault, Loaded, Loads, MayTake, MemoryFailure, NoMemory, None, Ok, Option, Piece, PlainReport, ReadFailed, ReadFailure, Ready, Report, Request, Rest, Situation, Some, Step, Rests, Takes, TakesSome, [], ap, append-nil, closed, faulty, filter_map, filter_map-append, inl, inr, launch_request, map-append, no_content, one_content, only_bytes, open_ended, read_as, refl, situation, subst, sym, waiting, waits, wanted_in, ℕ, ◌++◌, ◌∙◌, ◌∷◌, ◌≡◌}
 use Rattle.std.proofs.Common.{List, Result}
 use Rattle.std.specs.Prelude.{map}
 use Rattle.std.proofs.lemmas.List.{append_assoc}
@@ -11,7 +11,6 @@ use Rattle.dap_history.specs.declared.fault.LoadFault.TheVariants as load_fault
 use Rattle.dap_history.specs.Launching.{wanted_by}
 use Rattle.dap_history.specs.Events.{End}
 use Rattle.dap_history.specs.Laws.{stream_of, contents_read}
-use Rattle.dap_history.proofs.FirstKept.{first_by_event}
 
 -- ---- what is read
 
@@ -80,26 +79,34 @@ module _ (join : FramesJoin) (f : FirstSeq) where
   request_is Ready (Some request) launch is = ap Some (wanted_is request.seq request.body launch is)
   request_is _ request launch is = absurd cc
 
-  takes_gain : {past new : History} {bytes : List ℕ} {rest : Rest} → Takes f past bytes new rest
-      → Gains past bytes new rest.bytes rest.launch
-  takes_gain {past = past} {new = new} {bytes = bytes} {rest = rest}
-      (one_more {mid = mid} {more = more} request taking front unwanted after taken) =
-      let next = takes_gain taken in (
+  some_gain : {past mid : History} {bytes left : List ℕ} (new : History) (end : List ℕ) (launch : Option Launch)
+      → TakesSome f past bytes mid left → Gains mid left new end launch → Gains past bytes new end launch
+  some_gain new end launch no_content others = others
+  some_gain {past = past} {bytes = bytes} new end launch
+      (one_content {mid = mid} {more = more} request taking front unwanted after some) others =
+      let next = some_gain new end launch some others in (
         request ∷ next.0,
-        gives_both bytes more rest.bytes (request ∷ []) next.0 (gives_one f bytes request more front) next.1,
+        gives_both bytes more end (request ∷ []) next.0 (gives_one f bytes request more front) next.1,
         next.2 ∙ ap (λ rs. rs ++ next.0) (reads_after past (Content request) mid after)
             ∙ append_assoc (reads past) (request ∷ []) next.0,
       )
-  takes_gain {bytes = bytes} (closed not) = ([], gives_nothing f bytes, refl)
-  takes_gain {bytes = bytes} (open_ended taking is) = ([], gives_nothing f bytes, refl)
-  takes_gain {past = past} {bytes = bytes} (faulty k new taking fault after) =
+
+  rests_gain : {past new : History} {bytes : List ℕ} {rest : Rest} → Rests f past bytes new rest
+      → Gains past bytes new rest.bytes rest.launch
+  rests_gain {bytes = bytes} (closed not) = ([], gives_nothing f bytes, refl)
+  rests_gain {bytes = bytes} (open_ended taking is) = ([], gives_nothing f bytes, refl)
+  rests_gain {past = past} {bytes = bytes} (faulty k new taking fault after) =
       ([], gives_nothing f bytes, ap (λ rs. rs ++ []) (reads_after past (Fault k) new after ∙ append-nil (reads past)))
-  takes_gain {past = past} {bytes = bytes} (waits request launch more taking front wanted) = (
+  rests_gain {past = past} {bytes = bytes} (waits request launch more taking front wanted) = (
     request ∷ [],
     gives_one f bytes request more front,
     ap (λ r. reads past ++ r ∷ [])
         (sym (request_is (situation past) request launch wanted)),
   )
+
+  takes_gain : (past new : History) (bytes : List ℕ) (rest : Rest) → Takes f past bytes new rest
+      → Gains past bytes new rest.bytes rest.launch
+  takes_gain past new bytes rest taken = some_gain new rest.bytes rest.launch taken.2 (rests_gain taken.3)
 
   -- ---- what events give
 
@@ -121,7 +128,7 @@ module _ (join : FramesJoin) (f : FirstSeq) where
       taking_gives_further (stream ++ piece) past (before.bytes ++ piece) new rest
       (subst (Gives f (stream ++ piece) (before.bytes ++ piece)) (ap (contents_read past) is ∙ append-nil (reads past))
       (gives_more f stream before.bytes (contents_read past before.launch) piece here))
-      (takes_gain leads)
+      (takes_gain past new (before.bytes ++ piece) rest leads)
   piece_holds stream piece past before (Some launch) new rest is leads here =
       subst (λ h. Holds (stream ++ piece) h rest) (sym leads.0)
       (subst (λ r. Holds (stream ++ piece) past r) (sym leads.1)
@@ -135,7 +142,7 @@ module _ (join : FramesJoin) (f : FirstSeq) where
       taking_gives_further stream loads.mid before.bytes new rest
       (subst (Gives f stream before.bytes) (ap (contents_read past) is
       ∙ sym (reads_after past (Loaded launch file) loads.mid loads.loaded)) here)
-      (takes_gain loads.after)
+      (takes_gain loads.mid new before.bytes rest loads.after)
 
   -- an item that is no content changes nothing here
   same_holds : (stream : List ℕ) (past : History) (before : Rest) (new : History) (rest : Rest) → reads new ≡ reads past
@@ -170,22 +177,20 @@ module _ (join : FramesJoin) (f : FirstSeq) where
   may_same past item new is (inr taken) = after_same past item new is taken.1
 
   file_holds : (stream : List ℕ) (past : History) (before : Rest) (launch : Option Launch)
-      (file : Result (List ℕ) LoadFault) (new : History) (rest : Rest) → before.first ≡ f → before.launch ≡ launch
-      → LeadsByFile past before launch file new rest
+      (file : Result (List ℕ) LoadFault) (new : History) (rest : Rest) → before.launch ≡ launch
+      → LeadsByFile f past before launch file new rest
       → Holds stream past before → Holds stream new rest
-  file_holds stream past before None file new rest same is leads here =
+  file_holds stream past before None file new rest is leads here =
       same_holds stream past before new rest (ap reads leads.0) leads.1 here
-  file_holds stream past before (Some launch) (Ok file) new rest same is (inl leads) here =
+  file_holds stream past before (Some launch) (Ok file) new rest is (inl leads) here =
       same_holds stream past before new rest (ap reads leads.1) leads.2 here
-  file_holds stream past before (Some launch) (Ok file) new rest same is (inr leads) here =
-      loads_hold stream past before launch (Some file) new rest is
-      (subst (λ g. Loads g past launch (Some file) before.bytes new rest) same leads) here
-  file_holds stream past before (Some launch) (Err load_fault.CannotRead) new rest same is (inl leads) here =
+  file_holds stream past before (Some launch) (Ok file) new rest is (inr leads) here =
+      loads_hold stream past before launch (Some file) new rest is leads here
+  file_holds stream past before (Some launch) (Err load_fault.CannotRead) new rest is (inl leads) here =
       same_holds stream past before new rest (ap reads leads.1) leads.2 here
-  file_holds stream past before (Some launch) (Err load_fault.CannotRead) new rest same is (inr leads) here =
-      loads_hold stream past before launch None new rest is
-      (subst (λ g. Loads g past launch None before.bytes new rest) same leads) here
-  file_holds stream past before (Some launch) (Err load_fault.NoMemory) new rest same is leads here =
+  file_holds stream past before (Some launch) (Err load_fault.CannotRead) new rest is (inr leads) here =
+      loads_hold stream past before launch None new rest is leads here
+  file_holds stream past before (Some launch) (Err load_fault.NoMemory) new rest is leads here =
       same_holds stream past before new rest (may_same past MemoryFailure new refl leads.0) leads.1 here
 
   report_same : (past : History) (r : PlainReport) (new : History) → LeadsByReport past r new → reads new ≡ reads past
@@ -193,40 +198,33 @@ module _ (join : FramesJoin) (f : FirstSeq) where
   report_same past r new (inr is) = after_same past (Accepted r) new refl is.2
 
   events_hold : (stream : List ℕ) (past : History) (before : Rest) (events : List Incoming) (new : History)
-      (rest : Rest) → before.first ≡ f → LeadsByEvents past before events new rest → Holds stream past before
+      (rest : Rest) → LeadsByEvents f past before events new rest → Holds stream past before
       → Holds (stream ++ stream_of events) new rest
-  events_hold stream past before [] new rest same all here =
+  events_hold stream past before [] new rest all here =
       subst (λ s. Holds s new rest) (sym (append-nil stream))
       (same_holds stream past before new rest (ap reads all.0) all.1 here)
-  events_hold stream past before (Piece piece ∷ events) new rest same all here =
+  events_hold stream past before (Piece piece ∷ events) new rest all here =
       subst (λ s. Holds s new rest) (append_assoc stream piece (stream_of events))
-      (events_hold (stream ++ piece) all.0 all.1 events new rest
-      (first_by_event past before (Piece piece) all.0 all.1 all.2 ∙ same) all.3
+      (events_hold (stream ++ piece) all.0 all.1 events new rest all.3
       (piece_holds stream piece past before before.launch all.0 all.1 refl
-      (subst (λ g. LeadsByPiece g past before.launch (before.bytes ++ piece) all.0 all.1) same all.2) here))
-  events_hold stream past before (End ∷ events) new rest same all here =
-      events_hold stream all.0 all.1 events new rest
-      (first_by_event past before End all.0 all.1 all.2 ∙ same) all.3
+      all.2 here))
+  events_hold stream past before (End ∷ events) new rest all here =
+      events_hold stream all.0 all.1 events new rest all.3
       (same_holds stream past before all.0 all.1 (may_same past InputEnd all.0 refl all.2.0) all.2.1 here)
-  events_hold stream past before (ReadFailed ∷ events) new rest same all here =
-      events_hold stream all.0 all.1 events new rest
-      (first_by_event past before ReadFailed all.0 all.1 all.2 ∙ same) all.3
+  events_hold stream past before (ReadFailed ∷ events) new rest all here =
+      events_hold stream all.0 all.1 events new rest all.3
       (same_holds stream past before all.0 all.1 (may_same past ReadFailure all.0 refl all.2.0) all.2.1 here)
-  events_hold stream past before (NoMemory ∷ events) new rest same all here =
-      events_hold stream all.0 all.1 events new rest
-      (first_by_event past before NoMemory all.0 all.1 all.2 ∙ same) all.3
+  events_hold stream past before (NoMemory ∷ events) new rest all here =
+      events_hold stream all.0 all.1 events new rest all.3
       (same_holds stream past before all.0 all.1 (may_same past MemoryFailure all.0 refl all.2.0) all.2.1 here)
-  events_hold stream past before (File file ∷ events) new rest same all here =
-      events_hold stream all.0 all.1 events new rest
-      (first_by_event past before (File file) all.0 all.1 all.2 ∙ same) all.3
-      (file_holds stream past before before.launch file all.0 all.1 same refl all.2 here)
-  events_hold stream past before (Report r ∷ events) new rest same all here =
-      events_hold stream all.0 all.1 events new rest
-      (first_by_event past before (Report r) all.0 all.1 all.2 ∙ same) all.3
+  events_hold stream past before (File file ∷ events) new rest all here =
+      events_hold stream all.0 all.1 events new rest all.3
+      (file_holds stream past before before.launch file all.0 all.1 refl all.2 here)
+  events_hold stream past before (Report r ∷ events) new rest all here =
+      events_hold stream all.0 all.1 events new rest all.3
       (same_holds stream past before all.0 all.1 (report_same past r all.0 all.2.0) all.2.1 here)
 
 pub contents_of_stream : FramesJoin → ContentsAreOfTheStream
-contents_of_stream join events past rest history =
-    let holds = events_hold join rest.first [] [] (only_bytes rest.first []) events past rest refl history
-    (gives_nothing rest.first []) in
+contents_of_stream join f events past rest history =
+    let holds = events_hold join f [] [] (only_bytes []) events past rest history (gives_nothing f []) in
     (holds.contents, holds.framed, holds.read)

@@ -1,5 +1,5 @@
 -- How the stream was cut into pieces changes nothing.
-use Rattle.dap_history.proofs.Common.{Fault, FaultAt, FirstSeq, FramingFault, HasFaultyLine, History, Incoming, IsInFront, IsTaking, Launch, LeadsByEvent, LeadsByEvents, LeadsByPiece, None, Option, Piece, Request, Rest, Some, Takes, [], ap, arith, closed, faulty, length-append, line_of, lines_of, one_more, only_bytes, open_ended, refl, subst, sym, waits, ℕ, ◌++◌, ◌∙◌, ◌∷◌, ◌≡◌}
+use Rattle.dap_history.proofs.Common.{Fault, FaultAt, FirstSeq, FramingFault, HasFaultyLine, History, Incoming, IsInFront, IsTaking, Launch, LeadsByEvent, LeadsByEvents, LeadsByPiece, None, Option, Piece, Request, Rest, Some, Rests, Takes, TakesSome, [], ap, arith, closed, faulty, length-append, line_of, lines_of, no_content, one_content, only_bytes, open_ended, refl, subst, sym, waits, ℕ, ◌++◌, ◌∙◌, ◌∷◌, ◌≡◌}
 use Rattle.std.proofs.Common.{List}
 use Rattle.std.proofs.lemmas.List.{append_assoc, take-append-le}
 use Rattle.dap_frame.specs.declared.fault.FramingFault.TheVariants.{HeaderTooLong, BadField, NoLength, TwoLengths, BadLength, TooLarge, NoMemory as NoRoom}
@@ -50,64 +50,94 @@ fault_more bytes more NoRoom is = absurd is
 
 -- ---- a closed session takes nothing
 
-stays_closed : {first : FirstSeq} {past new : History} {bytes : List ℕ} {rest : Rest} → ¬ IsTaking past
-    → Takes first past bytes new rest
-    → (new ≡ past) × (rest ≡ only_bytes first bytes)
-stays_closed not (one_more request taking front unwanted after taken) = absurd (not taking)
-stays_closed not (closed not') = (refl, refl)
-stays_closed not (open_ended taking is) = absurd (not taking)
-stays_closed not (faulty k new taking fault after) = absurd (not taking)
-stays_closed not (waits request launch more taking front wanted) = absurd (not taking)
+stays_closed : {first : FirstSeq} {past mid new : History} {bytes left : List ℕ} {rest : Rest} → ¬ IsTaking past
+    → TakesSome first past bytes mid left
+    → Rests first mid left new rest → (new ≡ past) × (rest ≡ only_bytes bytes)
+stays_closed not (one_content request taking front unwanted after some) rests = absurd (not taking)
+stays_closed not no_content (closed not') = (refl, refl)
+stays_closed not no_content (open_ended taking is) = absurd (not taking)
+stays_closed not no_content (faulty k new taking fault after) = absurd (not taking)
+stays_closed not no_content (waits request launch more taking front wanted) = absurd (not taking)
+
+pub takes_not : (first : FirstSeq) (past new : History) (bytes : List ℕ) (rest : Rest) → ¬ IsTaking past
+    → Takes first past bytes new rest → (new ≡ past) × (rest ≡ only_bytes bytes)
+takes_not first past new bytes rest not taken = stays_closed not taken.2 taken.3
+
+-- ---- some contents, and then others
+
+pub takes_both : {first : FirstSeq} {past mid new : History} {bytes left more : List ℕ}
+    → TakesSome first past bytes mid left → TakesSome first mid left new more → TakesSome first past bytes new more
+takes_both no_content others = others
+takes_both (one_content request taking front unwanted after some) others =
+    one_content request taking front unwanted after (takes_both some others)
+
+-- no content is taken
+pub at_once : {first : FirstSeq} {past new : History} {bytes : List ℕ} {rest : Rest}
+    → Rests first past bytes new rest → Takes first past bytes new rest
+at_once {past = past} {bytes = bytes} rests = (past, bytes, no_content, rests)
 
 -- ---- two pieces as one
 
-two_takes : {first : FirstSeq} {past mid : History} {bytes : List ℕ} {between : Rest} (b : List ℕ) (new : History)
+some_longer : {first : FirstSeq} {past mid : History} {bytes left : List ℕ} (b : List ℕ)
+    → TakesSome first past bytes mid left → TakesSome first past (bytes ++ b) mid (left ++ b)
+some_longer b no_content = no_content
+some_longer {first = first} {bytes = bytes} b (one_content {more = more} request taking front unwanted after some) =
+    one_content request taking (in_front_more first bytes request more b front) unwanted after (some_longer b some)
+
+rests_longer : {first : FirstSeq} {past mid : History} {bytes : List ℕ} {between : Rest} (b : List ℕ) (new : History)
     (rest : Rest)
-    → Takes first past bytes mid between → LeadsByPiece between.first mid between.launch (between.bytes ++ b) new rest
+    → Rests first past bytes mid between → LeadsByPiece first mid between.launch (between.bytes ++ b) new rest
     → Takes first past (bytes ++ b) new rest
-two_takes {first = first} {bytes = bytes} b new rest
-    (one_more {more = more} request taking front unwanted after taken) second =
-    one_more request taking (in_front_more first bytes request more b front) unwanted after
-    (two_takes b new rest taken second)
-two_takes b new rest (closed not) second = second
-two_takes b new rest (open_ended taking is) second = second
-two_takes {first = first} {past = past} {bytes = bytes} b new rest (faulty k mid taking fault after) second =
-    let is = stays_closed (closes_for_good past (Fault k) mid _ refl after) second in
+rests_longer b new rest (closed not) second = second
+rests_longer b new rest (open_ended taking is) second = second
+rests_longer {first = first} {past = past} {bytes = bytes} b new rest (faulty k mid taking fault after) second =
+    let is = takes_not first mid new (bytes ++ b) rest (closes_for_good past (Fault k) mid _ refl after) second in
     subst (λ h. Takes first past (bytes ++ b) h rest) (sym is.0)
     (subst (λ r. Takes first past (bytes ++ b) mid r) (sym is.1)
-    (faulty k mid taking (fault_more bytes b k fault) after))
-two_takes {first = first} {past = past} {bytes = bytes} b new rest
-    (waits request launch more taking front wanted) second =
+    (at_once (faulty k mid taking (fault_more bytes b k fault) after)))
+rests_longer {first = first} {past = past} {bytes = bytes} b new rest (waits request launch more taking front wanted)
+    second =
     subst (λ h. Takes first past (bytes ++ b) h rest) (sym second.0)
     (subst (λ r. Takes first past (bytes ++ b) past r) (sym second.1)
-    (waits request launch (more ++ b) taking (in_front_more first bytes request more b front) wanted))
+    (at_once (waits request launch (more ++ b) taking (in_front_more first bytes request more b front) wanted)))
+
+two_takes : (first : FirstSeq) (past mid : History) (bytes : List ℕ) (between : Rest) (b : List ℕ) (new : History)
+    (rest : Rest)
+    → Takes first past bytes mid between → LeadsByPiece first mid between.launch (between.bytes ++ b) new rest
+    → Takes first past (bytes ++ b) new rest
+two_takes first past mid bytes between b new rest taken second =
+    let on = rests_longer b new rest taken.3 second in
+    (on.0, on.1, takes_both (some_longer b taken.2) on.2, on.3)
 
 two_by_piece : (first : FirstSeq) (past : History) (launch : Option Launch) (bytes b : List ℕ) (mid : History)
     (between : Rest)
     (new : History) (rest : Rest) → LeadsByPiece first past launch bytes mid between
-    → LeadsByPiece between.first mid between.launch (between.bytes ++ b) new rest
+    → LeadsByPiece first mid between.launch (between.bytes ++ b) new rest
     → LeadsByPiece first past launch (bytes ++ b) new rest
-two_by_piece first past None bytes b mid between new rest here second = two_takes b new rest here second
+two_by_piece first past None bytes b mid between new rest here second =
+    two_takes first past mid bytes between b new rest here second
 two_by_piece first past (Some launch) bytes b mid between new rest here second =
-    let again : (new ≡ mid) × (rest ≡ record { first = first; launch = Some launch; bytes = bytes ++ b }) =
-    subst (λ (r : Rest). LeadsByPiece r.first mid r.launch (r.bytes ++ b) new rest) here.1 second in
+    let again : (new ≡ mid) × (rest ≡ record { launch = Some launch; bytes = bytes ++ b }) =
+    subst (λ (r : Rest). LeadsByPiece first mid r.launch (r.bytes ++ b) new rest) here.1 second in
     (again.0 ∙ here.0, again.1)
 
-two_pieces : (past : History) (before : Rest) (a b : List ℕ) (mid : History) (between : Rest) (new : History)
-    (rest : Rest) → LeadsByEvent past before (Piece a) mid between
-    → LeadsByEvent mid between (Piece b) new rest → LeadsByEvent past before (Piece (a ++ b)) new rest
-two_pieces past before a b mid between new rest first second =
-    subst (λ bytes. LeadsByPiece before.first past before.launch bytes new rest) (append_assoc before.bytes a b)
-    (two_by_piece before.first past before.launch (before.bytes ++ a) b mid between new rest first second)
+two_pieces : (first : FirstSeq) (past : History) (before : Rest) (a b : List ℕ) (mid : History) (between : Rest)
+    (new : History)
+    (rest : Rest) → LeadsByEvent first past before (Piece a) mid between
+    → LeadsByEvent first mid between (Piece b) new rest → LeadsByEvent first past before (Piece (a ++ b)) new rest
+two_pieces first past before a b mid between new rest one second =
+    subst (λ bytes. LeadsByPiece first past before.launch bytes new rest) (append_assoc before.bytes a b)
+    (two_by_piece first past before.launch (before.bytes ++ a) b mid between new rest one second)
 
-joined : (a b : List ℕ) (before after : List Incoming) (past : History) (start : Rest) (new : History) (rest : Rest)
-    → LeadsByEvents past start (before ++ (Piece a ∷ Piece b ∷ after)) new rest
-    → LeadsByEvents past start (before ++ (Piece (a ++ b) ∷ after)) new rest
-joined a b [] after past start new rest all =
-    (all.3.0, all.3.1, two_pieces past start a b all.0 all.1 all.3.0 all.3.1 all.2 all.3.2, all.3.3)
-joined a b (e ∷ before) after past start new rest all =
-    (all.0, all.1, all.2, joined a b before after all.0 all.1 new rest all.3)
+joined : (first : FirstSeq) (a b : List ℕ) (before after : List Incoming) (past : History) (start : Rest)
+    (new : History) (rest : Rest)
+    → LeadsByEvents first past start (before ++ (Piece a ∷ Piece b ∷ after)) new rest
+    → LeadsByEvents first past start (before ++ (Piece (a ++ b) ∷ after)) new rest
+joined first a b [] after past start new rest all =
+    (all.3.0, all.3.1, two_pieces first past start a b all.0 all.1 all.3.0 all.3.1 all.2 all.3.2, all.3.3)
+joined first a b (e ∷ before) after past start new rest all =
+    (all.0, all.1, all.2, joined first a b before after all.0 all.1 new rest all.3)
 
 pub cuts_change_nothing : CutsChangeNothing
-cuts_change_nothing a b before after past rest history = joined a b before after []
-    (only_bytes rest.first []) past rest history
+cuts_change_nothing first a b before after past rest history =
+    joined first a b before after [] (only_bytes []) past rest history

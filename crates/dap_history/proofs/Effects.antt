@@ -258,8 +258,8 @@ module _ (one : OneProgram) (joins : WrittenJoins) (no_gaps : RunsHaveNoGaps) (t
 
 pub none_nowhere : OneProgram → WrittenJoins → RunsHaveNoGaps → TextsHaveOne → ValuesAreArithmetic
     → NoItemLeadsNowhere
-none_nowhere one joins no_gaps texts arithmetic events past rest lawful history item strings nowhere =
+none_nowhere one joins no_gaps texts arithmetic f events past rest lawful history item strings nowhere =
     item_leads one joins no_gaps texts arithmetic past
     (along IsLawfulEvent (Leading one joins no_gaps) (leading_kept one joins no_gaps)
-    (leading_first one joins no_gaps) events past rest (lawful_events events lawful) history) item strings
+    (leading_first one joins no_gaps) f events past rest (lawful_events events lawful) history) item strings
     (λ leads. nowhere leads.0 leads.1)

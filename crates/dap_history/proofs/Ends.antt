@@ -1,5 +1,5 @@
 -- A program is told to have exited where it has ended, and only there.
-use Rattle.dap_history.proofs.Common.{Accepted, Accepts, All, Causes, Command, Content, EndsBy, Event, EventBody, Fault, Faulted, GoesBackBy, Heading, History, Incoming, InputEnd, IsHistoryOf, IsLawfulReport, IsOutput, Item, Launched, Loaded, MemoryFailure, None, Ok, Option, Outgoing, PlainReport, ReadFailure, Rest, Running, Situation, SliceOutcome, Some, Step, StopReason, Went, WentOn, WrittenJoins, [], ap, arith, at, back_if, depth_at, end_of, faults, filter_map, filter_map-append, goes_back, inl, inr, is_due, item_leads, lacks_memory, launched, or_else, refl, situation, stop_in, subst, sym, takes_all, unwrap_or, ℕ, ◌++◌, ◌<◌, ◌∙◌, ◌∷◌, ◌≡◌, AreLawful, Block, Effect, Launch, Launches, Reply, Stopped, Ready, Configuring, Fresh, Err}
+use Rattle.dap_history.proofs.Common.{FirstSeq, Accepted, Accepts, All, Causes, Command, Content, EndsBy, Event, EventBody, Fault, Faulted, GoesBackBy, Heading, History, Incoming, InputEnd, IsHistoryOf, IsLawfulReport, IsOutput, Item, Launched, Loaded, MemoryFailure, None, Ok, Option, Outgoing, PlainReport, ReadFailure, Rest, Running, Situation, SliceOutcome, Some, Step, StopReason, Went, WentOn, WrittenJoins, [], ap, arith, at, back_if, depth_at, end_of, faults, filter_map, filter_map-append, goes_back, inl, inr, is_due, item_leads, lacks_memory, launched, or_else, refl, situation, stop_in, subst, sym, takes_all, unwrap_or, ℕ, ◌++◌, ◌<◌, ◌∙◌, ◌∷◌, ◌≡◌, AreLawful, Block, Effect, Launch, Launches, Reply, Stopped, Ready, Configuring, Fresh, Err}
 use Rattle.std.proofs.Common.{List, Bool, true, false}
 use Rattle.std.proofs.lemmas.List.Elements.{All-head, All-tail}
 use Rattle.dap_msg.specs.declared.command.Command.TheVariants as command
@@ -270,11 +270,12 @@ module _ (one : OneProgram) (joins : WrittenJoins) where
   both_first : Both []
   both_first = (kept_first one joins, λ is. absurd cc)
 
-  both_at : (events : List Incoming) (past : History) (rest : Rest) → AreLawful events → IsHistoryOf events past rest
+  both_at : (f : FirstSeq) (events : List Incoming) (past : History) (rest : Rest) → AreLawful events
+      → IsHistoryOf f events past rest
       → EachTaken IsLawfulEvent Both past
-  both_at events past rest lawful history =
+  both_at f events past rest lawful history =
       along IsLawfulEvent (EachTaken IsLawfulEvent Both) (each_kept IsLawfulEvent Both both_kept)
-      (each_first IsLawfulEvent Both both_first) events past rest (lawful_events events lawful) history
+      (each_first IsLawfulEvent Both both_first) f events past rest (lawful_events events lawful) history
 
   -- ---- the end of a run
 
@@ -337,11 +338,11 @@ module _ (one : OneProgram) (joins : WrittenJoins) where
 
   -- ---- only where it has ended
 
-  module _ (events : List Incoming) (past : History) (rest : Rest) (lawful : AreLawful events)
-      (history : IsHistoryOf events past rest) (before : History) (code m : ℕ) (there : ExitsAt past before code m)
+  module _ (f : FirstSeq) (events : List Incoming) (past : History) (rest : Rest) (lawful : AreLawful events)
+      (history : IsHistoryOf f events past rest) (before : History) (code m : ℕ) (there : ExitsAt past before code m)
     where
       was : WasTaken IsLawfulEvent Both before there.step
-      was = (both_at events past rest lawful history).each before there.step there.after there.past_is
+      was = (both_at f events past rest lawful history).each before there.step there.after there.past_is
 
       codes_are : exits there.step.effect.events ≡ exits there.front ++ code ∷ exits there.back
       codes_are = exits_with there.front there.back code there.step.effect.events there.events_are
@@ -359,7 +360,7 @@ module _ (one : OneProgram) (joins : WrittenJoins) where
       end_by (Content (Some request)) item_is taken is =
           let told = reply_exits (situation before) request.body there.step.effect.events (exits there.front)
           (exits there.back) code
-          (each_reply_told events past rest history before there.step there.after there.past_is request item_is)
+          (each_reply_told f events past rest history before there.step there.after there.past_is request item_is)
           codes_are in
           let fault = was.held.1 told.0 in
           subst (λ c. EndsWith before c m) (sym told.1) (record {
@@ -370,7 +371,8 @@ module _ (one : OneProgram) (joins : WrittenJoins) where
             faults = ap (outcome fault.0.program) (m_is (Content (Some request)) item_is) ∙ fault.3;
           })
       end_by (Accepted r) item_is taken is =
-          let told = each_report_told events past rest history before there.step there.after there.past_is r item_is in
+          let told = each_report_told f events past rest history before there.step there.after there.past_is r item_is
+          in
           let done = report_exits before r.outcome (exits there.front) (exits there.back) code
           (sym (after_outputs told.1.0 (tells before r.outcome) there.step.effect.events told.1.1 told.1.2)
           ∙ codes_are) in
@@ -383,10 +385,10 @@ module _ (one : OneProgram) (joins : WrittenJoins) where
       end_by item item_is taken is = silent (ap (λ (e : Effect). exits e.events) is.effect_is)
 
   pub each_end : EachEndIsTheEnd
-  each_end events past rest lawful history before code m there =
-      end_by events past rest lawful history before code m there there.step.item refl
-      (was events past rest lawful history before code m there).taken
-      (was events past rest lawful history before code m there).causes
+  each_end f events past rest lawful history before code m there =
+      end_by f events past rest lawful history before code m there there.step.item refl
+      (was f events past rest lawful history before code m there).taken
+      (was f events past rest lawful history before code m there).causes
 
   -- ---- where it has to be told
 
@@ -405,11 +407,11 @@ module _ (one : OneProgram) (joins : WrittenJoins) where
   further_on main l r start same from slice.NoMemory (lacks_memory stays runs) = stays ∙ from
 
   pub each_told : RunsHaveNoGaps → NothingFollowsTheEnd → EachEndIsTold
-  each_told no_gaps ends events past rest lawful history before step after past_is r item_is =
+  each_told no_gaps ends f events past rest lawful history before step after past_is r item_is =
       (l.0, l.1, report_lives one joins no_gaps ends before r taken.0 taken.1 was.held.0.0 l.0 l.1, further)
     where
       was : WasTaken IsLawfulEvent Both before step
-      was = (both_at events past rest lawful history).each before step after past_is
+      was = (both_at f events past rest lawful history).each before step after past_is
 
       taken : IsTaken IsLawfulEvent before (Accepted r)
       taken = subst (IsTaken IsLawfulEvent before) item_is was.taken

@@ -67,12 +67,12 @@ enters_stops past l (Some r) = (
 
 module _ (one : OneProgram) (joins : WrittenJoins) where
   pub zero_considered : PositionZeroIsConsidered
-  zero_considered events past rest lawful history before step after past_is request grants asked_is =
+  zero_considered f events past rest lawful history before step after past_is request grants asked_is =
       (there.l, there.there, stop_is, runs_is)
     where
       is : Causes before (Content (Some request)) step
       is = subst (λ i. Causes before i step) grants.item_is
-          (was_taken events past rest history before step after past_is).causes
+          (was_taken f events past rest history before step after past_is).causes
 
       granted : is.0.result ≡ Ok grants.body
       granted = ap (λ a. unwrap_or (result_of a) (Ok grants.body)) (sym is.2.answer_is ∙ grants.answer_is)
@@ -86,7 +86,7 @@ module _ (one : OneProgram) (joins : WrittenJoins) where
       effect_is = is.2.effect_is ∙ there.effect_is
 
       counts : (plan before).counted_from ≡ 0
-      counts = first_counts one joins events past rest lawful history before step after past_is there.l there.there
+      counts = first_counts one joins f events past rest lawful history before step after past_is there.l there.there
           there.configuring
 
       due_is : option_map stop_of (due_first before there.l) ≡ first_stop there.l (plan before).breakpoints

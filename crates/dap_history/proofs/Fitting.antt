@@ -1,5 +1,5 @@
 -- The numbers of a history's messages fit in 64 bits.
-use Rattle.dap_history.proofs.Common.{Accepted, All, All-cons, All-nil, Answers, At, Block, Body, Breakpoint, Causes, Command, CommandName, Configuration, Configuring, Content, Counting, DivideByZero, Effect, Err, EvalFault, EvaluatesIn, Event, EventBody, Frame, FramesAreFew, HasEffect, History, Incoming, InputEnd, IsHistoryOf, Item, LaunchArguments, Launched, Launches, Loaded, Log, None, OfProgram, Ok, Option, Outgoing, Overflow, PlainReport, Question, Reaction, ReadFailure, Reason, Refusal, RepliesAt, RepliesFrom, RepliesIn, Reply, Resolution, Rest, ResumeKind, Scope, Situation, SliceOutcome, Some, Step, StepAt, Subject, [], answer_to_line, answered, ap, arith, at, at_most, body_of, cond, due_first, effect_in, enters, eqb-true, exited_events, first_logs, frame_by_id, frame_limit, frame_name, held_effect, inl, inr, launched, length, line_offset, log_events, messages, messages_of, next_step, nothing, option_map_or, or_else, ordering, other_source, outputs, refl, refused, reply_of, report_effect, result_answer, scopes, scopes_from, shown_column, shown_frame, shown_frames, shown_line, situation, slice_get, stopped_events, subject_in, subst, suc, sym, waiting_pause, with_answer, zero, ℕ, ◌++◌, ◌+◌, ◌-◌, ◌<◌, ◌^◌, ◌∙◌, ◌∷◌, ◌≡◌, ◌≤◌}
+use Rattle.dap_history.proofs.Common.{FirstSeq, Accepted, All, All-cons, All-nil, Answers, At, Block, Body, Breakpoint, Causes, Command, CommandName, Configuration, Configuring, Content, Counting, DivideByZero, Effect, Err, EvalFault, EvaluatesIn, Event, EventBody, Frame, FramesAreFew, HasEffect, History, Incoming, InputEnd, IsHistoryOf, Item, LaunchArguments, Launched, Launches, Loaded, Log, None, OfProgram, Ok, Option, Outgoing, Overflow, PlainReport, Question, Reaction, ReadFailure, Reason, Refusal, RepliesAt, RepliesFrom, RepliesIn, Reply, Resolution, Rest, ResumeKind, Scope, Situation, SliceOutcome, Some, Step, StepAt, Subject, [], answer_to_line, answered, ap, arith, at, at_most, body_of, cond, due_first, effect_in, enters, eqb-true, exited_events, first_logs, frame_by_id, frame_limit, frame_name, held_effect, inl, inr, launched, length, line_offset, log_events, messages, messages_of, next_step, nothing, option_map_or, or_else, ordering, other_source, outputs, refl, refused, reply_of, report_effect, result_answer, scopes, scopes_from, shown_column, shown_frame, shown_frames, shown_line, situation, slice_get, stopped_events, subject_in, subst, suc, sym, waiting_pause, with_answer, zero, ℕ, ◌++◌, ◌+◌, ◌-◌, ◌<◌, ◌^◌, ◌∙◌, ◌∷◌, ◌≡◌, ◌≤◌}
 use Rattle.std.proofs.Common.{Bool, true, false, nat_eq, List, map, option_map, Result, ℤ, lit≤}
 use Rattle.std.proofs.lemmas.List.Elements.{All-take, All-drop, All-map}
 use Rattle.dap_msg.specs.declared.question.Question.TheVariants as question
@@ -373,8 +373,9 @@ module _ (few : FramesAreFew) where
         (subst (λ i. Causes past i after.step) (sym after.item_is) after.causes) here);
   }
 
-  pub history_fits : (events : List Incoming) (past : History) (rest : Rest) → IsHistoryOf events past rest
+  pub history_fits : (f : FirstSeq) (events : List Incoming) (past : History) (rest : Rest)
+      → IsHistoryOf f events past rest
       → ItemsFit past → MessagesFit (messages_of past)
-  history_fits events past rest history items =
-      (along (λ e. Unit {0}) Fitting fitting_kept (record { near = tt; fit = λ is. tt }) events past rest
+  history_fits f events past rest history items =
+      (along (λ e. Unit {0}) Fitting fitting_kept (record { near = tt; fit = λ is. tt }) f events past rest
       (any_events events) history).fit items

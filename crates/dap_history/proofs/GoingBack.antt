@@ -38,7 +38,7 @@ granted_by past (Content None) step m seq name b is asks answers = absurd cc
 granted_by past _ step m seq name b is asks answers = absurd cc
 
 pub each_goes_back : EachGoesBackAsAsked
-each_goes_back events past rest lawful history before step after past_is = (
+each_goes_back f events past rest lawful history before step after past_is = (
   λ run orders. ordered_back before (back_in step.item) step.effect.put_in (run_in step)
       (item_ordered before step.item step was.taken was.causes) run (ordered_last before step run was.causes orders),
   λ m seq name b asks answers. granted_by before step.item step m seq name b was.causes asks answers,
@@ -47,7 +47,7 @@ each_goes_back events past rest lawful history before step after past_is = (
     each : EachTaken IsLawfulEvent (Anything IsLawfulEvent) past
     each = along IsLawfulEvent (EachTaken IsLawfulEvent (Anything IsLawfulEvent))
         (each_kept IsLawfulEvent (Anything IsLawfulEvent) (anything_kept IsLawfulEvent))
-        (each_first IsLawfulEvent (Anything IsLawfulEvent) tt) events past rest (lawful_events events lawful) history
+        (each_first IsLawfulEvent (Anything IsLawfulEvent) tt) f events past rest (lawful_events events lawful) history
 
     was : WasTaken IsLawfulEvent (Anything IsLawfulEvent) before step
     was = each.each before step after past_is
@@ -56,13 +56,13 @@ abbrev AnyEvent : Incoming → Type 0
 AnyEvent e = Unit {0}
 
 pub retreats_not_held : RetreatsAreNotHeld
-retreats_not_held events past rest history before step after past_is back =
+retreats_not_held f events past rest history before step after past_is back =
     item_holds before step.item step was.causes back
   where
     each : EachTaken AnyEvent (Anything AnyEvent) past
     each = along AnyEvent (EachTaken AnyEvent (Anything AnyEvent))
         (each_kept AnyEvent (Anything AnyEvent) (anything_kept AnyEvent)) (each_first AnyEvent (Anything AnyEvent) tt)
-        events past rest (any_events events) history
+        f events past rest (any_events events) history
 
     was : WasTaken AnyEvent (Anything AnyEvent) before step
     was = each.each before step after past_is
@@ -237,14 +237,14 @@ module _ (one : OneProgram) (joins : WrittenJoins) where
   back_first = record { ran = ran_first one joins; stood = λ back standing. absurd standing }
 
   pub counts_begin_anew : CountsBeginAnew
-  counts_begin_anew events past rest lawful history before step after past_is run orders back =
+  counts_begin_anew f events past rest lawful history before step after past_is run orders back =
       by_place (ordered_from before (back_in step.item) step.effect.put_in (run_in step)
       (item_ordered before step.item step was.taken was.causes) run
       (ordered_last before step run was.causes orders))
     where
       each : EachTaken IsLawfulEvent Back past
       each = along IsLawfulEvent (EachTaken IsLawfulEvent Back) (each_kept IsLawfulEvent Back back_kept)
-          (each_first IsLawfulEvent Back back_first) events past rest (lawful_events events lawful) history
+          (each_first IsLawfulEvent Back back_first) f events past rest (lawful_events events lawful) history
 
       was : WasTaken IsLawfulEvent Back before step
       was = each.each before step after past_is

@@ -86,7 +86,7 @@ report_run past r _ is none = absurd cc
 -- ---- the laws
 
 pub each_reply_told : EachReplyIsTold
-each_reply_told events past rest history before step after past_is request item_is =
+each_reply_told f events past rest history before step after past_is request item_is =
     subst (λ (e : Effect). TellsBy (situation before) request.body e.events) (sym is.2.effect_is)
     (by_reaction (λ (r : Reply). TellsBy (situation before) request.body r.effect.events)
     (λ reaction. reaction_tells before) is.1)
@@ -94,10 +94,10 @@ each_reply_told events past rest history before step after past_is request item_
     is : Causes before (Content (Some request)) step
     is =
         subst (λ i. Causes before i step) item_is
-        (was_taken events past rest history before step after past_is).causes
+        (was_taken f events past rest history before step after past_is).causes
 
 pub granted_ordered : GrantedRunsAreOrdered
-granted_ordered events past rest history before step after past_is request grants asks =
+granted_ordered f events past rest history before step after past_is request grants asks =
     subst (IsDone (situation before) request.body) (sym is.2.effect_is)
     (by_reaction (λ (r : Reply). r.result ≡ Ok grants.body → IsDone (situation before) request.body r.effect)
     (λ reaction reacted granted. reaction_done before reacted grants.body granted asks) is.1 granted)
@@ -105,17 +105,17 @@ granted_ordered events past rest history before step after past_is request grant
     is : Causes before (Content (Some request)) step
     is =
         subst (λ i. Causes before i step) grants.item_is
-        (was_taken events past rest history before step after past_is).causes
+        (was_taken f events past rest history before step after past_is).causes
 
     granted : is.0.result ≡ Ok grants.body
     granted = ap (λ a. unwrap_or (result_of a) (Ok grants.body)) (sym is.2.answer_is ∙ grants.answer_is)
 
 pub held_go_on : HeldRunsGoOn
-held_go_on events past rest history before step after past_is r item_is held_is none =
+held_go_on f events past rest history before step after past_is r item_is held_is none =
     subst (λ (e : Effect). IsSome (last_such go e.orders)) (sym is.effect_is)
     (report_run before r r.outcome held_is none)
   where
     is : Causes before (Accepted r) step
     is =
         subst (λ i. Causes before i step) item_is
-        (was_taken events past rest history before step after past_is).causes
+        (was_taken f events past rest history before step after past_is).causes

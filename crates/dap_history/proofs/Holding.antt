@@ -301,11 +301,11 @@ module _ (past : History) (step : Step) (front back : List PlainOrder) (n : ℕ)
       by_end (inr e) = let f = sym not_held ∙ e.0 in absurd cc
 
 pub hold_once_law : HoldOnce
-hold_once_law events past rest history before step after past_is front back n holds =
+hold_once_law f events past rest history before step after past_is front back n holds =
     held_once before step front back n was.taking (item_orders before step.item step refl was.causes) was.held holds
   where
     each : EachTaken Any Ends past
-    each = along Any (EachTaken Any Ends) (each_kept Any Ends (ends_kept Any)) (each_first Any Ends ends_first) events
+    each = along Any (EachTaken Any Ends) (each_kept Any Ends (ends_kept Any)) (each_first Any Ends ends_first) f events
         past rest (any_events events) history
 
     was : WasTaken Any Ends before step
@@ -386,12 +386,12 @@ module _ (past : History) (step : Step) (run : Heading) (run_is : last_run past 
           )
 
 pub waits_are_held : WaitsAreHeld
-waits_are_held events past rest history before step after past_is running run run_is forward wait =
+waits_are_held f events past rest history before step after past_is running run run_is forward wait =
     ends_held before step run run_is (granted_orders before step was.causes running wait) forward
     (was.held.last was.taking run run_is)
   where
     each : EachTaken Any Ends past
-    each = along Any (EachTaken Any Ends) (each_kept Any Ends (ends_kept Any)) (each_first Any Ends ends_first) events
+    each = along Any (EachTaken Any Ends) (each_kept Any Ends (ends_kept Any)) (each_first Any Ends ends_first) f events
         past rest (any_events events) history
 
     was : WasTaken Any Ends before step

@@ -1,5 +1,5 @@
 -- Each request is judged as the table says, a refusal changes nothing, and other items tell nothing.
-use Rattle.dap_history.proofs.Common.{Accepted, InspectsAs, Causes, Command, CommandName, Configuration, Configuring, Content, Effect, Err, Event, Faulted, Fresh, History, Incoming, Inspects, Interrupt, IsHistoryOf, Item, Launch, Launched, Launches, Loaded, None, Ok, Option, Question, Reaction, Reacts, Ready, Refusal, Refuse, RepliesAt, Reply, Rest, Resume, ResumeKind, Retreat, RetreatKind, Running, SetBreakpointsArguments, SetsOf, Situation, Some, Start, Step, Stopped, ThreadArguments, [], ap, at, body_of, if◌then◌else◌, inl, inr, is_same_path, launched, nothing, refl, refused_by, refused_thread, reply_of, situation, subject_in, subst, sym, wanted_in, with_answer, ℕ, ◌++◌, ◌∙◌, ◌∷◌, ◌≡◌}
+use Rattle.dap_history.proofs.Common.{FirstSeq, Accepted, InspectsAs, Causes, Command, CommandName, Configuration, Configuring, Content, Effect, Err, Event, Faulted, Fresh, History, Incoming, Inspects, Interrupt, IsHistoryOf, Item, Launch, Launched, Launches, Loaded, None, Ok, Option, Question, Reaction, Reacts, Ready, Refusal, Refuse, RepliesAt, Reply, Rest, Resume, ResumeKind, Retreat, RetreatKind, Running, SetBreakpointsArguments, SetsOf, Situation, Some, Start, Step, Stopped, ThreadArguments, [], ap, at, body_of, if◌then◌else◌, inl, inr, is_same_path, launched, nothing, refl, refused_by, refused_thread, reply_of, situation, subject_in, subst, sym, wanted_in, with_answer, ℕ, ◌++◌, ◌∙◌, ◌∷◌, ◌≡◌}
 use Rattle.std.proofs.Common.{List, Bool, true, false, Result}
 use Rattle.std.specs.Prelude.{nat_eq, map}
 use Rattle.dap_msg.specs.declared.command.Command.TheVariants as command
@@ -174,17 +174,18 @@ abbrev pub Any : Incoming → Type 0
 Any e = Unit {0}
 
 -- each step of a history was taken, and caused what its item causes
-module _ (events : List Incoming) (past : History) (rest : Rest) (history : IsHistoryOf events past rest)
+module _ (f : FirstSeq) (events : List Incoming) (past : History) (rest : Rest)
+    (history : IsHistoryOf f events past rest)
     (before : History) (step : Step) (after : History) (past_is : past ≡ before ++ step ∷ after) where
   each : EachTaken Any (Anything Any) past
   each = along Any (EachTaken Any (Anything Any)) (each_kept Any (Anything Any) (anything_kept Any))
-      (each_first Any (Anything Any) tt) events past rest (any_events events) history
+      (each_first Any (Anything Any) tt) f events past rest (any_events events) history
 
   pub was_taken : WasTaken Any (Anything Any) before step
   was_taken = each.each before step after past_is
 
 pub each_judged : EachIsJudged
-each_judged events past rest history before step after past_is request item_is = (
+each_judged f events past rest history before step after past_is request item_is = (
   is.0.result,
   is.2.answer_is,
   subst (λ (r : Reply). IsVerdict (refused_by (situation before) request.body) request.body r.result)
@@ -193,7 +194,7 @@ each_judged events past rest history before step after past_is request item_is =
 )
   where
     was : WasTaken Any (Anything Any) before step
-    was = was_taken events past rest history before step after past_is
+    was = was_taken f events past rest history before step after past_is
 
     is : Causes before (Content (Some request)) step
     is = subst (λ i. Causes before i step) item_is was.causes
@@ -202,13 +203,13 @@ each_judged events past rest history before step after past_is request item_is =
     taken = subst (IsTaken Any before) item_is was.taken
 
 pub refusals_quiet : RefusalsChangeNothing
-refusals_quiet events past rest history before step after past_is seq name why answer =
+refusals_quiet f events past rest history before step after past_is seq name why answer =
     refused_step before step.item step seq name why
-    (was_taken events past rest history before step after past_is).causes answer
+    (was_taken f events past rest history before step after past_is).causes answer
 
 pub others_quiet : OthersTellNothing
-others_quiet events past rest history before step after past_is silent =
-    other_tells before step.item step (was_taken events past rest history before step after past_is).causes silent
+others_quiet f events past rest history before step after past_is silent =
+    other_tells before step.item step (was_taken f events past rest history before step after past_is).causes silent
 
 pub answers_first : AnswersComeFirst
 answers_first = (

@@ -60,7 +60,7 @@ answers_it past step seq is =
     (replied Close is.1 is.1.reacts)
 
 pub disconnect_last : DisconnectIsLast
-disconnect_last events past rest history before step after seq past_is item_is = (
+disconnect_last f events past rest history before step after seq past_is item_is = (
   ends,
   ap messages_of (past_is ∙ ap (λ a. before ++ step ∷ a) ends) ∙ messages_of-snoc before step
       ∙ ap (λ l. messages_of before ++ l)
@@ -70,7 +70,7 @@ disconnect_last events past rest history before step after seq past_is item_is =
     each : EachTaken (λ e. Unit {0}) ClosesLast past
     each = along (λ e. Unit {0}) (EachTaken (λ e. Unit {0}) ClosesLast)
         (each_kept (λ e. Unit {0}) ClosesLast (closes_last_kept (λ e. Unit {0})))
-        (each_first (λ e. Unit {0}) ClosesLast closes_last_first) events past rest (any_events events) history
+        (each_first (λ e. Unit {0}) ClosesLast closes_last_first) f events past rest (any_events events) history
 
     was : WasTaken (λ e. Unit {0}) ClosesLast before step
     was = each.each before step after past_is

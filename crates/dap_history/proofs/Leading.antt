@@ -336,6 +336,6 @@ module _ (one : OneProgram) (joins : WrittenJoins) (no_gaps : RunsHaveNoGaps) wh
     leads_on MemoryFailure plain = by_step MemoryFailure None nothing (record { answer_is = refl; effect_is = refl })
 
   pub each_item_leads : EachItemLeads
-  each_item_leads events past rest lawful history item plain =
-      leads_on past (along IsLawfulEvent Leading leading_kept leading_first events past rest
+  each_item_leads f events past rest lawful history item plain =
+      leads_on past (along IsLawfulEvent Leading leading_kept leading_first f events past rest
       (lawful_events events lawful) history) item plain

@@ -4,9 +4,6 @@ pub mod Common
 pub mod Readings
 -- What holds at first and is kept by each item that is taken holds along a history; for `history_laws` and `run_laws`.
 pub mod Along
--- The first number that the client may use stays as it is; for the clauses `contents` and `read_back` of
--- `history_laws`, and for the crates above.
-pub mod FirstKept
 -- Each request is answered once; for the clause `answered` of `history_laws`.
 pub mod Answered
 -- The message numbered n is the nth; for the clauses `numbered` and `read_back` of `history_laws`.

@@ -1,5 +1,5 @@
 -- Each line of a granted `setBreakpoints` is answered from the program, in the client's own counting.
-use Rattle.dap_history.proofs.Common.{Accepted, AreAskedAs, AreResolved, At, BadCondition, BadHitCondition, BadLogMessage, Block, Body, Breakpoint, BreakpointAnswer, Causes, Command, Content, Err, Fresh, GiveBreakpoints, HasConditionAt, HasRule, History, Incoming, InitializeArguments, IsAskedAs, IsHistoryOf, IsResolvedTo, Item, Launched, Loaded, NoStep, None, Ok, Option, Reaction, ReadsConditionAt, ReadsMessageAt, ReadsRule, Refusal, RepliesIn, Reply, Resolution, Rest, SetBreakpointsArguments, Situation, Some, SourceBreakpoint, Step, StepAt, [], after_step, answer_to_line, ap, arith, causing, effect_in, get_or, inl, inr, item_leads, launched, length, less_by, line_offset, name_of, offset, option_map_or, other_source, refl, reply_of, settings, settings_by, situation, slice_get, step_from, steps, stop_in, string_bytes, subst, sym, unwrap_or, ℕ, ◌++◌, ◌+◌, ◌-◌, ◌<◌, ◌∙◌, ◌∷◌, ◌≡◌, ◌≤◌, ◌⊎◌}
+use Rattle.dap_history.proofs.Common.{FirstSeq, Accepted, AreAskedAs, AreResolved, At, BadCondition, BadHitCondition, BadLogMessage, Block, Body, Breakpoint, BreakpointAnswer, Causes, Command, Content, Err, Fresh, GiveBreakpoints, HasConditionAt, HasRule, History, Incoming, InitializeArguments, IsAskedAs, IsHistoryOf, IsResolvedTo, Item, Launched, Loaded, NoStep, None, Ok, Option, Reaction, ReadsConditionAt, ReadsMessageAt, ReadsRule, Refusal, RepliesIn, Reply, Resolution, Rest, SetBreakpointsArguments, Situation, Some, SourceBreakpoint, Step, StepAt, [], after_step, answer_to_line, ap, arith, causing, effect_in, get_or, inl, inr, item_leads, launched, length, less_by, line_offset, name_of, offset, option_map_or, other_source, refl, reply_of, settings, settings_by, situation, slice_get, step_from, steps, stop_in, string_bytes, subst, sym, unwrap_or, ℕ, ◌++◌, ◌+◌, ◌-◌, ◌<◌, ◌∙◌, ◌∷◌, ◌≡◌, ◌≤◌, ◌⊎◌}
 use Rattle.std.proofs.Common.{List, map, Bool, true, false, Result}
 use Rattle.std.specs.List.{position, position_or_len}
 use Rattle.std.proofs.lemmas.Grind.{common_steps}
@@ -297,11 +297,12 @@ not_fresh _ past a reply b is granted fresh = absurd cc
 
 -- ---- the law
 
-module _ (events : List Incoming) (past : History) (rest : Rest) (history : IsHistoryOf events past rest) where
+module _ (f : FirstSeq) (events : List Incoming) (past : History) (rest : Rest)
+    (history : IsHistoryOf f events past rest) where
   each_counted : EachTaken Any IsCounted past
   each_counted =
       along Any (EachTaken Any IsCounted) (each_kept Any IsCounted counted_kept) (each_first Any IsCounted (inl refl))
-      events past rest (any_events events) history
+      f events past rest (any_events events) history
 
   pub counted_now : IsCounted past
   counted_now = each_counted.now
@@ -315,7 +316,7 @@ counts_so past not (inl fresh) = absurd (not fresh)
 counts_so past not (inr is) = is
 
 pub lines_answered : LinesAreAnswered
-lines_answered events past rest history before step after request asked past_is granted asked_is = (
+lines_answered f events past rest history before step after request asked past_is granted asked_is = (
   there.l,
   settings before,
   there.answers,
@@ -332,7 +333,7 @@ lines_answered events past rest history before step after request asked past_is 
   where
     was : WasTaken Any IsCounted before step
     was = (along Any (EachTaken Any IsCounted) (each_kept Any IsCounted counted_kept)
-        (each_first Any IsCounted (inl refl)) events past rest (any_events events) history).each before step after
+        (each_first Any IsCounted (inl refl)) f events past rest (any_events events) history).each before step after
         past_is
 
     is : Causes before (Content (Some request)) step

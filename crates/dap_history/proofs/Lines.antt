@@ -1,5 +1,5 @@
 -- Each run is under the breakpoints of the lines that were set last, and counts from where they were set.
-use Rattle.dap_history.proofs.Common.{Accepted, Accepts, AreLawful, Body, Breakpoint, BreakpointAnswer, Causes, Command, Configuring, Content, Effect, Ended, Event, Fault, Faulted, Fresh, GiveBreakpoints, Go, Heading, History, Hold, Incoming, InitializeArguments, InputEnd, IsHistoryOf, IsResolved, IsStopped, Item, Launch, Launched, Launches, Loaded, MemoryFailure, Mode, None, Ok, Option, Orders, Outgoing, PlainOrder, PlainReport, Plan, Quit, Reaction, ReadFailure, Ready, Reason, Refusal, Reply, Resolution, Rest, Running, SetBreakpointsArguments, Situation, SliceOutcome, Some, SourceBreakpoint, Step, Stopped, ThreadArguments, WrittenJoins, [], answer_to_line, ap, body_of, causing, due_first, effect_in, end_of, enters, exception_of, exited_events, from_next, go, goes_back, held_effect, hold_once, if◌then◌else◌, inl, inr, is_back, is_same_path, is_some, last_run, last_such, launched, launches, line_offset, message_mark, name_of, no_plan, nothing, offset, option_map_or, or_else, order_mark, ordering, plan, put_in_at, refl, refused, reply_of, report_effect, resumes, run_in, runs, settings, settings_by, situation, starts_by, step_mark, stop_of, stopped_events, subst, sym, unwrap_or, waiting_pause, waiting_plan, waits_by, ℕ, ◌++◌, ◌+◌, ◌||◌, ◌∙◌, ◌∷◌, ◌≡◌}
+use Rattle.dap_history.proofs.Common.{FirstSeq, Accepted, Accepts, AreLawful, Body, Breakpoint, BreakpointAnswer, Causes, Command, Configuring, Content, Effect, Ended, Event, Fault, Faulted, Fresh, GiveBreakpoints, Go, Heading, History, Hold, Incoming, InitializeArguments, InputEnd, IsHistoryOf, IsResolved, IsStopped, Item, Launch, Launched, Launches, Loaded, MemoryFailure, Mode, None, Ok, Option, Orders, Outgoing, PlainOrder, PlainReport, Plan, Quit, Reaction, ReadFailure, Ready, Reason, Refusal, Reply, Resolution, Rest, Running, SetBreakpointsArguments, Situation, SliceOutcome, Some, SourceBreakpoint, Step, Stopped, ThreadArguments, WrittenJoins, [], answer_to_line, ap, body_of, causing, due_first, effect_in, end_of, enters, exception_of, exited_events, from_next, go, goes_back, held_effect, hold_once, if◌then◌else◌, inl, inr, is_back, is_same_path, is_some, last_run, last_such, launched, launches, line_offset, message_mark, name_of, no_plan, nothing, offset, option_map_or, or_else, order_mark, ordering, plan, put_in_at, refl, refused, reply_of, report_effect, resumes, run_in, runs, settings, settings_by, situation, starts_by, step_mark, stop_of, stopped_events, subst, sym, unwrap_or, waiting_pause, waiting_plan, waits_by, ℕ, ◌++◌, ◌+◌, ◌||◌, ◌∙◌, ◌∷◌, ◌≡◌}
 use Rattle.std.proofs.Common.{List, Bool, true, false, Result}
 use Rattle.std.specs.Prelude.{map, option_map}
 use Rattle.dap_msg.specs.declared.command.Command.TheVariants as command
@@ -651,12 +651,12 @@ module _ (one : OneProgram) (joins : WrittenJoins) where
   item_so past _ step taken is here run goes =
       none_so past step.answer run step.effect.orders _ (ap (λ (e : Effect). e.orders) is.effect_is) refl goes
 
-  module _ (events : List Incoming) (past : History) (rest : Rest) (lawful : AreLawful events)
-      (history : IsHistoryOf events past rest) (before : History) (step : Step) (after : History) (run : Heading)
+  module _ (f : FirstSeq) (events : List Incoming) (past : History) (rest : Rest) (lawful : AreLawful events)
+      (history : IsHistoryOf f events past rest) (before : History) (step : Step) (after : History) (run : Heading)
       (past_is : past ≡ before ++ step ∷ after) (orders : Orders step run) where
     each : EachTaken IsLawfulEvent Kept past
     each = along IsLawfulEvent (EachTaken IsLawfulEvent Kept) (each_kept IsLawfulEvent Kept kept_kept)
-        (each_first IsLawfulEvent Kept kept_first) events past rest (lawful_events events lawful) history
+        (each_first IsLawfulEvent Kept kept_first) f events past rest (lawful_events events lawful) history
 
     was : WasTaken IsLawfulEvent Kept before step
     was = each.each before step after past_is
@@ -671,22 +671,23 @@ module _ (one : OneProgram) (joins : WrittenJoins) where
       let none = here.ran.so_far.early (subst IsEarly (sym fresh) tt) in let e = sym there ∙ none in cc
 
   pub has_its_lines : EachRunHasItsLines
-  has_its_lines events past rest lawful history before step after past_is run orders =
-      let there = so events past rest lawful history before step after run past_is orders in (
+  has_its_lines f events past rest lawful history before step after past_is run orders =
+      let there = so f events past rest lawful history before step after run past_is orders in (
         there.0,
         settings before,
         there.1,
         counts_so before (not_fresh before here there.0 there.1)
-            (counted_before events past rest history before step after past_is),
+            (counted_before f events past rest history before step after past_is),
         spelled there.0 (settings before) (lines_set there.0.path before) run.plan there.2,
       )
     where
       here : Kept before
-      here = (was events past rest lawful history before step after run past_is orders).held
+      here = (was f events past rest lawful history before step after run past_is orders).held
 
   pub counts_as_set : EachRunCountsFrom
-  counts_as_set events past rest lawful history before step after past_is run orders =
-      let there = so events past rest lawful history before step after run past_is orders in (there.0, there.1, there.3)
+  counts_as_set f events past rest lawful history before step after past_is run orders =
+      let there = so f events past rest lawful history before step after run past_is orders in
+      (there.0, there.1, there.3)
 
   -- ---- the plan in force
 
@@ -698,31 +699,32 @@ module _ (one : OneProgram) (joins : WrittenJoins) where
   in_force l v _ has planned = absurd has
 
   pub plan_of_lines : PlanIsOfLines
-  plan_of_lines events past rest lawful history has l there = (
+  plan_of_lines f events past rest lawful history has l there = (
     settings past,
-    counts_so past (not_fresh past here l there) (counted_now events past rest history),
+    counts_so past (not_fresh past here l there) (counted_now f events past rest history),
     spelled l (settings past) (lines_set l.path past) (plan past).breakpoints force.0,
     force.1,
   )
     where
       here : Kept past
-      here = along IsLawfulEvent Kept kept_kept kept_first events past rest (lawful_events events lawful) history
+      here = along IsLawfulEvent Kept kept_kept kept_first f events past rest (lawful_events events lawful) history
 
       force : AreOfLines l (line_offset past) (lines_set l.path past) (plan past).breakpoints
           × (situation past ≡ Configuring → (plan past).counted_from ≡ 0)
       force = in_force l (view l past) (situation past) has (here.planned l there)
 
   -- before the program is started the plan in force counts from position 0
-  pub first_counts : (events : List Incoming) (past : History) (rest : Rest) → AreLawful events
-      → IsHistoryOf events past rest → (before : History) (step : Step) (after : History)
+  pub first_counts : (f : FirstSeq) (events : List Incoming) (past : History) (rest : Rest) → AreLawful events
+      → IsHistoryOf f events past rest → (before : History) (step : Step) (after : History)
       → past ≡ before ++ step ∷ after → (l : Launched) → launched before ≡ Some l → situation before ≡ Configuring
       → (plan before).counted_from ≡ 0
-  first_counts events past rest lawful history before step after past_is l there configuring =
+  first_counts f events past rest lawful history before step after past_is l there configuring =
       (in_force l (view l before) (situation before) (subst HasDebuggee (sym configuring) tt)
       (kept_before.planned l there)).1 configuring
     where
       kept_before : Kept before
       kept_before =
           ((along IsLawfulEvent (EachTaken IsLawfulEvent Kept) (each_kept IsLawfulEvent Kept kept_kept)
-          (each_first IsLawfulEvent Kept kept_first) events past rest (lawful_events events lawful) history).each before
+          (each_first IsLawfulEvent Kept kept_first) f events past rest (lawful_events events lawful) history).each
+          before
           step after past_is).held

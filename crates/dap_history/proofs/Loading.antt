@@ -69,10 +69,10 @@ step_launches past _ step is some =
     let never = ap (λ (e : Effect). is_some e.launched) (sym is.effect_is) ∙ some in absurd cc
 
 pub each_launch : EachLaunchIsOfItsFile
-each_launch events past rest history before step after past_is = (
+each_launch f events past rest history before step after past_is = (
   λ launch file item_is. step_ends before step.item step launch file item_is causes,
   λ some. step_launches before step.item step causes some,
 )
   where
     causes : Causes before step.item step
-    causes = (was_taken events past rest history before step after past_is).causes
+    causes = (was_taken f events past rest history before step after past_is).causes

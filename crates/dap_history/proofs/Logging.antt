@@ -301,17 +301,17 @@ module _ (one : OneProgram) (joins : WrittenJoins) (said : LogsAreSaid) where
       first (Some l) is = absurd cc
 
   pub logs_of_positions : LogsAreOfPositions
-  logs_of_positions events past rest lawful history =
+  logs_of_positions f events past rest lawful history =
       let so_far =
-      along IsLawfulEvent Logging logging_kept logging_first events past rest (lawful_events events lawful) history
+      along IsLawfulEvent Logging logging_kept logging_first f events past rest (lawful_events events lawful) history
       in
       (λ l is. so_far.told (Some l) is, λ is. so_far.told None is)
 
   pub stops_follow_logs : StopsFollowLogs
-  stops_follow_logs events past rest lawful history front step more past_is l is before reason after split =
+  stops_follow_logs f events past rest lawful history front step more past_is l is before reason after split =
       let all =
       along IsLawfulEvent (EachTaken IsLawfulEvent Logging) (each_kept IsLawfulEvent Logging logging_kept)
-      (each_first IsLawfulEvent Logging logging_first) events past rest (lawful_events events lawful) history in
+      (each_first IsLawfulEvent Logging logging_first) f events past rest (lawful_events events lawful) history in
       let was = all.each front step more past_is in
       all_so_far (List ℕ) IsStop log_of front step before (Event (event.Stopped reason)) after tt refl
       (logs_after_stops front step was.taken was.causes) split

@@ -53,11 +53,11 @@ items_small echo f (step ∷ past) waits contents are =
     (first.0, items_small echo f past waits first.1.0 first.1.1)
 
 pub frames_read_back : ContentsAreOfTheStream → RequestsEcho → MessagesAreReadBack → FramesAreFew → FramesAreReadBack
-frames_read_back contents echo back few events past rest history n message is small =
-    let stream = contents events past rest history in
+frames_read_back contents echo back few f events past rest history n message is small =
+    let stream = contents f events past rest history in
     let fits =
     message_fits (messages_of past) n message
-    (history_fits few events past rest history (items_small echo rest.first past
+    (history_fits few f events past rest history (items_small echo f past
     (waiting rest.launch) stream.0 stream.2)) is
     in (
       text_of message (n + 1),

@@ -1,5 +1,5 @@
 -- A list of events has one history, where an item has one effect.
-use Rattle.dap_history.proofs.Common.{Accepted, Content, Err, Fault, File, FirstSeq, History, Incoming, InputEnd, IsAfter, IsInFront, IsRequestFrom, IsTaking, Item, Launch, LeadsByEvent, LeadsByEvents, LeadsByFile, LeadsByPiece, LeadsByReport, LoadFault, Loaded, Loads, MayTake, MemoryFailure, NoMemory, None, Ok, Option, Piece, PlainReport, ReadFailed, ReadFailure, Report, Request, Rest, Some, Takes, [], ap, closed, faulty, inl, inr, one_more, open_ended, refl, situation, subst, sym, waits, wanted_in, ℕ, ◌++◌, ◌∙◌, ◌∷◌, ◌≡◌, ◌⊎◌}
+use Rattle.dap_history.proofs.Common.{Accepted, Content, Err, Fault, File, FirstSeq, History, Incoming, InputEnd, IsAfter, IsInFront, IsRequestFrom, IsTaking, Item, Launch, LeadsByEvent, LeadsByEvents, LeadsByFile, LeadsByPiece, LeadsByReport, LoadFault, Loaded, Loads, MayTake, MemoryFailure, NoMemory, None, Ok, Option, Piece, PlainReport, ReadFailed, ReadFailure, Report, Request, Rest, Some, Rests, Takes, TakesSome, [], ap, closed, faulty, inl, inr, no_content, one_content, open_ended, refl, situation, subst, sym, waits, wanted_in, ℕ, ◌++◌, ◌∙◌, ◌∷◌, ◌≡◌, ◌⊎◌}
 use Rattle.std.proofs.Common.{List, Result}
 use Rattle.dap_frame.specs.Laws.{FramesAreUnique, FaultsAreUnique, NeverBoth}
 use Rattle.dap_msg.specs.Laws.{OneReading}
@@ -25,84 +25,88 @@ module _ (once : IsReadOnce) where
         same.1,
       )
 
-  -- A content in front that wants no file is taken.
-  pub goes_on : {first : FirstSeq} {past new : History} {bytes : List ℕ} {rest : Rest}
-      → Takes first past bytes new rest
+  -- where no further content is taken, none that wants no file stands in front
+  none_in_front : {first : FirstSeq} {past new : History} {bytes : List ℕ} {rest : Rest}
+      → Rests first past bytes new rest
       → (request : Option Request) (more : List ℕ) → IsTaking past → IsInFront first bytes request more
-      → wanted_in (situation past) request ≡ None → (mid : History) × IsAfter past (Content request) mid
-      × Takes first mid more new rest
-  goes_on {first = first} {past = past} {new = new} {bytes = bytes} {rest = rest}
-      (one_more {mid = mid} {more = more'} other taking' there unwanted' after taken) request more taking front
-      unwanted =
-      let same = one_front first bytes other request more' more there front in (
-        mid,
-        subst (λ r. IsAfter past (Content r) mid) same.0 after,
-        subst (λ b. Takes first mid b new rest) same.1 taken,
-      )
-  goes_on (closed not) request more taking front unwanted = absurd (not taking)
-  goes_on (open_ended taking' is) request more taking front unwanted =
-      absurd (is.no_frame front.content more front.framed)
-  goes_on {bytes = bytes} (faulty k new taking' fault after) request more taking front unwanted =
-      absurd (once.not_both bytes front.content more k front.framed fault)
-  goes_on {first = first} {past = past} {bytes = bytes}
-      (waits other launch more' taking' there wanted) request more taking front
-      unwanted =
+      → ¬ (wanted_in (situation past) request ≡ None)
+  none_in_front (closed not) request more taking front unwanted = not taking
+  none_in_front (open_ended taking' is) request more taking front unwanted =
+      is.no_frame front.content more front.framed
+  none_in_front {bytes = bytes} (faulty k new taking' fault after) request more taking front unwanted =
+      once.not_both bytes front.content more k front.framed fault
+  none_in_front {first = first} {past = past} {bytes = bytes} (waits other launch more' taking' there wanted) request
+      more taking front unwanted =
       let same = one_front first bytes other request more' more there front in
       let e = sym unwanted ∙ ap (wanted_in (situation past)) (sym same.0) ∙ wanted in absurd cc
+
+  -- Some contents that are taken are the first of all that are.
+  pub further : {first : FirstSeq} {past mid last new : History} {bytes left more : List ℕ} {rest : Rest}
+      → TakesSome first past bytes mid left → TakesSome first past bytes last more → Rests first last more new rest
+      → TakesSome first mid left last more
+  further no_content all rests = all
+  further (one_content {more = more} request taking front unwanted after some) no_content rests =
+      absurd (none_in_front rests request more taking front unwanted)
+  further {first = first} {past = past} {last = last} {bytes = bytes} {more = more}
+      (one_content {mid = a} {more = x} request taking front unwanted after some)
+      (one_content {mid = b} {more = y} request' taking' front' unwanted' after' all) rests =
+      let same = one_front first bytes request' request y x front' front in
+      let here : a ≡ b =
+      once.one_after past (Content request) a b after (subst (λ r. IsAfter past (Content r) b) same.0 after') in
+      further some
+      (subst (λ h. TakesSome first h x last more) (sym here) (subst (λ z. TakesSome first b z last more) same.1 all))
+      rests
+
+  none_further : {first : FirstSeq} {past mid new : History} {bytes left : List ℕ} {rest : Rest}
+      → Rests first past bytes new rest
+      → TakesSome first past bytes mid left → (mid ≡ past) × (left ≡ bytes)
+  none_further rests no_content = (refl, refl)
+  none_further rests (one_content {more = more} request taking front unwanted after some) =
+      absurd (none_in_front rests request more taking front unwanted)
 
   abbrev Same : History → Rest → History → Rest → Type 0
   Same new rest other left = (new ≡ other) × (rest ≡ left)
 
-  one_taking : {first : FirstSeq} {past new other : History} {bytes : List ℕ} {rest left : Rest}
-      → Takes first past bytes new rest
-      → Takes first past bytes other left → Same new rest other left
-  one_taking {first = first} {past = past} {other = other} {left = left}
-      (one_more {mid = mid} {more = more} request taking front unwanted after taken) b =
-      let next = goes_on b request more taking front unwanted in
-      one_taking taken (subst (λ h. Takes first h more other left)
-      (sym (once.one_after past (Content request) mid next.0 after next.1)) next.2)
-  one_taking (closed not) (one_more request taking front unwanted after taken) = absurd (not taking)
-  one_taking (open_ended taking is) (one_more {more = more} request taking' front unwanted after taken) =
+  one_resting : {first : FirstSeq} {past new other : History} {bytes : List ℕ} {rest left : Rest}
+      → Rests first past bytes new rest → Rests first past bytes other left → Same new rest other left
+  one_resting (closed not) (closed not') = (refl, refl)
+  one_resting (closed not) (open_ended taking is) = absurd (not taking)
+  one_resting (closed not) (faulty k new taking fault after) = absurd (not taking)
+  one_resting (closed not) (waits request launch more taking front wanted) = absurd (not taking)
+  one_resting (open_ended taking is) (closed not) = absurd (not taking)
+  one_resting (open_ended taking is) (open_ended taking' is') = (refl, refl)
+  one_resting (open_ended taking is) (faulty k new taking' fault after) = absurd (is.no_fault k fault)
+  one_resting (open_ended taking is) (waits request launch more taking' front wanted) =
       absurd (is.no_frame front.content more front.framed)
-  one_taking {bytes = bytes} (faulty k new taking fault after)
-      (one_more {more = more} request taking' front unwanted after' taken) =
+  one_resting (faulty k new taking fault after) (closed not) = absurd (not taking)
+  one_resting (faulty k new taking fault after) (open_ended taking' is) = absurd (is.no_fault k fault)
+  one_resting {past = past} {bytes = bytes} (faulty k new taking fault after) (faulty k' new' taking' fault' after') = (
+    once.one_after past (Fault k) new new' after
+        (subst (λ j. IsAfter past (Fault j) new') (once.one_fault bytes k' k fault' fault) after'),
+    refl,
+  )
+  one_resting {bytes = bytes} (faulty k new taking fault after) (waits request launch more taking' front wanted) =
       absurd (once.not_both bytes front.content more k front.framed fault)
-  one_taking {first = first} {past = past} {bytes = bytes} (waits other launch more' taking there wanted)
-      (one_more {more = more} request taking' front unwanted after taken) =
-      let same = one_front first bytes other request more' more there front in
-      let e = sym unwanted ∙ ap (wanted_in (situation past)) (sym same.0) ∙ wanted in absurd cc
-  one_taking (closed not) (closed not') = (refl, refl)
-  one_taking (closed not) (open_ended taking is) = absurd (not taking)
-  one_taking (closed not) (faulty k new taking fault after) = absurd (not taking)
-  one_taking (closed not) (waits request launch more taking front wanted) = absurd (not taking)
-  one_taking (open_ended taking is) (closed not) = absurd (not taking)
-  one_taking (open_ended taking is) (open_ended taking' is') = (refl, refl)
-  one_taking (open_ended taking is) (faulty k new taking' fault after) = absurd (is.no_fault k fault)
-  one_taking (open_ended taking is) (waits request launch more taking' front wanted) =
+  one_resting (waits request launch more taking front wanted) (closed not) = absurd (not taking)
+  one_resting (waits request launch more taking front wanted) (open_ended taking' is) =
       absurd (is.no_frame front.content more front.framed)
-  one_taking (faulty k new taking fault after) (closed not) = absurd (not taking)
-  one_taking (faulty k new taking fault after) (open_ended taking' is) = absurd (is.no_fault k fault)
-  one_taking {first = first} {past = past} {bytes = bytes} (faulty k new taking fault after)
-      (faulty k' new' taking' fault' after') = (
-        once.one_after past (Fault k) new new' after
-            (subst (λ j. IsAfter past (Fault j) new') (once.one_fault bytes k' k fault' fault) after'),
-        refl,
-      )
-  one_taking {bytes = bytes} (faulty k new taking fault after) (waits request launch more taking' front wanted) =
+  one_resting {bytes = bytes} (waits request launch more taking front wanted) (faulty k new taking' fault after) =
       absurd (once.not_both bytes front.content more k front.framed fault)
-  one_taking (waits request launch more taking front wanted) (closed not) = absurd (not taking)
-  one_taking (waits request launch more taking front wanted) (open_ended taking' is) =
-      absurd (is.no_frame front.content more front.framed)
-  one_taking {bytes = bytes} (waits request launch more taking front wanted) (faulty k new taking' fault after) =
-      absurd (once.not_both bytes front.content more k front.framed fault)
-  one_taking {first = first} {past = past} {bytes = bytes} (waits request launch more taking front wanted)
+  one_resting {first = first} {past = past} {bytes = bytes} (waits request launch more taking front wanted)
       (waits request' launch' more' taking' front' wanted') =
       let same = one_front first bytes request request' more more' front front' in
       let launches : launch ≡ launch' = let e = sym wanted ∙ ap (wanted_in (situation past)) same.0 ∙ wanted' in cc in (
         refl,
-        ap (λ (l : Launch). record { first = first; launch = Some l; bytes = more }) launches
-            ∙ ap (λ b. record { first = first; launch = Some launch'; bytes = b }) same.1,
+        ap (λ (l : Launch). record { launch = Some l; bytes = more }) launches
+            ∙ ap (λ b. record { launch = Some launch'; bytes = b }) same.1,
       )
+
+  one_taking : (first : FirstSeq) (past new other : History) (bytes : List ℕ) (rest left : Rest)
+      → Takes first past bytes new rest → Takes first past bytes other left → Same new rest other left
+  one_taking first past new other bytes rest left a b =
+      let same = none_further a.3 (further a.2 b.2 b.3) in
+      one_resting a.3
+      (subst (λ h. Rests first h a.1 other left) same.0 (subst (λ x. Rests first b.0 x other left) same.1 b.3))
 
   one_may : (past : History) (item : Item) (new other : History) → MayTake past item new → MayTake past item other
       → new ≡ other
@@ -115,7 +119,7 @@ module _ (once : IsReadOnce) where
       (rest left : Rest)
       → LeadsByPiece first past launch bytes new rest → LeadsByPiece first past launch bytes other left
       → Same new rest other left
-  one_piece first past None bytes new other rest left a b = one_taking a b
+  one_piece first past None bytes new other rest left a b = one_taking first past new other bytes rest left a b
   one_piece first past (Some launch) bytes new other rest left a b = (a.0 ∙ sym b.0, a.1 ∙ sym b.1)
 
   one_loads : (first : FirstSeq) (past : History) (launch : Launch) (file : Option (List ℕ)) (bytes : List ℕ)
@@ -123,33 +127,36 @@ module _ (once : IsReadOnce) where
       (rest left : Rest) → Loads first past launch file bytes new rest → Loads first past launch file bytes other left
       → Same new rest other left
   one_loads first past launch file bytes new other rest left a b =
-      one_taking a.after
+      one_taking first a.mid new other bytes rest left a.after
       (subst (λ h. Takes first h bytes other left)
       (sym (once.one_after past (Loaded launch file) a.mid b.mid a.loaded b.loaded)) b.after)
 
-  abbrev MayLoad : History → Rest → Launch → Option (List ℕ) → History → Rest → Type 0
-  MayLoad past before launch file new rest =
-      ((¬ IsTaking past) × (new ≡ past) × (rest ≡ before)) ⊎ Loads before.first past launch file before.bytes new rest
+  abbrev MayLoad : FirstSeq → History → Rest → Launch → Option (List ℕ) → History → Rest → Type 0
+  MayLoad first past before launch file new rest =
+      ((¬ IsTaking past) × (new ≡ past) × (rest ≡ before)) ⊎ Loads first past launch file before.bytes new rest
 
-  one_may_load : (past : History) (before : Rest) (launch : Launch) (file : Option (List ℕ)) (new other : History)
-      (rest left : Rest) → MayLoad past before launch file new rest → MayLoad past before launch file other left
+  one_may_load : (first : FirstSeq) (past : History) (before : Rest) (launch : Launch) (file : Option (List ℕ))
+      (new other : History)
+      (rest left : Rest) → MayLoad first past before launch file new rest
+      → MayLoad first past before launch file other left
       → Same new rest other left
-  one_may_load past before launch file new other rest left (inl a) (inl b) = (a.1 ∙ sym b.1, a.2 ∙ sym b.2)
-  one_may_load past before launch file new other rest left (inl a) (inr b) = absurd (a.0 b.taking)
-  one_may_load past before launch file new other rest left (inr a) (inl b) = absurd (b.0 a.taking)
-  one_may_load past before launch file new other rest left (inr a) (inr b) =
-      one_loads before.first past launch file before.bytes new other rest left a b
+  one_may_load first past before launch file new other rest left (inl a) (inl b) = (a.1 ∙ sym b.1, a.2 ∙ sym b.2)
+  one_may_load first past before launch file new other rest left (inl a) (inr b) = absurd (a.0 b.taking)
+  one_may_load first past before launch file new other rest left (inr a) (inl b) = absurd (b.0 a.taking)
+  one_may_load first past before launch file new other rest left (inr a) (inr b) =
+      one_loads first past launch file before.bytes new other rest left a b
 
-  one_file : (past : History) (before : Rest) (launch : Option Launch) (file : Result (List ℕ) LoadFault)
+  one_file : (first : FirstSeq) (past : History) (before : Rest) (launch : Option Launch)
+      (file : Result (List ℕ) LoadFault)
       (new other : History) (rest left : Rest)
-      → LeadsByFile past before launch file new rest → LeadsByFile past before launch file other left
+      → LeadsByFile first past before launch file new rest → LeadsByFile first past before launch file other left
       → Same new rest other left
-  one_file past before None file new other rest left a b = (a.0 ∙ sym b.0, a.1 ∙ sym b.1)
-  one_file past before (Some launch) (Ok file) new other rest left a b =
-      one_may_load past before launch (Some file) new other rest left a b
-  one_file past before (Some launch) (Err load_fault.CannotRead) new other rest left a b =
-      one_may_load past before launch None new other rest left a b
-  one_file past before (Some launch) (Err load_fault.NoMemory) new other rest left a b =
+  one_file first past before None file new other rest left a b = (a.0 ∙ sym b.0, a.1 ∙ sym b.1)
+  one_file first past before (Some launch) (Ok file) new other rest left a b =
+      one_may_load first past before launch (Some file) new other rest left a b
+  one_file first past before (Some launch) (Err load_fault.CannotRead) new other rest left a b =
+      one_may_load first past before launch None new other rest left a b
+  one_file first past before (Some launch) (Err load_fault.NoMemory) new other rest left a b =
       (one_may past MemoryFailure new other a.0 b.0, a.1 ∙ sym b.1)
 
   one_report : (past : History) (r : PlainReport) (new other : History) → LeadsByReport past r new
@@ -159,23 +166,28 @@ module _ (once : IsReadOnce) where
   one_report past r new other (inr a) (inl b) = absurd (b.0 (a.0, a.1))
   one_report past r new other (inr a) (inr b) = once.one_after past (Accepted r) new other a.2 b.2
 
-  one_event : (past : History) (before : Rest) (event : Incoming) (new other : History) (rest left : Rest)
-      → LeadsByEvent past before event new rest → LeadsByEvent past before event other left → Same new rest other left
-  one_event past before (Piece piece) new other rest left a b =
-      one_piece before.first past before.launch (before.bytes ++ piece) new other rest left a b
-  one_event past before End new other rest left a b = (one_may past InputEnd new other a.0 b.0, a.1 ∙ sym b.1)
-  one_event past before ReadFailed new other rest left a b = (one_may past ReadFailure new other a.0 b.0, a.1 ∙ sym b.1)
-  one_event past before NoMemory new other rest left a b = (one_may past MemoryFailure new other a.0 b.0, a.1 ∙ sym b.1)
-  one_event past before (File file) new other rest left a b =
-      one_file past before before.launch file new other rest left a b
-  one_event past before (Report r) new other rest left a b = (one_report past r new other a.0 b.0, a.1 ∙ sym b.1)
-
-  pub one_history : (past : History) (before : Rest) (events : List Incoming) (new other : History) (rest left : Rest)
-      → LeadsByEvents past before events new rest → LeadsByEvents past before events other left
+  one_event : (first : FirstSeq) (past : History) (before : Rest) (event : Incoming) (new other : History)
+      (rest left : Rest)
+      → LeadsByEvent first past before event new rest → LeadsByEvent first past before event other left
       → Same new rest other left
-  one_history past before [] new other rest left a b = (a.0 ∙ sym b.0, a.1 ∙ sym b.1)
-  one_history past before (e ∷ events) new other rest left a b =
-      let same = one_event past before e a.0 b.0 a.1 b.1 a.2 b.2 in
-      one_history a.0 a.1 events new other rest left a.3
-      (subst (λ h. LeadsByEvents h a.1 events other left) (sym same.0)
-      (subst (λ r. LeadsByEvents b.0 r events other left) (sym same.1) b.3))
+  one_event first past before (Piece piece) new other rest left a b =
+      one_piece first past before.launch (before.bytes ++ piece) new other rest left a b
+  one_event first past before End new other rest left a b = (one_may past InputEnd new other a.0 b.0, a.1 ∙ sym b.1)
+  one_event first past before ReadFailed new other rest left a b =
+      (one_may past ReadFailure new other a.0 b.0, a.1 ∙ sym b.1)
+  one_event first past before NoMemory new other rest left a b =
+      (one_may past MemoryFailure new other a.0 b.0, a.1 ∙ sym b.1)
+  one_event first past before (File file) new other rest left a b =
+      one_file first past before before.launch file new other rest left a b
+  one_event first past before (Report r) new other rest left a b = (one_report past r new other a.0 b.0, a.1 ∙ sym b.1)
+
+  pub one_history : (first : FirstSeq) (past : History) (before : Rest) (events : List Incoming) (new other : History)
+      (rest left : Rest)
+      → LeadsByEvents first past before events new rest → LeadsByEvents first past before events other left
+      → Same new rest other left
+  one_history first past before [] new other rest left a b = (a.0 ∙ sym b.0, a.1 ∙ sym b.1)
+  one_history first past before (e ∷ events) new other rest left a b =
+      let same = one_event first past before e a.0 b.0 a.1 b.1 a.2 b.2 in
+      one_history first a.0 a.1 events new other rest left a.3
+      (subst (λ h. LeadsByEvents first h a.1 events other left) (sym same.0)
+      (subst (λ r. LeadsByEvents first b.0 r events other left) (sym same.1) b.3))

@@ -58,6 +58,6 @@ step_once past (Accepted r) step is = subst OrdersOnce (sym is.effect_is) (repor
 step_once past _ step is = subst OrdersOnce (sym is.effect_is) tt
 
 pub each_orders_once : EachStepOrdersOnce
-each_orders_once events past rest history before step after past_is front back order orders_are =
+each_orders_once f events past rest history before step after past_is front back order orders_are =
     only step.effect.orders front back order
-    (step_once before step.item step (was_taken events past rest history before step after past_is).causes) orders_are
+    (step_once before step.item step (was_taken f events past rest history before step after past_is).causes) orders_are

@@ -309,7 +309,7 @@ waits_so past (inl is) true_ = is.1
 waits_so past (inr is) true_ = let e = sym true_ ∙ is.0 in absurd cc
 
 pub pauses_stop : PausesStop
-pauses_stop events past rest history before step after past_is = (
+pauses_stop f events past rest history before step after past_is = (
   λ r item_is outcome_is. (
     λ waits. ap (λ (e : Effect). last_such stop_of_event e.events)
         (held_step before step r was.causes item_is outcome_is)
@@ -322,7 +322,7 @@ pauses_stop events past rest history before step after past_is = (
 )
   where
     each : EachTaken Any IsRead past
-    each = along Any (EachTaken Any IsRead) (each_kept Any IsRead read_kept) (each_first Any IsRead read_first) events
+    each = along Any (EachTaken Any IsRead) (each_kept Any IsRead read_kept) (each_first Any IsRead read_first) f events
         past rest (any_events events) history
 
     was : WasTaken Any IsRead before step

@@ -293,8 +293,8 @@ module _ (one : OneProgram) (joins : WrittenJoins) where
       first_progress (Some l) is = absurd cc
 
   pub numbers_written : NumbersAreWritten
-  numbers_written events past rest lawful history =
+  numbers_written f events past rest lawful history =
       let so_far =
-      along IsLawfulEvent Progress progress_kept progress_first events past rest (lawful_events events lawful)
+      along IsLawfulEvent Progress progress_kept progress_first f events past rest (lawful_events events lawful)
       history in
       (λ l is. (so_far.progress (Some l) is).0, λ is. (so_far.progress None is).0)

@@ -290,7 +290,7 @@ abbrev asking : Launched → Counting → Subject
 asking l counting = record { program = l.program; path = l.path; counting = counting }
 
 pub answers_show : FramesAreLinked → FramesFit → AnswersShowTheProgram
-answers_show linked fit events past rest history before request q step asks allowed = (
+answers_show linked fit f events past rest history before request q step asks allowed = (
   from.0,
   from.1,
   has.c,
@@ -306,7 +306,8 @@ answers_show linked fit events past rest history before request q step asks allo
   where
     was : WasTaken Any IsCounted before step
     was = (along Any (EachTaken Any IsCounted) (each_kept Any IsCounted counted_kept)
-        (each_first Any IsCounted (inl refl)) events past rest (any_events events) history).each before step asks.after
+        (each_first Any IsCounted (inl refl)) f events past rest (any_events events) history).each before step
+        asks.after
         asks.past_is
 
     standing : IsStopped (situation before) × (refused_by Stopped (command.Inspect q) ≡ None)
@@ -315,7 +316,7 @@ answers_show linked fit events past rest history before request q step asks allo
 
     from : (l : Launched) × (m : ℕ) × (launched before ≡ Some l) × StoppedLastAt before m
         × AnswersFrom l before m request q step
-    from = (questions_answered events past rest history before request q step asks).0 standing.0
+    from = (questions_answered f events past rest history before request q step asks).0 standing.0
 
     counting_is : (subject_in before from.0).counting ≡ counting_of (settings before)
     counting_is =

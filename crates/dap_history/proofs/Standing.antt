@@ -259,7 +259,7 @@ shown before request question step reply b so (Some l) is inspects answers stood
 )
 
 pub questions_answered : QuestionsAreAnsweredThere
-questions_answered events past rest history before request question step asks = (
+questions_answered f events past rest history before request question step asks = (
   λ standing.
       let there = inspects_here (situation before) before question causes.0 standing inspects in
       shown before request question step causes.0 there.0 there.2 (launched before) refl there.1 causes.2
@@ -272,7 +272,7 @@ questions_answered events past rest history before request question step asks = 
     each : EachTaken (λ e. Unit {0}) Stood past
     each = along (λ e. Unit {0}) (EachTaken (λ e. Unit {0}) Stood)
         (each_kept (λ e. Unit {0}) Stood (stood_kept (λ e. Unit {0})))
-        (each_first (λ e. Unit {0}) Stood (λ is. absurd is)) events past rest (any_events events) history
+        (each_first (λ e. Unit {0}) Stood (λ is. absurd is)) f events past rest (any_events events) history
 
     was : WasTaken (λ e. Unit {0}) Stood before step
     was = each.each before step asks.after asks.past_is

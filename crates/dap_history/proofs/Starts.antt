@@ -63,7 +63,7 @@ module _ (one : OneProgram) (joins : WrittenJoins) where
       let e = sym (run_of_effect step _ is.effect_is) ∙ run_is in absurd cc
 
   pub each_run_starts : EachRunStartsThere
-  each_run_starts events past rest lawful history before step after past_is run orders =
+  each_run_starts f events past rest lawful history before step after past_is run orders =
       let there = of_launched before step.item step was.taken was.causes was.held run run_is in (
         there.0,
         there.1,
@@ -77,7 +77,7 @@ module _ (one : OneProgram) (joins : WrittenJoins) where
       each : EachTaken IsLawfulEvent (Ran one joins) past
       each = along IsLawfulEvent (EachTaken IsLawfulEvent (Ran one joins))
           (each_kept IsLawfulEvent (Ran one joins) (ran_kept one joins))
-          (each_first IsLawfulEvent (Ran one joins) (ran_first one joins)) events past rest
+          (each_first IsLawfulEvent (Ran one joins) (ran_first one joins)) f events past rest
           (lawful_events events lawful) history
 
       was : WasTaken IsLawfulEvent (Ran one joins) before step

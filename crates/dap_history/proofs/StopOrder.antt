@@ -161,11 +161,11 @@ module _ (one : OneProgram) (joins : WrittenJoins) where
   now front step was = progress_more one joins front step.item step refl was.taken was.causes was.held
 
   pub stops_follow : StopsFollowNumbers
-  stops_follow events past rest lawful history front step more past_is l is before reason after split =
+  stops_follow f events past rest lawful history front step more past_is l is before reason after split =
       let all =
       along IsLawfulEvent (EachTaken IsLawfulEvent Progress)
       (each_kept IsLawfulEvent Progress (progress_kept one joins))
-      (each_first IsLawfulEvent Progress (progress_first one joins)) events past rest (lawful_events events lawful)
+      (each_first IsLawfulEvent Progress (progress_first one joins)) f events past rest (lawful_events events lawful)
       history in
       let was = all.each front step more past_is in
       all_so_far ℤ IsStop output front step before (Event (event.Stopped reason)) after tt refl
@@ -173,11 +173,11 @@ module _ (one : OneProgram) (joins : WrittenJoins) where
       ∙ ((now front step was).progress (Some l) is).0
 
   pub logs_follow : LogsFollowNumbers
-  logs_follow events past rest lawful history front step more past_is l is before text after split =
+  logs_follow f events past rest lawful history front step more past_is l is before text after split =
       let all =
       along IsLawfulEvent (EachTaken IsLawfulEvent Progress)
       (each_kept IsLawfulEvent Progress (progress_kept one joins))
-      (each_first IsLawfulEvent Progress (progress_first one joins)) events past rest (lawful_events events lawful)
+      (each_first IsLawfulEvent Progress (progress_first one joins)) f events past rest (lawful_events events lawful)
       history in
       let was = all.each front step more past_is in
       all_so_far ℤ IsLog output front step before (Event (event.Log text)) after tt refl

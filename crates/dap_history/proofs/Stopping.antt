@@ -374,14 +374,15 @@ module _ (one : OneProgram) (joins : WrittenJoins) where
       let e = sym (stop_of_effect step _ is.effect_is) ∙ stop_is in absurd cc
 
   pub each_stop_right : EachStopIsRight
-  each_stop_right events past rest lawful history before reason m stops_at =
+  each_stop_right f events past rest lawful history before reason m stops_at =
       subst (RightStop before reason) (sym (stops_at.position_is ∙ position-snoc before stops_at.step))
       (step_stops before stops_at.step.item stops_at.step was.taken was.causes was.held reason
       (stopped_last before stops_at.step reason stops_at.front stops_at.back was.causes stops_at.events_are))
     where
       each : EachTaken IsLawfulEvent (Ran one joins) past
       each = along IsLawfulEvent (EachTaken IsLawfulEvent (Ran one joins))
-          (each_kept IsLawfulEvent (Ran one joins) ran_kept) (each_first IsLawfulEvent (Ran one joins) ran_first) events
+          (each_kept IsLawfulEvent (Ran one joins) ran_kept) (each_first IsLawfulEvent (Ran one joins) ran_first) f
+          events
           past rest (lawful_events events lawful) history
 
       was : WasTaken IsLawfulEvent (Ran one joins) before stops_at.step

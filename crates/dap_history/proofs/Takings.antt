@@ -1,5 +1,5 @@
 -- Each event that is an item is taken, and nothing is taken that isn't.
-use Rattle.dap_history.proofs.Common.{Accepted, Accepts, Command, Content, Err, File, FirstSeq, History, Incoming, InputEnd, IsAfter, IsTaking, Item, Launch, LeadsByEvent, LeadsByEvents, LeadsByFile, LeadsByPiece, LeadsByReport, LoadFault, Loaded, Loads, MayTake, MemoryFailure, NoMemory, None, Ok, Option, Piece, PlainReport, ReadFailed, ReadFailure, Report, Rest, SliceOutcome, Some, Step, Takes, [], ap, append-nil, closed, closing, closing_command, closing_report, faulty, inl, inr, one_more, only_bytes, open_ended, or_else, refl, subst, sym, waits, ℕ, ◌++◌, ◌∙◌, ◌∷◌, ◌≡◌}
+use Rattle.dap_history.proofs.Common.{Accepted, Accepts, Command, Content, Err, File, FirstSeq, History, Incoming, InputEnd, IsAfter, IsTaking, Item, Launch, LeadsByEvent, LeadsByEvents, LeadsByFile, LeadsByPiece, LeadsByReport, LoadFault, Loaded, Loads, MayTake, MemoryFailure, NoMemory, None, Ok, Option, Piece, PlainReport, ReadFailed, ReadFailure, Report, Rest, SliceOutcome, Some, Step, Rests, Takes, TakesSome, [], ap, append-nil, closed, closing, closing_command, closing_report, faulty, inl, inr, no_content, one_content, only_bytes, open_ended, or_else, refl, subst, sym, waits, ℕ, ◌++◌, ◌∙◌, ◌∷◌, ◌≡◌}
 use Rattle.std.proofs.Common.{List, Result, append_assoc}
 use Rattle.dap_msg.specs.declared.command.Command.TheVariants as command
 use Rattle.dbg_runner.specs.declared.outcome.SliceOutcome.TheVariants as slice
@@ -11,23 +11,24 @@ use Rattle.dap_history.proofs.Readings.{or_else-none, ending_of-snoc}
 use Rattle.dap_history.proofs.Each.{WasTaken}
 use Rattle.dap_history.proofs.GoingBack.{Anything}
 use Rattle.dap_history.proofs.Judged.{Any, was_taken}
-use Rattle.dap_history.proofs.FirstKept.{first_by_event}
+use Rattle.dap_history.proofs.Cuts.{takes_not}
 
 -- ---- the last event
 
-leads_last : (past : History) (rest : Rest) (events : List Incoming) (e : Incoming) (new : History) (left : Rest)
-    → LeadsByEvents past rest (events ++ e ∷ []) new left
-    → (mid : History) × (between : Rest) × LeadsByEvents past rest events mid between
-    × LeadsByEvent mid between e new left
-leads_last past rest [] e new left all = (
+pub leads_last : (first : FirstSeq) (past : History) (rest : Rest) (events : List Incoming) (e : Incoming)
+    (new : History) (left : Rest)
+    → LeadsByEvents first past rest (events ++ e ∷ []) new left
+    → (mid : History) × (between : Rest) × LeadsByEvents first past rest events mid between
+    × LeadsByEvent first mid between e new left
+leads_last first past rest [] e new left all = (
   past,
   rest,
   (refl, refl),
-  subst (λ h. LeadsByEvent past rest e h left) (sym all.3.0)
-      (subst (λ r. LeadsByEvent past rest e all.0 r) (sym all.3.1) all.2),
+  subst (λ h. LeadsByEvent first past rest e h left) (sym all.3.0)
+      (subst (λ r. LeadsByEvent first past rest e all.0 r) (sym all.3.1) all.2),
 )
-leads_last past rest (x ∷ events) e new left all =
-    let more = leads_last all.0 all.1 events e new left all.3 in
+leads_last first past rest (x ∷ events) e new left all =
+    let more = leads_last first all.0 all.1 events e new left all.3 in
     (more.0, more.1, (all.0, all.1, all.2, more.2), more.3)
 
 -- ---- bytes
@@ -39,27 +40,28 @@ AddsBytes past new = (steps : History) × (new ≡ past ++ steps) × AreOfBytes 
 adds_none : (past : History) → AddsBytes past past
 adds_none past = ([], sym (append-nil past), tt)
 
-takes_bytes : {first : FirstSeq} {past new : History} {bytes : List ℕ} {rest : Rest} → Takes first past bytes new rest
+some_bytes : {first : FirstSeq} {past mid new : History} {bytes left : List ℕ} → TakesSome first past bytes mid left
+    → AddsBytes mid new
     → AddsBytes past new
-takes_bytes {past = past} (one_more request taking front unwanted after more) =
-    let later = takes_bytes more in (
+some_bytes no_content others = others
+some_bytes {past = past} (one_content request taking front unwanted after some) others =
+    let later = some_bytes some others in (
       after.step ∷ later.0,
       later.1 ∙ ap (λ h. h ++ later.0) after.new_is ∙ append_assoc past (after.step ∷ []) later.0,
       (subst IsOfBytes (sym after.item_is) tt, later.2),
     )
-takes_bytes {past = past} (closed not) = adds_none past
-takes_bytes {past = past} (open_ended taking is) = adds_none past
-takes_bytes (faulty k new taking is after) =
-    (after.step ∷ [], after.new_is, (subst IsOfBytes (sym after.item_is) tt, tt))
-takes_bytes {past = past} (waits request launch more taking front wanted) = adds_none past
 
-takes_not : {first : FirstSeq} {past new : History} {bytes : List ℕ} {rest : Rest} → ¬ IsTaking past
-    → Takes first past bytes new rest → new ≡ past
-takes_not not (one_more request taking front unwanted after more) = absurd (not taking)
-takes_not not (closed not') = refl
-takes_not not (open_ended taking is) = absurd (not taking)
-takes_not not (faulty k new taking is after) = absurd (not taking)
-takes_not not (waits request launch more taking front wanted) = absurd (not taking)
+rests_bytes : {first : FirstSeq} {past new : History} {bytes : List ℕ} {rest : Rest}
+    → Rests first past bytes new rest → AddsBytes past new
+rests_bytes {past = past} (closed not) = adds_none past
+rests_bytes {past = past} (open_ended taking is) = adds_none past
+rests_bytes (faulty k new taking is after) =
+    (after.step ∷ [], after.new_is, (subst IsOfBytes (sym after.item_is) tt, tt))
+rests_bytes {past = past} (waits request launch more taking front wanted) = adds_none past
+
+takes_bytes : (first : FirstSeq) (past new : History) (bytes : List ℕ) (rest : Rest)
+    → Takes first past bytes new rest → AddsBytes past new
+takes_bytes first past new bytes rest taken = some_bytes taken.2 (rests_bytes taken.3)
 
 -- ---- by event
 
@@ -76,7 +78,7 @@ one_step : (e : Incoming) {item : Item} (step : Step) → step.item ≡ item →
     → BeginWithItem e item (step ∷ [])
 one_step e step item_is follow = record { step = step; more = []; steps_are = refl; item_is = item_is; follow = follow }
 
-module _ (past new : History) (rest : Rest) where
+module _ (first : FirstSeq) (past new : History) (rest : Rest) where
   abbrev AddsBy : Incoming → Type 0
   AddsBy e = (steps : History) × (new ≡ past ++ steps) × AddsSteps past rest e steps
 
@@ -90,16 +92,16 @@ module _ (past new : History) (rest : Rest) where
   by_may e item taking (inl closed_) adds = absurd (closed_.0 taking)
   by_may e item taking (inr is) adds = adds_one e item is.1 adds
 
-  by_piece : (first : FirstSeq) (launch : Option Launch) (bytes piece : List ℕ) (left : Rest)
+  by_piece : (launch : Option Launch) (bytes piece : List ℕ) (left : Rest)
       → LeadsByPiece first past launch bytes new left → AddsBy (Piece piece)
-  by_piece first None bytes piece left leads = takes_bytes leads
-  by_piece first (Some launch) bytes piece left is = ([], is.0 ∙ sym (append-nil past), tt)
+  by_piece None bytes piece left leads = takes_bytes first past new bytes left leads
+  by_piece (Some launch) bytes piece left is = ([], is.0 ∙ sym (append-nil past), tt)
 
   by_loads : (file : Result (List ℕ) LoadFault) (launch : Launch) (bytes : Option (List ℕ)) (left : Rest)
       → rest.launch ≡ Some launch → Loaded launch bytes ≡ file_item launch file
-      → Loads rest.first past launch bytes rest.bytes new left → AddsBy (File file)
+      → Loads first past launch bytes rest.bytes new left → AddsBy (File file)
   by_loads file launch bytes left waits_ same loads =
-      let later = takes_bytes loads.after in (
+      let later = takes_bytes first loads.mid new rest.bytes left loads.after in (
         loads.loaded.step ∷ later.0,
         later.1 ∙ ap (λ h. h ++ later.0) loads.loaded.new_is ∙ append_assoc past (loads.loaded.step ∷ []) later.0,
         inl (
@@ -116,7 +118,7 @@ module _ (past new : History) (rest : Rest) where
       )
 
   by_file : (launch : Option Launch) (file : Result (List ℕ) LoadFault) (left : Rest) → IsTaking past
-      → rest.launch ≡ launch → LeadsByFile past rest launch file new left → AddsBy (File file)
+      → rest.launch ≡ launch → LeadsByFile first past rest launch file new left → AddsBy (File file)
   by_file None file left taking same is =
       ([], is.0 ∙ sym (append-nil past), inr (λ item its. let e = sym same ∙ its.1 in absurd cc, refl))
   by_file (Some launch) (Ok file) left taking same (inl is) = absurd (is.0 taking)
@@ -137,8 +139,8 @@ module _ (past new : History) (rest : Rest) where
       adds_one (Report r) (Accepted r) is.2
       (λ step item_is. inl (Accepted r, (goes_so past r is.1, refl), one_step (Report r) step item_is refl))
 
-  by_event : (e : Incoming) (left : Rest) → IsTaking past → LeadsByEvent past rest e new left → AddsBy e
-  by_event (Piece piece) left taking leads = by_piece rest.first rest.launch _ piece left leads
+  by_event : (e : Incoming) (left : Rest) → IsTaking past → LeadsByEvent first past rest e new left → AddsBy e
+  by_event (Piece piece) left taking leads = by_piece rest.launch _ piece left leads
   by_event End left taking leads =
       by_may End InputEnd taking leads.0
       (λ step item_is. inl (InputEnd, refl, one_step End step item_is refl))
@@ -156,13 +158,13 @@ module _ (past new : History) (rest : Rest) where
   may_not item not (inl is) = is.1
   may_not item not (inr is) = absurd (not is.0)
 
-  piece_not : (first : FirstSeq) (launch : Option Launch) (bytes : List ℕ) (left : Rest) → ¬ IsTaking past
+  piece_not : (launch : Option Launch) (bytes : List ℕ) (left : Rest) → ¬ IsTaking past
       → LeadsByPiece first past launch bytes new left → new ≡ past
-  piece_not first None bytes left not leads = takes_not not leads
-  piece_not first (Some launch) bytes left not is = is.0
+  piece_not None bytes left not leads = (takes_not first past new bytes left not leads).0
+  piece_not (Some launch) bytes left not is = is.0
 
   file_not : (launch : Option Launch) (file : Result (List ℕ) LoadFault) (left : Rest) → ¬ IsTaking past
-      → LeadsByFile past rest launch file new left → new ≡ past
+      → LeadsByFile first past rest launch file new left → new ≡ past
   file_not None file left not is = is.0
   file_not (Some launch) (Ok file) left not (inl is) = is.1
   file_not (Some launch) (Ok file) left not (inr loads) = absurd (not loads.taking)
@@ -174,8 +176,8 @@ module _ (past new : History) (rest : Rest) where
   report_not r not (inl is) = is.1
   report_not r not (inr is) = absurd (not is.0)
 
-  event_not : (e : Incoming) (left : Rest) → ¬ IsTaking past → LeadsByEvent past rest e new left → new ≡ past
-  event_not (Piece piece) left not leads = piece_not rest.first rest.launch _ left not leads
+  event_not : (e : Incoming) (left : Rest) → ¬ IsTaking past → LeadsByEvent first past rest e new left → new ≡ past
+  event_not (Piece piece) left not leads = piece_not rest.launch _ left not leads
   event_not End left not leads = may_not InputEnd not leads.0
   event_not ReadFailed left not leads = may_not ReadFailure not leads.0
   event_not NoMemory left not leads = may_not MemoryFailure not leads.0
@@ -185,25 +187,21 @@ module _ (past new : History) (rest : Rest) where
 -- ---- the law
 
 pub events_taken : HistoryIsOne → EventsAreTaken
-events_taken one events e past new rest left history more same = (
-  λ taking. by_event past new rest e left taking leads,
-  λ not. event_not past new rest e left not leads,
+events_taken one first events e past new rest left history more = (
+  λ taking. by_event first past new rest e left taking leads,
+  λ not. event_not first past new rest e left not leads,
 )
   where
-    last : (mid : History) × (between : Rest) × LeadsByEvents [] (only_bytes left.first []) events mid between
-        × LeadsByEvent mid between e new left
-    last = leads_last [] (only_bytes left.first []) events e new left more
-
-    first_is : left.first ≡ last.1.first
-    first_is = first_by_event last.0 last.1 e new left last.3
+    last : (mid : History) × (between : Rest) × LeadsByEvents first [] (only_bytes []) events mid between
+        × LeadsByEvent first mid between e new left
+    last = leads_last first [] (only_bytes []) events e new left more
 
     is_one : (past ≡ last.0) × (rest ≡ last.1)
-    is_one = one events past last.0 rest last.1 history
-        (subst (λ f. LeadsByEvents [] (only_bytes f []) events last.0 last.1) first_is last.2) (same ∙ first_is)
+    is_one = one first events past last.0 rest last.1 history last.2
 
-    leads : LeadsByEvent past rest e new left
-    leads = subst (λ h. LeadsByEvent h rest e new left) (sym is_one.0)
-        (subst (λ r. LeadsByEvent last.0 r e new left) (sym is_one.1) last.3)
+    leads : LeadsByEvent first past rest e new left
+    leads = subst (λ h. LeadsByEvent first h rest e new left) (sym is_one.0)
+        (subst (λ r. LeadsByEvent first last.0 r e new left) (sym is_one.1) last.3)
 
 -- ---- the end of a session
 
@@ -221,11 +219,11 @@ item_ends (Accepted r) = report_ends r.outcome
 item_ends _ = refl
 
 pub items_end : EachItemEndsOrNot
-items_end events past rest history before step after past_is = (
+items_end f events past rest history before step after past_is = (
   was.taking,
   ending_of-snoc before step ∙ ap (λ o. or_else (closing step.item) o) was.taking ∙ or_else-none (closing step.item)
       ∙ item_ends step.item,
 )
   where
     was : WasTaken Any (Anything Any) before step
-    was = was_taken events past rest history before step after past_is
+    was = was_taken f events past rest history before step after past_is

@@ -51,7 +51,7 @@ report_tells past r (slice.Fault fault) = (
 report_tells past r slice.NoMemory = ([], All-nil IsOutput, refl)
 
 pub each_report_told : EachReportIsTold
-each_report_told events past rest history before step after past_is r item_is = (
+each_report_told f events past rest history before step after past_is r item_is = (
   is.answer_is,
   subst (λ (e : Effect). EndsIn e.events (tells before r.outcome)) (sym is.effect_is)
       (report_tells before r r.outcome),
@@ -62,7 +62,7 @@ each_report_told events past rest history before step after past_is r item_is = 
         along (λ e. Unit {0}) (EachTaken (λ e. Unit {0}) (Anything (λ e. Unit {0})))
         (each_kept (λ e. Unit {0}) (Anything (λ e. Unit {0})) (anything_kept (λ e. Unit {0})))
         (each_first (λ e. Unit {0}) (Anything (λ e. Unit {0})) tt)
-        events past rest (any_events events) history
+        f events past rest (any_events events) history
 
     was : WasTaken (λ e. Unit {0}) (Anything (λ e. Unit {0})) before step
     was = each.each before step after past_is

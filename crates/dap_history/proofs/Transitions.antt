@@ -1,5 +1,5 @@
 -- Each step leads where the table of transitions says, so the situation is where the steps lead from Fresh.
-use Rattle.dap_history.proofs.Common.{Accepted, Answers, Body, Breakpoint, Causes, Command, CommandName, Configuring, Content, Effect, Event, Fault, Faulted, Fresh, HasEffect, Heading, History, Incoming, InputEnd, IsHistoryOf, IsStopped, Item, Launch, Launched, Launches, Loaded, MemoryFailure, Mode, None, Ok, Option, Outgoing, PlainReport, Quit, Reaction, ReadFailure, Ready, Reason, Refusal, RepliesIn, Reply, Rest, RetreatKind, Running, SetBreakpointsArguments, Situation, SliceOutcome, Some, Step, Stopped, ThreadArguments, [], after_step, ap, append-nil, due_first, effect_in, enters, exception_of, exited_events, first_logs, held_effect, hold_once, inl, inr, item_leads, last_such, message_mark, name_of, nothing, or_else, order_mark, ordering, plan, refl, reply_of, report_effect, resumes, retreat_mode, situation, stop_of, stop_of_event, stopped_events, subst, sym, unwrap_or, waiting_pause, with_answer, ℕ, ◌++◌, ◌∙◌, ◌∷◌, ◌≡◌}
+use Rattle.dap_history.proofs.Common.{FirstSeq, Accepted, Answers, Body, Breakpoint, Causes, Command, CommandName, Configuring, Content, Effect, Event, Fault, Faulted, Fresh, HasEffect, Heading, History, Incoming, InputEnd, IsHistoryOf, IsStopped, Item, Launch, Launched, Launches, Loaded, MemoryFailure, Mode, None, Ok, Option, Outgoing, PlainReport, Quit, Reaction, ReadFailure, Ready, Reason, Refusal, RepliesIn, Reply, Rest, RetreatKind, Running, SetBreakpointsArguments, Situation, SliceOutcome, Some, Step, Stopped, ThreadArguments, [], after_step, ap, append-nil, due_first, effect_in, enters, exception_of, exited_events, first_logs, held_effect, hold_once, inl, inr, item_leads, last_such, message_mark, name_of, nothing, or_else, order_mark, ordering, plan, refl, reply_of, report_effect, resumes, retreat_mode, situation, stop_of, stop_of_event, stopped_events, subst, sym, unwrap_or, waiting_pause, with_answer, ℕ, ◌++◌, ◌∙◌, ◌∷◌, ◌≡◌}
 use Rattle.std.proofs.Common.{List, Bool, true, false, Result}
 use Rattle.std.specs.Prelude.{map, option_map}
 use Rattle.dap_msg.specs.declared.command.Command.TheVariants as command
@@ -193,18 +193,19 @@ led_kept = record {
       ∙ ap (λ s. after_step s after.step) here ∙ sym (after_steps-snoc Fresh past after.step));
 }
 
-module _ (events : List Incoming) (past : History) (rest : Rest) (history : IsHistoryOf events past rest) where
+module _ (f : FirstSeq) (events : List Incoming) (past : History) (rest : Rest)
+    (history : IsHistoryOf f events past rest) where
   each : EachTaken Any IsLed past
-  each = along Any (EachTaken Any IsLed) (each_kept Any IsLed led_kept) (each_first Any IsLed refl) events past rest
+  each = along Any (EachTaken Any IsLed) (each_kept Any IsLed led_kept) (each_first Any IsLed refl) f events past rest
       (any_events events) history
 
 -- ---- the laws
 
 pub each_step_leads : EachStepLeads
-each_step_leads events past rest history before step after past_is = step_leads before step was.taken was.causes
+each_step_leads f events past rest history before step after past_is = step_leads before step was.taken was.causes
   where
     was : WasTaken Any IsLed before step
-    was = (each events past rest history).each before step after past_is
+    was = (each f events past rest history).each before step after past_is
 
 pub situation_after : SituationIsAfterSteps
-situation_after events past rest history = (each events past rest history).now
+situation_after f events past rest history = (each f events past rest history).now

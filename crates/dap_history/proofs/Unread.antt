@@ -1,5 +1,5 @@
 -- While a session takes items, nothing whole is left unread.
-use Rattle.dap_history.proofs.Common.{Ending, Err, Fault, FaultAt, File, FirstSeq, FramingFault, HasFaultyLine, History, Incoming, InputEnd, IsTaking, Item, Launch, LeadsByEvent, LeadsByEvents, LeadsByFile, LeadsByPiece, LeadsByReport, LoadFault, MayTake, MemoryFailure, NoMemory, None, Ok, Option, Piece, PlainReport, ReadFailed, ReadFailure, Report, Rest, Some, Takes, [], ap, arith, closed, closing, faulty, inl, inr, length, length-append, line_of, lines_of, one_more, only_bytes, open_ended, refl, subst, sym, waits, ℕ, ◌++◌, ◌∙◌, ◌∷◌, ◌≡◌}
+use Rattle.dap_history.proofs.Common.{Ending, Err, Fault, FaultAt, File, FirstSeq, FramingFault, HasFaultyLine, History, Incoming, InputEnd, IsTaking, Item, Launch, LeadsByEvent, LeadsByEvents, LeadsByFile, LeadsByPiece, LeadsByReport, LoadFault, MayTake, MemoryFailure, NoMemory, None, Ok, Option, Piece, PlainReport, ReadFailed, ReadFailure, Report, Rest, Some, Rests, [], ap, arith, closed, closing, faulty, inl, inr, length, length-append, line_of, lines_of, only_bytes, open_ended, refl, subst, sym, waits, ℕ, ◌++◌, ◌∙◌, ◌∷◌, ◌≡◌}
 use Rattle.std.proofs.Common.{List, Result}
 use Rattle.dap_frame.specs.declared.fault.FramingFault.TheVariants as framing
 use Rattle.dap_frame.specs.Header.{line_end}
@@ -37,7 +37,8 @@ no_fault_first framing.BadLength is = no_line framing.BadLength is
 no_fault_first framing.TooLarge is = no_line framing.TooLarge is
 no_fault_first framing.NoMemory is = is
 
-open_first : IsOpen []
+-- no bytes are open
+pub open_first : IsOpen []
 open_first = record { no_frame = no_frame_first; no_fault = no_fault_first }
 
 -- ---- one event after another
@@ -50,15 +51,14 @@ unread_same : (past : History) (rest : Rest) (new : History) (left : Rest) → n
 unread_same past rest new left same there here =
     subst (λ h. Unread h left) (sym same) (subst (λ r. Unread past r) (sym there) here)
 
-unread_takes : {first : FirstSeq} {past : History} {bytes : List ℕ} {new : History} {rest : Rest}
-    → Takes first past bytes new rest
+unread_rests : {first : FirstSeq} {past : History} {bytes : List ℕ} {new : History} {rest : Rest}
+    → Rests first past bytes new rest
     → Unread new rest
-unread_takes (one_more request taking_ front unwanted after taken) taking none = unread_takes taken taking none
-unread_takes (closed not) taking none = absurd (not taking)
-unread_takes (open_ended taking_ is) taking none = is
-unread_takes {past = past} (faulty k new taking_ is after) taking none =
+unread_rests (closed not) taking none = absurd (not taking)
+unread_rests (open_ended taking_ is) taking none = is
+unread_rests {past = past} (faulty k new taking_ is after) taking none =
     absurd (closes_for_good past (Fault k) new _ refl after taking)
-unread_takes (waits request launch more taking_ front wanted) taking none = absurd cc
+unread_rests (waits request launch more taking_ front wanted) taking none = absurd cc
 
 unread_may : (past : History) (rest left : Rest) (item : Item) (new : History) (by : Ending) → closing item ≡ Some by
     → MayTake past item new × (left ≡ rest) → Unread past rest → Unread new left
@@ -69,21 +69,22 @@ unread_may past rest left item new by closes (inr is, same) here =
 unread_piece : (first : FirstSeq) (past : History) (launch : Option Launch) (bytes : List ℕ) (new : History)
     (left : Rest)
     → LeadsByPiece first past launch bytes new left → Unread new left
-unread_piece first past None bytes new left all = unread_takes all
+unread_piece first past None bytes new left all = unread_rests all.3
 unread_piece first past (Some launch) bytes new left is =
     λ taking none. let e = sym (ap (λ (r : Rest). r.launch) is.1) ∙ none in absurd cc
 
-unread_file : (past : History) (rest : Rest) (launch : Option Launch) (file : Result (List ℕ) LoadFault) (new : History)
-    (left : Rest) → LeadsByFile past rest launch file new left → Unread past rest → Unread new left
-unread_file past rest None file new left is here = unread_same past rest new left is.0 is.1 here
-unread_file past rest (Some launch) (Ok file) new left (inl is) here = unread_same past rest new left is.1 is.2 here
-unread_file past rest (Some launch) (Ok file) new left (inr loads) here =
-    unread_takes loads.after
-unread_file past rest (Some launch) (Err load_fault.CannotRead) new left (inl is) here =
+unread_file : (f : FirstSeq) (past : History) (rest : Rest) (launch : Option Launch)
+    (file : Result (List ℕ) LoadFault) (new : History)
+    (left : Rest) → LeadsByFile f past rest launch file new left → Unread past rest → Unread new left
+unread_file f past rest None file new left is here = unread_same past rest new left is.0 is.1 here
+unread_file f past rest (Some launch) (Ok file) new left (inl is) here = unread_same past rest new left is.1 is.2 here
+unread_file f past rest (Some launch) (Ok file) new left (inr loads) here =
+    unread_rests loads.after.3
+unread_file f past rest (Some launch) (Err load_fault.CannotRead) new left (inl is) here =
     unread_same past rest new left is.1 is.2 here
-unread_file past rest (Some launch) (Err load_fault.CannotRead) new left (inr loads) here =
-    unread_takes loads.after
-unread_file past rest (Some launch) (Err load_fault.NoMemory) new left is here =
+unread_file f past rest (Some launch) (Err load_fault.CannotRead) new left (inr loads) here =
+    unread_rests loads.after.3
+unread_file f past rest (Some launch) (Err load_fault.NoMemory) new left is here =
     unread_may past rest left MemoryFailure new _ refl is here
 
 unread_report : (past : History) (rest : Rest) (r : PlainReport) (new : History) (left : Rest)
@@ -93,25 +94,25 @@ unread_report past rest r new left (inr is) same here =
     λ taking none. subst (λ (l : Rest). IsOpen l.bytes) (sym same)
     (here is.0 (ap (λ (l : Rest). l.launch) (sym same) ∙ none))
 
-unread_event : (past : History) (rest : Rest) (event : Incoming) (new : History) (left : Rest)
-    → LeadsByEvent past rest event new left → Unread past rest → Unread new left
-unread_event past rest (Piece piece) new left leads here =
-    unread_piece rest.first past rest.launch (rest.bytes ++ piece) new left leads
-unread_event past rest End new left leads here = unread_may past rest left InputEnd new _ refl leads here
-unread_event past rest ReadFailed new left leads here = unread_may past rest left ReadFailure new _ refl leads here
-unread_event past rest NoMemory new left leads here = unread_may past rest left MemoryFailure new _ refl leads here
-unread_event past rest (File file) new left leads here = unread_file past rest rest.launch file new left leads here
-unread_event past rest (Report r) new left leads here = unread_report past rest r new left leads.0 leads.1 here
+unread_event : (f : FirstSeq) (past : History) (rest : Rest) (event : Incoming) (new : History) (left : Rest)
+    → LeadsByEvent f past rest event new left → Unread past rest → Unread new left
+unread_event f past rest (Piece piece) new left leads here =
+    unread_piece f past rest.launch (rest.bytes ++ piece) new left leads
+unread_event f past rest End new left leads here = unread_may past rest left InputEnd new _ refl leads here
+unread_event f past rest ReadFailed new left leads here = unread_may past rest left ReadFailure new _ refl leads here
+unread_event f past rest NoMemory new left leads here = unread_may past rest left MemoryFailure new _ refl leads here
+unread_event f past rest (File file) new left leads here = unread_file f past rest rest.launch file new left leads here
+unread_event f past rest (Report r) new left leads here = unread_report past rest r new left leads.0 leads.1 here
 
-unread_from : (past : History) (rest : Rest) (events : List Incoming) (new : History) (left : Rest)
-    → LeadsByEvents past rest events new left → Unread past rest → Unread new left
-unread_from past rest [] new left all here = unread_same past rest new left all.0 all.1 here
-unread_from past rest (e ∷ events) new left all here =
-    unread_from all.0 all.1 events new left all.3 (unread_event past rest e all.0 all.1 all.2 here)
+unread_from : (f : FirstSeq) (past : History) (rest : Rest) (events : List Incoming) (new : History) (left : Rest)
+    → LeadsByEvents f past rest events new left → Unread past rest → Unread new left
+unread_from f past rest [] new left all here = unread_same past rest new left all.0 all.1 here
+unread_from f past rest (e ∷ events) new left all here =
+    unread_from f all.0 all.1 events new left all.3 (unread_event f past rest e all.0 all.1 all.2 here)
 
 pub rest_is_open : RestIsOpen
-rest_is_open events past rest history taking = (
-  unread_from [] (only_bytes rest.first []) events past rest history (λ taking none. open_first) taking,
-  along_waits (λ e. Unit {0}) (Anything (λ e. Unit {0})) (anything_kept (λ e. Unit {0})) tt events past rest
+rest_is_open f events past rest history taking = (
+  unread_from f [] (only_bytes []) events past rest history (λ taking none. open_first) taking,
+  along_waits (λ e. Unit {0}) (Anything (λ e. Unit {0})) (anything_kept (λ e. Unit {0})) tt f events past rest
       (any_events events) history taking,
 )

@@ -32,50 +32,52 @@ AreLawful [] = Unit {0}
 AreLawful (Report r ∷ events) = IsLawfulReport r × AreLawful events
 AreLawful (e ∷ events) = AreLawful events
 
--- The first number that the client may use, and what came and isn't taken yet: a launch that waits for its file, and
--- bytes.
+-- what came and isn't taken yet: a launch that waits for its file, and bytes
 pub record Rest : Type 0 where
-  pub first : FirstSeq
   pub launch : Option Launch
   pub bytes : List ℕ
 
 -- bytes, and no launch that waits
-abbrev pub only_bytes : FirstSeq → List ℕ → Rest
-only_bytes first bytes = record { first = first; launch = None; bytes = bytes }
+abbrev pub only_bytes : List ℕ → Rest
+only_bytes bytes = record { launch = None; bytes = bytes }
 
 -- the session still takes items
 abbrev pub IsTaking : History → Type 0
 IsTaking past = ending_of past ≡ None
 
--- the content at the front of the bytes, with the request that it is, or none, and the bytes after it
+-- the content at the front of the bytes, with the request that it is, or none, by the first number that the client may
+-- use, and the bytes after it
 pub record IsInFront (first : FirstSeq) (bytes : List ℕ) (request : Option Request) (more : List ℕ) : Type 0 where
   pub content : List ℕ
   pub framed : IsFrameInFront bytes content more
   pub read : IsRequestFrom first content request
 
--- From the history `past`, contents at the front of the bytes are taken one after another until no further one is. The
--- history is `new` then, and `rest` isn't taken yet.
-pub data Takes : FirstSeq → History → List ℕ → History → Rest → Type 0 where
-  -- a content that wants no file is taken, and then those after it
-  one_more : {first : FirstSeq} {past mid new : History} {bytes more : List ℕ} {rest : Rest}
-      (request : Option Request) →
-      IsTaking past → IsInFront first bytes request more → wanted_in (situation past) request ≡ None →
-      IsAfter past (Content request) mid → Takes first mid more new rest → Takes first past bytes new rest
+-- From the history `past`, some contents at the front of the bytes that want no file are taken one after another. The
+-- history is `new` then, and the bytes `left` remain.
+pub data TakesSome (first : FirstSeq) : History → List ℕ → History → List ℕ → Type 0 where
+  no_content : {past : History} {bytes : List ℕ} → TakesSome first past bytes past bytes
+  one_content : {past mid new : History} {bytes more left : List ℕ} (request : Option Request) → IsTaking past →
+      IsInFront first bytes request more → wanted_in (situation past) request ≡ None →
+      IsAfter past (Content request) mid → TakesSome first mid more new left → TakesSome first past bytes new left
+
+-- Why no further content of the bytes is taken. The history is `new` then, and `rest` isn't taken yet.
+pub data Rests (first : FirstSeq) (past : History) (bytes : List ℕ) : History → Rest → Type 0 where
   -- the session is closed
-  closed : {first : FirstSeq} {past : History} {bytes : List ℕ} → ¬ IsTaking past
-      → Takes first past bytes past (only_bytes first bytes)
+  closed : ¬ IsTaking past → Rests first past bytes past (only_bytes bytes)
   -- nothing complete stands in front
-  open_ended : {first : FirstSeq} {past : History} {bytes : List ℕ} → IsTaking past → IsOpen bytes →
-      Takes first past bytes past (only_bytes first bytes)
+  open_ended : IsTaking past → IsOpen bytes → Rests first past bytes past (only_bytes bytes)
   -- a framing fault does
-  faulty : {first : FirstSeq} {past : History} {bytes : List ℕ} (k : FramingFault) (new : History) → IsTaking past
-      → FaultAt bytes k →
-      IsAfter past (Fault k) new → Takes first past bytes new (only_bytes first bytes)
+  faulty : (k : FramingFault) (new : History) → IsTaking past → FaultAt bytes k → IsAfter past (Fault k) new →
+      Rests first past bytes new (only_bytes bytes)
   -- a launch does, which waits for its file
-  waits : {first : FirstSeq} {past : History} {bytes : List ℕ} (request : Option Request) (launch : Launch)
-      (more : List ℕ) →
-      IsTaking past → IsInFront first bytes request more → wanted_in (situation past) request ≡ Some launch →
-      Takes first past bytes past (record { first = first; launch = Some launch; bytes = more })
+  waits : (request : Option Request) (launch : Launch) (more : List ℕ) → IsTaking past →
+      IsInFront first bytes request more → wanted_in (situation past) request ≡ Some launch →
+      Rests first past bytes past (record { launch = Some launch; bytes = more })
+
+-- From the history `past`, contents at the front of the bytes are taken until no further one is.
+abbrev pub Takes : FirstSeq → History → List ℕ → History → Rest → Type 0
+Takes first past bytes new rest =
+    (mid : History) × (left : List ℕ) × TakesSome first past bytes mid left × Rests first mid left new rest
 
 -- an item is taken unless the session is closed
 abbrev pub MayTake : History → Item → History → Type 0
@@ -85,7 +87,7 @@ MayTake past item new = ((¬ IsTaking past) × (new ≡ past)) ⊎ (IsTaking pas
 abbrev pub LeadsByPiece : FirstSeq → History → Option Launch → List ℕ → History → Rest → Type 0
 LeadsByPiece first past None bytes new left = Takes first past bytes new left
 LeadsByPiece first past (Some launch) bytes new left =
-    (new ≡ past) × (left ≡ record { first = first; launch = Some launch; bytes = bytes })
+    (new ≡ past) × (left ≡ record { launch = Some launch; bytes = bytes })
 
 -- the file of a launch; then the contents after it
 pub record Loads (first : FirstSeq) (past : History) (launch : Launch) (file : Option (List ℕ)) (bytes : List ℕ)
@@ -96,13 +98,14 @@ pub record Loads (first : FirstSeq) (past : History) (launch : Launch) (file : O
   pub after : Takes first mid bytes new left
 
 -- A file. One that no launch waits for is ignored, and so is any after the session is closed.
-abbrev pub LeadsByFile : History → Rest → Option Launch → Result (List ℕ) LoadFault → History → Rest → Type 0
-LeadsByFile past rest None file new left = (new ≡ past) × (left ≡ rest)
-LeadsByFile past rest (Some launch) (Ok file) new left =
-    ((¬ IsTaking past) × (new ≡ past) × (left ≡ rest)) ⊎ Loads rest.first past launch (Some file) rest.bytes new left
-LeadsByFile past rest (Some launch) (Err load_fault.CannotRead) new left =
-    ((¬ IsTaking past) × (new ≡ past) × (left ≡ rest)) ⊎ Loads rest.first past launch None rest.bytes new left
-LeadsByFile past rest (Some launch) (Err load_fault.NoMemory) new left = MayTake past MemoryFailure new × (left ≡ rest)
+abbrev pub LeadsByFile : FirstSeq → History → Rest → Option Launch → Result (List ℕ) LoadFault → History → Rest → Type 0
+LeadsByFile first past rest None file new left = (new ≡ past) × (left ≡ rest)
+LeadsByFile first past rest (Some launch) (Ok file) new left =
+    ((¬ IsTaking past) × (new ≡ past) × (left ≡ rest)) ⊎ Loads first past launch (Some file) rest.bytes new left
+LeadsByFile first past rest (Some launch) (Err load_fault.CannotRead) new left =
+    ((¬ IsTaking past) × (new ≡ past) × (left ≡ rest)) ⊎ Loads first past launch None rest.bytes new left
+LeadsByFile first past rest (Some launch) (Err load_fault.NoMemory) new left =
+    MayTake past MemoryFailure new × (left ≡ rest)
 
 -- A report. One that isn't accepted is ignored.
 abbrev pub LeadsByReport : History → PlainReport → History → Type 0
@@ -111,22 +114,23 @@ LeadsByReport past r new =
     × IsAfter past (Accepted r) new)
 
 -- one event, by what it is
-abbrev pub LeadsByEvent : History → Rest → Incoming → History → Rest → Type 0
-LeadsByEvent past rest (Piece piece) new left = LeadsByPiece rest.first past rest.launch (rest.bytes ++ piece) new left
-LeadsByEvent past rest End new left = MayTake past InputEnd new × (left ≡ rest)
-LeadsByEvent past rest ReadFailed new left = MayTake past ReadFailure new × (left ≡ rest)
-LeadsByEvent past rest NoMemory new left = MayTake past MemoryFailure new × (left ≡ rest)
-LeadsByEvent past rest (File file) new left = LeadsByFile past rest rest.launch file new left
-LeadsByEvent past rest (Report r) new left = LeadsByReport past r new × (left ≡ rest)
+abbrev pub LeadsByEvent : FirstSeq → History → Rest → Incoming → History → Rest → Type 0
+LeadsByEvent first past rest (Piece piece) new left =
+    LeadsByPiece first past rest.launch (rest.bytes ++ piece) new left
+LeadsByEvent first past rest End new left = MayTake past InputEnd new × (left ≡ rest)
+LeadsByEvent first past rest ReadFailed new left = MayTake past ReadFailure new × (left ≡ rest)
+LeadsByEvent first past rest NoMemory new left = MayTake past MemoryFailure new × (left ≡ rest)
+LeadsByEvent first past rest (File file) new left = LeadsByFile first past rest rest.launch file new left
+LeadsByEvent first past rest (Report r) new left = LeadsByReport past r new × (left ≡ rest)
 
 -- Events, one after another, lead from the history `past` and the rest to the history `new` and the rest `left`.
-abbrev pub LeadsByEvents : History → Rest → List Incoming → History → Rest → Type 0
-LeadsByEvents past rest [] new left = (new ≡ past) × (left ≡ rest)
-LeadsByEvents past rest (e ∷ events) new left =
-    (mid : History) × (between : Rest) × LeadsByEvent past rest e mid between
-    × LeadsByEvents mid between events new left
+abbrev pub LeadsByEvents : FirstSeq → History → Rest → List Incoming → History → Rest → Type 0
+LeadsByEvents first past rest [] new left = (new ≡ past) × (left ≡ rest)
+LeadsByEvents first past rest (e ∷ events) new left =
+    (mid : History) × (between : Rest) × LeadsByEvent first past rest e mid between
+    × LeadsByEvents first mid between events new left
 
 -- The history that a list of events gives, by the first number that the client may use, and what came and isn't taken
 -- yet.
-abbrev pub IsHistoryOf : List Incoming → History → Rest → Type 0
-IsHistoryOf events past rest = LeadsByEvents [] (only_bytes rest.first []) events past rest
+abbrev pub IsHistoryOf : FirstSeq → List Incoming → History → Rest → Type 0
+IsHistoryOf first events past rest = LeadsByEvents first [] (only_bytes []) events past rest

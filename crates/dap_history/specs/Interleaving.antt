@@ -16,8 +16,7 @@ pub record Load : Type 0 where
 pub record Awaits (first : FirstSeq) (events : List Incoming) (path : List ℕ) : Type 0 where
   pub past : History
   pub rest : Rest
-  pub first_is : rest.first ≡ first
-  pub history : IsHistoryOf events past rest
+  pub history : IsHistoryOf first events past rest
   pub taking : IsTaking past
   pub launch : Launch
   pub waits : rest.launch ≡ Some launch
@@ -27,8 +26,7 @@ pub record Awaits (first : FirstSeq) (events : List Incoming) (path : List ℕ) 
 pub record AwaitsNone (first : FirstSeq) (events : List Incoming) : Type 0 where
   pub past : History
   pub rest : Rest
-  pub first_is : rest.first ≡ first
-  pub history : IsHistoryOf events past rest
+  pub history : IsHistoryOf first events past rest
   pub waits : (¬ IsTaking past) ⊎ (rest.launch ≡ None)
 
 -- the event is what the loader answered for the launch that waits after these events
@@ -56,8 +54,7 @@ pub record IsAsked (first : FirstSeq) (events : List Incoming) (load : Load) : T
   pub events_are : events ≡ before ++ File load.answer ∷ after
   pub past : History
   pub rest : Rest
-  pub first_is : rest.first ≡ first
-  pub history : IsHistoryOf before past rest
+  pub history : IsHistoryOf first before past rest
   pub goes_on : IsTaking past
   pub launch : Launch
   pub waits : rest.launch ≡ Some launch
@@ -85,7 +82,7 @@ abbrev pub EachLaunchIsLoaded : Type 0
 EachLaunchIsLoaded =
     (first : FirstSeq) (events given : List Incoming) (loads : List Load) → Interleaves first [] events given loads
     → (before : List Incoming) (event : Incoming) (after : List Incoming) → events ≡ before ++ event ∷ after
-    → (past : History) (rest : Rest) → rest.first ≡ first → IsHistoryOf before past rest → IsTaking past
+    → (past : History) (rest : Rest) → IsHistoryOf first before past rest → IsTaking past
     → (launch : Launch) → rest.launch ≡ Some launch → IsAnswerFor loads launch.arguments.program event
 
 -- the events are these and those, each in their order

@@ -41,8 +41,8 @@ use Rattle.dap_history.specs.Always.{OfHistories, OfLawfulHistories}
 -- A list of events has at most one history, and leaves one rest, by the first number that the client may use.
 abbrev pub HistoryIsOne : Type 0
 HistoryIsOne =
-    (events : List Incoming) (past other : History) (rest left : Rest) → IsHistoryOf events past rest
-    → IsHistoryOf events other left → rest.first ≡ left.first
+    (first : FirstSeq) (events : List Incoming) (past other : History) (rest left : Rest)
+    → IsHistoryOf first events past rest → IsHistoryOf first events other left
     → (past ≡ other) × (rest ≡ left)
 
 -- An item leads from a history to at most one other: what it is answered with and what it causes is determined.
@@ -120,24 +120,24 @@ AreReadAs first _ _ = ⊥
 -- However the stream was cut into pieces, the contents taken are, in order, those of its frames.
 abbrev pub ContentsAreOfTheStream : Type 0
 ContentsAreOfTheStream =
-    (events : List Incoming) (past : History) (rest : Rest) → IsHistoryOf events past rest
+    (first : FirstSeq) (events : List Incoming) (past : History) (rest : Rest) → IsHistoryOf first events past rest
     → (contents : List (List ℕ)) × Frames (stream_of events) contents rest.bytes
-    × AreReadAs rest.first contents (contents_read past rest.launch)
+    × AreReadAs first contents (contents_read past rest.launch)
 
 -- Two pieces give what they give as one: how the stream was cut changes no message and no order.
 abbrev pub CutsChangeNothing : Type 0
 CutsChangeNothing =
-    (a b : List ℕ) (before after : List Incoming) (past : History) (rest : Rest)
-    → IsHistoryOf (before ++ (Piece a ∷ Piece b ∷ after)) past rest
-    → IsHistoryOf (before ++ (Piece (a ++ b) ∷ after)) past rest
+    (first : FirstSeq) (a b : List ℕ) (before after : List Incoming) (past : History) (rest : Rest)
+    → IsHistoryOf first (before ++ (Piece a ∷ Piece b ∷ after)) past rest
+    → IsHistoryOf first (before ++ (Piece (a ++ b) ∷ after)) past rest
 
 -- While a session takes items, nothing complete is left unread: neither a frame nor a framing fault stands at the front
 -- of the rest, except while a launch waits for its file; and one waits only in the situation Ready.
 abbrev pub RestIsOpen : Type 0
 RestIsOpen =
-    (events : List Incoming) (past : History) (rest : Rest) → IsHistoryOf events past rest → IsTaking past
-    → (rest.launch ≡ None → IsOpen rest.bytes) × ((launch : Launch) → rest.launch ≡ Some launch
-    → situation past ≡ Ready)
+    (first : FirstSeq) (events : List Incoming) (past : History) (rest : Rest) → IsHistoryOf first events past rest
+    → IsTaking past → (rest.launch ≡ None → IsOpen rest.bytes)
+    × ((launch : Launch) → rest.launch ≡ Some launch → situation past ≡ Ready)
 
 -- ---- Answered once
 
@@ -184,7 +184,7 @@ FramesAreReadBack = OfHistories (λ past.
 -- A `disconnect` that is taken is the last item, and its answer under its seq is the last message.
 abbrev pub DisconnectIsLast : Type 0
 DisconnectIsLast =
-    (events : List Incoming) (past : History) (rest : Rest) → IsHistoryOf events past rest
+    (first : FirstSeq) (events : List Incoming) (past : History) (rest : Rest) → IsHistoryOf first events past rest
     → (before : History) (step : Step) (after : History) (seq : ℕ) → past ≡ before ++ step ∷ after
     → step.item ≡ Content (Some (record { seq = seq; body = command.Disconnect }))
     → (after ≡ []) × (messages_of past ≡ messages_of before ++ Answer seq (name.Supported supported.Disconnect)
@@ -199,7 +199,7 @@ IsAmong event events = (front : List Incoming) × (back : List Incoming) × (eve
 -- A session that was closed by the end of the input or a failed read has taken that event.
 abbrev pub ClosedByItsEvent : Type 0
 ClosedByItsEvent =
-    (events : List Incoming) (past : History) (rest : Rest) → IsHistoryOf events past rest
+    (first : FirstSeq) (events : List Incoming) (past : History) (rest : Rest) → IsHistoryOf first events past rest
     → (ending_of past ≡ Some (ending.Closed closed.InputEnded) → IsAmong End events)
     × (ending_of past ≡ Some (ending.Closed closed.ReadFailed) → IsAmong ReadFailed events)
 

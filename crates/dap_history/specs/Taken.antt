@@ -3,6 +3,7 @@
 use Rattle.std.specs.Prelude.{◌≡◌, ◌++◌, ◌∷◌, [], ◌⊎◌, ℕ, List, Option, None, Some, Result, Ok, Err}
 use Rattle.dap_msg.specs.declared.command.Command.{Command}
 use Rattle.dap_msg.specs.declared.command.Command.TheVariants as command
+use Rattle.dap_msg.specs.declared.request.FirstSeq.{FirstSeq}
 use Rattle.dbg_runner.specs.Plain.{PlainReport, Heading, heading_of}
 use Rattle.dbg_runner.specs.declared.outcome.SliceOutcome.{SliceOutcome}
 use Rattle.dbg_runner.specs.declared.outcome.SliceOutcome.TheVariants as slice
@@ -78,8 +79,8 @@ AddsSteps past rest e steps =
 -- where the program stands are items; no other file or report is. After that no event adds anything.
 abbrev pub EventsAreTaken : Type 0
 EventsAreTaken =
-    (events : List Incoming) (e : Incoming) (past new : History) (rest left : Rest) → IsHistoryOf events past rest
-    → IsHistoryOf (events ++ e ∷ []) new left → rest.first ≡ left.first
+    (first : FirstSeq) (events : List Incoming) (e : Incoming) (past new : History) (rest left : Rest)
+    → IsHistoryOf first events past rest → IsHistoryOf first (events ++ e ∷ []) new left
     → (IsTaking past → (steps : History) × (new ≡ past ++ steps) × AddsSteps past rest e steps)
     × (¬ IsTaking past → new ≡ past)
 

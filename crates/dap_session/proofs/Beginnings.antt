@@ -14,18 +14,17 @@ use Rattle.dap_history.specs.declared.fault.SessionFault.{SessionFault}
 use Rattle.dap_history.specs.declared.fault.SessionFault.TheVariants.{Frame, NoMemory, SeqExhausted, OrdersFull, RunnerGone, WriterGone}
 use Rattle.dap_history.specs.History.{Item, Content, Loaded, Accepted, InputEnd, ReadFailure, MemoryFailure, History, messages, messages_of, orders_of, next_seq}
 use Rattle.dap_history.specs.Emission.{IsAfter}
-use Rattle.dap_history.specs.ReadingLaws.{ReadingsGoOn}
-use Rattle.dap_history.specs.Events.{Incoming, Piece, End, ReadFailed, File, Report, Rest, only_bytes, IsTaking, AreLawful, Takes, one_more, closed, open_ended, faulty, waits, MayTake, LeadsByPiece, LeadsByFile, LeadsByReport, LeadsByEvent, LeadsByEvents, IsHistoryOf}
+use Rattle.dap_history.specs.Events.{Incoming, Piece, End, ReadFailed, File, Report, Rest, only_bytes, IsTaking, AreLawful, TakesSome, no_content, one_content, Rests, closed, open_ended, faulty, waits, Takes, MayTake, LeadsByPiece, LeadsByFile, LeadsByReport, LeadsByEvent, LeadsByEvents, IsHistoryOf}
 use Rattle.dap_history.specs.Events.{NoMemory as NoMemoryCame}
 use Rattle.dap_history.specs.Laws.{HistoryIsOne}
 use Rattle.dap_history.specs.Interleaving.{Load}
 use Rattle.dap_history.specs.Output.{frames_from}
 use Rattle.dap_history.specs.Reports.{Accepts}
-use Rattle.dap_history.proofs.FirstKept.{first_kept}
-use Rattle.dap_history.proofs.OneHistory.{IsReadOnce, goes_on}
+use Rattle.dap_history.proofs.Takings.{leads_last}
+use Rattle.dap_history.proofs.OneHistory.{IsReadOnce, further}
 use Rattle.dap_session.specs.Ports.{Ports}
 use Rattle.dap_session.specs.Sending.{Sends, IsPrefixOf, PushesSome, PutsSome, BreaksOff, TriesQuit}
-use Rattle.dap_session.specs.Taking.{TakesSome, no_content, one_content, TowardByPiece, LoadsToward, Toward, EventGivesUp}
+use Rattle.dap_session.specs.Taking.{TowardByPiece, LoadsToward, Toward, EventGivesUp}
 use Rattle.dap_session.specs.Serving.{Serves, StopsShort, SessionOutcome, closes, ends_at_fault, runs_out_of_memory, gives_up}
 use Rattle.dap_session.specs.Laws.{IsOnTheWay, IsReached, FaultsLeavePrefixes}
 use Rattle.dap_session.proofs.Joining.{frames_from-append, sends_both}
@@ -71,26 +70,30 @@ orders_begin past new is =
 
 -- ---- an event that was taken in part
 
-takes_begin : {f : FirstSeq} {past new : History} {bytes : List ℕ} {rest : Rest} → Takes f past bytes new rest
+some_longer : {f : FirstSeq} {past new : History} {bytes left : List ℕ} → TakesSome f past bytes new left
     → IsPrefixOf past new
-takes_begin {past = past} {new = new} (one_more {mid = mid} request taking front unwanted after taken) =
-    begins_both past mid new (begins_longer past (Content request) mid after) (takes_begin taken)
-takes_begin {past = past} (closed not) = begins_same past past refl
-takes_begin {past = past} (open_ended taking is) = begins_same past past refl
-takes_begin {past = past} (faulty k new taking fault after) = begins_longer past _ new after
-takes_begin {past = past} (waits request launch more taking front wanted) = begins_same past past refl
+some_longer {past = past} no_content = begins_same past past refl
+some_longer {past = past} {new = new} (one_content {mid = mid} request taking front unwanted after some) =
+    begins_both past mid new (begins_longer past (Content request) mid after) (some_longer some)
+
+rests_longer : {f : FirstSeq} {past new : History} {bytes : List ℕ} {rest : Rest} → Rests f past bytes new rest
+    → IsPrefixOf past new
+rests_longer {past = past} (closed not) = begins_same past past refl
+rests_longer {past = past} (open_ended taking is) = begins_same past past refl
+rests_longer {past = past} (faulty k new taking fault after) = begins_longer past _ new after
+rests_longer {past = past} (waits request launch more taking front wanted) = begins_same past past refl
+
+takes_begin : (f : FirstSeq) (past new : History) (bytes : List ℕ) (rest : Rest) → Takes f past bytes new rest
+    → IsPrefixOf past new
+takes_begin f past new bytes rest taken = begins_both past taken.0 new (some_longer taken.2) (rests_longer taken.3)
 
 module _ (once : IsReadOnce) where
   -- what was taken is a prefix of all that can be
-  some_begin : {f : FirstSeq} {past mid new : History} {bytes left : List ℕ} {rest : Rest}
+  some_begin : (f : FirstSeq) (past mid new : History) (bytes left : List ℕ) (rest : Rest)
       → TakesSome f past bytes mid left
       → Takes f past bytes new rest → IsPrefixOf mid new
-  some_begin no_content all = takes_begin all
-  some_begin {f = f} {new = new} {rest = rest}
-      (one_content {past = past} {mid = mid} {more = more} request taking front unwanted after taken) all =
-      let next = goes_on once all request more taking front unwanted in
-      some_begin taken (subst (λ h. Takes f h more new rest)
-      (sym (once.one_after past (Content request) mid next.0 after next.1)) next.2)
+  some_begin f past mid new bytes left rest some all =
+      begins_both mid all.0 new (some_longer (further once some all.2 all.3)) (rests_longer all.3)
 
   may_begin : (past : History) (item : Item) (new : History) → MayTake past item new → IsPrefixOf past new
   may_begin past item new (inl is) = begins_same past new (sym is.1)
@@ -107,7 +110,8 @@ module _ (once : IsReadOnce) where
   piece_begins : (f : FirstSeq) (past : History) (launch : Option Launch) (bytes : List ℕ) (next new : History)
       (left : Rest)
       → TowardByPiece f past launch bytes next → LeadsByPiece f past launch bytes new left → IsPrefixOf next new
-  piece_begins f past None bytes next new left toward leads = some_begin toward.1 leads
+  piece_begins f past None bytes next new left toward leads =
+      some_begin f past next new bytes toward.0 left toward.1 leads
   piece_begins f past (Some launch) bytes next new left toward leads = begins_same next new (toward ∙ sym leads.0)
 
   -- a launch was made with its file, and some contents after it were taken
@@ -117,48 +121,50 @@ module _ (once : IsReadOnce) where
       → IsAfter past (Loaded launch file) other
       → Takes f other bytes new rest → IsPrefixOf next new
   loaded_begins f past launch file bytes mid other next new left rest after taken there all =
-      some_begin taken
+      some_begin f mid next new bytes left rest taken
       (subst (λ h. Takes f h bytes new rest) (once.one_after past (Loaded launch file) other mid there after) all)
 
-  same_launch : (past : History) (rest : Rest) (launch : Launch) (answer : Result (List ℕ) LoadFault)
+  same_launch : (f : FirstSeq) (past : History) (rest : Rest) (launch : Launch) (answer : Result (List ℕ) LoadFault)
       (file : Option (List ℕ)) (next : History) → rest.launch ≡ Some launch
-      → (toward : LoadsToward past rest answer next) → toward.file ≡ file
+      → (toward : LoadsToward f past rest answer next) → toward.file ≡ file
       → IsAfter past (Loaded launch file) toward.mid
-  same_launch past rest launch answer file next is toward same =
+  same_launch f past rest launch answer file next is toward same =
       let launches : toward.launch ≡ launch = let e = sym toward.waits ∙ is in cc in
-      subst (λ f. IsAfter past (Loaded launch f) toward.mid) same
+      subst (λ b. IsAfter past (Loaded launch b) toward.mid) same
       (subst (λ l. IsAfter past (Loaded l toward.file) toward.mid) launches toward.loaded)
 
-  file_begins : (past : History) (rest : Rest) (launch : Option Launch) (answer : Result (List ℕ) LoadFault)
+  file_begins : (f : FirstSeq) (past : History) (rest : Rest) (launch : Option Launch)
+      (answer : Result (List ℕ) LoadFault)
       (next new : History) (left : Rest) → IsTaking past → rest.launch ≡ launch
-      → (next ≡ past) ⊎ LoadsToward past rest answer next → LeadsByFile past rest launch answer new left
+      → (next ≡ past) ⊎ LoadsToward f past rest answer next → LeadsByFile f past rest launch answer new left
       → IsPrefixOf next new
-  file_begins past rest None answer next new left taking is (inl same) leads = begins_same next new (same ∙ sym leads.0)
-  file_begins past rest None answer next new left taking is (inr toward) leads =
+  file_begins f past rest None answer next new left taking is (inl same) leads = begins_same next new
+      (same ∙ sym leads.0)
+  file_begins f past rest None answer next new left taking is (inr toward) leads =
       absurd (let e = sym is ∙ toward.waits in cc)
-  file_begins past rest (Some launch) (Ok file) next new left taking is toward (inl not) = absurd (not.0 taking)
-  file_begins past rest (Some launch) (Ok file) next new left taking is (inl same) (inr loads) =
+  file_begins f past rest (Some launch) (Ok file) next new left taking is toward (inl not) = absurd (not.0 taking)
+  file_begins f past rest (Some launch) (Ok file) next new left taking is (inl same) (inr loads) =
       subst (λ h. IsPrefixOf h new) (sym same)
       (begins_both past loads.mid new (begins_longer past _ loads.mid loads.loaded)
-      (takes_begin loads.after))
-  file_begins past rest (Some launch) (Ok file) next new left taking is (inr toward) (inr loads) =
+      (takes_begin f loads.mid new rest.bytes left loads.after))
+  file_begins f past rest (Some launch) (Ok file) next new left taking is (inr toward) (inr loads) =
       let same : toward.file ≡ Some file = let e = toward.file_is in cc in
-      loaded_begins rest.first past launch (Some file) rest.bytes toward.mid loads.mid next new toward.left left
-      (same_launch past rest launch (Ok file) (Some file) next is toward same) toward.taken loads.loaded loads.after
-  file_begins past rest (Some launch) (Err load_fault.CannotRead) next new left taking is toward (inl not) =
+      loaded_begins f past launch (Some file) rest.bytes toward.mid loads.mid next new toward.left left
+      (same_launch f past rest launch (Ok file) (Some file) next is toward same) toward.taken loads.loaded loads.after
+  file_begins f past rest (Some launch) (Err load_fault.CannotRead) next new left taking is toward (inl not) =
       absurd (not.0 taking)
-  file_begins past rest (Some launch) (Err load_fault.CannotRead) next new left taking is (inl same) (inr loads) =
+  file_begins f past rest (Some launch) (Err load_fault.CannotRead) next new left taking is (inl same) (inr loads) =
       subst (λ h. IsPrefixOf h new) (sym same)
       (begins_both past loads.mid new (begins_longer past _ loads.mid loads.loaded)
-      (takes_begin loads.after))
-  file_begins past rest (Some launch) (Err load_fault.CannotRead) next new left taking is (inr toward) (inr loads) =
+      (takes_begin f loads.mid new rest.bytes left loads.after))
+  file_begins f past rest (Some launch) (Err load_fault.CannotRead) next new left taking is (inr toward) (inr loads) =
       let same : toward.file ≡ None = let e = toward.file_is in cc in
-      loaded_begins rest.first past launch None rest.bytes toward.mid loads.mid next new toward.left left
-      (same_launch past rest launch (Err load_fault.CannotRead) None next is toward same) toward.taken loads.loaded
+      loaded_begins f past launch None rest.bytes toward.mid loads.mid next new toward.left left
+      (same_launch f past rest launch (Err load_fault.CannotRead) None next is toward same) toward.taken loads.loaded
       loads.after
-  file_begins past rest (Some launch) (Err load_fault.NoMemory) next new left taking is (inl same) leads =
+  file_begins f past rest (Some launch) (Err load_fault.NoMemory) next new left taking is (inl same) leads =
       subst (λ h. IsPrefixOf h new) (sym same) (may_begin past MemoryFailure new leads.0)
-  file_begins past rest (Some launch) (Err load_fault.NoMemory) next new left taking is (inr toward) leads =
+  file_begins f past rest (Some launch) (Err load_fault.NoMemory) next new left taking is (inr toward) leads =
       absurd (let e = toward.file_is in cc)
 
   report_begins : (past : History) (r : PlainReport) (next new : History) → IsTaking past → (next ≡ past)
@@ -170,37 +176,21 @@ module _ (once : IsReadOnce) where
   report_begins past r next new taking (inr toward) (inr is) =
       begins_same next new (once.one_after past (Accepted r) next new toward.1 is.2)
 
-  event_begins : (past : History) (rest : Rest) (event : Incoming) (next new : History) (left : Rest) → IsTaking past
-      → Toward past rest event next → LeadsByEvent past rest event new left → IsPrefixOf next new
-  event_begins past rest (Piece piece) next new left taking toward leads =
-      piece_begins rest.first past rest.launch _ next new left toward leads
-  event_begins past rest End next new left taking toward leads =
+  event_begins : (f : FirstSeq) (past : History) (rest : Rest) (event : Incoming) (next new : History) (left : Rest)
+      → IsTaking past
+      → Toward f past rest event next → LeadsByEvent f past rest event new left → IsPrefixOf next new
+  event_begins f past rest (Piece piece) next new left taking toward leads =
+      piece_begins f past rest.launch _ next new left toward leads
+  event_begins f past rest End next new left taking toward leads =
       item_begins past InputEnd next new taking toward leads.0
-  event_begins past rest ReadFailed next new left taking toward leads =
+  event_begins f past rest ReadFailed next new left taking toward leads =
       item_begins past ReadFailure next new taking toward leads.0
-  event_begins past rest NoMemoryCame next new left taking toward leads =
+  event_begins f past rest NoMemoryCame next new left taking toward leads =
       subst (λ h. IsPrefixOf h new) (sym toward) (may_begin past MemoryFailure new leads.0)
-  event_begins past rest (File answer) next new left taking toward leads =
-      file_begins past rest rest.launch answer next new left taking refl toward leads
-  event_begins past rest (Report r) next new left taking toward leads =
+  event_begins f past rest (File answer) next new left taking toward leads =
+      file_begins f past rest rest.launch answer next new left taking refl toward leads
+  event_begins f past rest (Report r) next new left taking toward leads =
       report_begins past r next new taking toward leads.0
-
--- ---- a list of events, and its last
-
-leads_apart : (past : History) (rest : Rest) (events : List Incoming) (last : Incoming) (new : History) (left : Rest)
-    → LeadsByEvents past rest (events ++ last ∷ []) new left
-    → (mid : History) × (between : Rest) × LeadsByEvents past rest events mid between
-    × LeadsByEvent mid between last new left
-leads_apart past rest [] last new left all = (
-  past,
-  rest,
-  (refl, refl),
-  subst (λ h. LeadsByEvent past rest last h left) (sym all.3.0)
-      (subst (λ r. LeadsByEvent past rest last all.0 r) (sym all.3.1) all.2),
-)
-leads_apart past rest (e ∷ events) last new left all =
-    let next = leads_apart all.0 all.1 events last new left all.3 in
-    (next.0, next.1, (all.0, all.1, all.2, next.2), next.3)
 
 -- ---- what was sent
 
@@ -319,20 +309,21 @@ broken_part WriterGone mid next old between later at sent breaks = put_part mid 
 
 -- ---- a whole session
 
-next_toward : (fault : SessionFault) (past : History) (rest : Rest) (event : Incoming) (old later : Ports)
-    (fails : EventGivesUp fault past rest event old later) → Toward past rest event fails.next
-next_toward fault past rest event old later fails = by fails.next_is
+next_toward : (f : FirstSeq) (fault : SessionFault) (past : History) (rest : Rest) (event : Incoming)
+    (old later : Ports)
+    (fails : EventGivesUp f fault past rest event old later) → Toward f past rest event fails.next
+next_toward f fault past rest event old later fails = by fails.next_is
   where
-    by : (fails.next ≡ fails.mid) ⊎ (Toward past rest event fails.next
-        × ((item : Item) × IsAfter fails.mid item fails.next)) → Toward past rest event fails.next
-    by (inl same) = subst (Toward past rest event) (sym same) fails.toward
+    by : (fails.next ≡ fails.mid) ⊎ (Toward f past rest event fails.next
+        × ((item : Item) × IsAfter fails.mid item fails.next)) → Toward f past rest event fails.next
+    by (inl same) = subst (Toward f past rest event) (sym same) fails.toward
     by (inr is) = is.0
 
-mid_next : (fault : SessionFault) (past : History) (rest : Rest) (event : Incoming) (old later : Ports)
-    (fails : EventGivesUp fault past rest event old later) → IsPrefixOf fails.mid fails.next
-mid_next fault past rest event old later fails = by fails.next_is
+mid_next : (f : FirstSeq) (fault : SessionFault) (past : History) (rest : Rest) (event : Incoming) (old later : Ports)
+    (fails : EventGivesUp f fault past rest event old later) → IsPrefixOf fails.mid fails.next
+mid_next f fault past rest event old later fails = by fails.next_is
   where
-    by : (fails.next ≡ fails.mid) ⊎ (Toward past rest event fails.next
+    by : (fails.next ≡ fails.mid) ⊎ (Toward f past rest event fails.next
         × ((item : Item) × IsAfter fails.mid item fails.next)) → IsPrefixOf fails.mid fails.next
     by (inl same) = begins_same fails.mid fails.next (sym same)
     by (inr is) = begins_longer fails.mid is.1.0 fails.next is.1.1
@@ -342,7 +333,7 @@ stops_part : (f : FirstSeq) (events : List Incoming) (fault : SessionFault) (old
 stops_part f events fault old later stops =
     let fails = stops.fails in
     broken_part fault fails.mid fails.next old fails.between stops.stopped
-    (mid_next fault stops.reaches.past stops.reaches.rest stops.reaches.last stops.mid stops.stopped fails)
+    (mid_next f fault stops.reaches.past stops.reaches.rest stops.reaches.last stops.mid stops.stopped fails)
     (sends_both [] stops.reaches.past fails.mid old stops.mid fails.between stops.sent fails.sent) fails.breaks
 
 -- ---- the history that a session reached
@@ -360,18 +351,17 @@ pub record PutsFew (reached : History) (old later : Ports) : Type 0 where
   pub few : length frames < 2 ^ 53
   pub begins : IsPrefixOf frames (frames_from 1 (messages_of reached))
 
-module _ (laws : ReadingsGoOn) (once : IsReadOnce) (one : HistoryIsOne) where
+module _ (once : IsReadOnce) (one : HistoryIsOne) where
   -- a history of all events goes on with the last one from where the session stood
-  last_leads : (events : List Incoming) (last : Incoming) (past : History) (rest : Rest) (new : History) (left : Rest)
-      → left.first ≡ rest.first → IsHistoryOf events past rest → IsHistoryOf (events ++ last ∷ []) new left
-      → LeadsByEvent past rest last new left
-  last_leads events last past rest new left first here whole =
-      let apart = leads_apart [] (only_bytes left.first []) events last new left whole in
-      let kept = first_kept [] (only_bytes left.first []) events apart.0 apart.1 apart.2 in
-      let there = subst (λ g. LeadsByEvents [] (only_bytes g []) events apart.0 apart.1) (sym kept) apart.2 in
-      let same = one events apart.0 past apart.1 rest there here (kept ∙ first) in
-      subst (λ r. LeadsByEvent past r last new left) same.1
-      (subst (λ h. LeadsByEvent h apart.1 last new left) same.0 apart.3)
+  last_leads : (f : FirstSeq) (events : List Incoming) (last : Incoming) (past : History) (rest : Rest) (new : History)
+      (left : Rest)
+      → IsHistoryOf f events past rest → IsHistoryOf f (events ++ last ∷ []) new left
+      → LeadsByEvent f past rest last new left
+  last_leads f events last past rest new left here whole =
+      let apart = leads_last f [] (only_bytes []) events last new left whole in
+      let same = one f events apart.0 past apart.1 rest apart.2 here in
+      subst (λ r. LeadsByEvent f past r last new left) same.1
+      (subst (λ h. LeadsByEvent f h apart.1 last new left) same.0 apart.3)
 
   -- a session reached a history on the way to that of all events
   reached_toward : (f : FirstSeq) (events : List Incoming) (reached : History) → AreLawful events
@@ -381,33 +371,29 @@ module _ (laws : ReadingsGoOn) (once : IsReadOnce) (one : HistoryIsOne) where
       let at = way.reaches in
       let parts = lawful_apart at.before (at.last ∷ []) (subst AreLawful at.events_are lawful) in
       let there =
-      retaken_toward laws at.past at.rest at.last reached parts.1 at.taking way.toward
-      (retaken laws at.before at.past at.rest parts.0 at.history) in
+      retaken_toward f at.past at.rest at.last reached parts.1 at.taking way.toward
+      (retaken f at.before at.past at.rest parts.0 at.history) in
       record {
         way = inr way;
-        begins = λ new left first whole.
+        begins = λ new left whole.
             let leads =
-            last_leads at.before at.last at.past at.rest new left (first ∙ sym at.first_is) at.history
-            (subst (λ es. IsHistoryOf es new left) at.events_are whole) in
-            event_begins once at.past at.rest at.last reached new left at.taking way.toward leads;
+            last_leads f at.before at.last at.past at.rest new left at.history
+            (subst (λ es. IsHistoryOf f es new left) at.events_are whole) in
+            event_begins once f at.past at.rest at.last reached new left at.taking way.toward leads;
         taken = there.1.events;
         rest = there.1.rest;
-        first_is = there.1.first_is ∙ at.first_is;
         lawful = there.1.lawful;
         history = there.1.history;
       }
 
   -- or that of all events
-  reached_all : (f : FirstSeq) (events : List Incoming) (past : History) (rest : Rest) → rest.first ≡ f
-      → AreLawful events
-      → IsHistoryOf events past rest → IsReached f events past
-  reached_all f events past rest first lawful history = record {
-    way = inl (rest, first, history);
-    begins = λ new left same whole. begins_same past new (one events past new rest left history whole
-        (first ∙ sym same)).0;
+  reached_all : (f : FirstSeq) (events : List Incoming) (past : History) (rest : Rest) → AreLawful events
+      → IsHistoryOf f events past rest → IsReached f events past
+  reached_all f events past rest lawful history = record {
+    way = inl (rest, history);
+    begins = λ new left whole. begins_same past new (one f events past new rest left history whole).0;
     taken = events;
     rest = rest;
-    first_is = first;
     lawful = lawful;
     history = history;
   }
@@ -420,7 +406,7 @@ module _ (laws : ReadingsGoOn) (once : IsReadOnce) (one : HistoryIsOne) where
       reaches = stops.reaches;
       toward =
           let at = stops.reaches in
-          next_toward fault at.past at.rest at.last stops.mid stops.stopped stops.fails;
+          next_toward f fault at.past at.rest at.last stops.mid stops.stopped stops.fails;
     });
     part = stops_part f events fault old later stops;
   }
@@ -430,7 +416,7 @@ module _ (laws : ReadingsGoOn) (once : IsReadOnce) (one : HistoryIsOne) where
       → Serves f events ending old later → Sent f events old later
   serves_sent f events ending old later lawful serves = record {
     reached = serves.past;
-    is_reached = reached_all f events serves.past serves.rest serves.first_is lawful serves.history;
+    is_reached = reached_all f events serves.past serves.rest lawful serves.history;
     part = record {
       frames = frames_from 1 (messages_of serves.past);
       orders = orders_of serves.past;

@@ -2,6 +2,7 @@
 use Rattle.std.proofs.Common.{◌≡◌, inl, inr, [], ◌∷◌, ◌++◌, None, Some, Result, Ok, Err, refl, sym, ◌∙◌, subst, append-nil, arith}
 use Rattle.std.specs.Prelude.{OnOk}
 use Rattle.dbg_runner.specs.Plain.{Quit}
+use Rattle.dap_msg.specs.declared.request.FirstSeq.{FirstSeq}
 use Rattle.dap_history.specs.declared.ending.Closed.{Closed}
 use Rattle.dap_history.specs.declared.ending.Ending.TheVariants as ending
 use Rattle.dap_history.specs.declared.fault.SessionFault.{SessionFault}
@@ -25,11 +26,12 @@ abbrev pub closing_step : Item → Step
 closing_step item = record { item = item; answer = None; effect = ordering (Quit ∷ []) }
 
 -- an event that ends the input
-pub record EndsInput (past : History) (rest : Rest) (event : Incoming) (item : Item) (closed : Closed) : Type 0 where
+pub record EndsInput (f : FirstSeq) (past : History) (rest : Rest) (event : Incoming) (item : Item) (closed : Closed)
+    : Type 0 where
   pub closing_is : closing item ≡ Some (ending.Closed closed)
-  pub here : Toward past rest event past
-  pub toward : (new : History) → IsAfter past item new → Toward past rest event new
-  pub leads : (new : History) → IsAfter past item new → LeadsByEvent past rest event new rest
+  pub here : Toward f past rest event past
+  pub toward : (new : History) → IsAfter past item new → Toward f past rest event new
+  pub leads : (new : History) → IsAfter past item new → LeadsByEvent f past rest event new rest
 
 -- closing fails by the port alone
 pub close_needs_none : (result : Result (Unit {0}) SessionFault) (closed : Closed) (last : State)
@@ -38,12 +40,13 @@ pub close_needs_none : (result : Result (Unit {0}) SessionFault) (closed : Close
 close_needs_none (Ok u) closed last old later quits ended = λ open_. absurd (let e = sym ended ∙ open_ in cc)
 close_needs_none (Err fault) closed last old later quits ended = λ lost. subst (λ f. IsNotPushed f old later) lost quits
 
-pub closes : ReadingsGoOn → (result : Result (Unit {0}) SessionFault) (past : History) (rest : Rest) (event : Incoming)
+pub closes : ReadingsGoOn → (f : FirstSeq) (result : Result (Unit {0}) SessionFault) (past : History) (rest : Rest)
+    (event : Incoming)
     (item : Item) (closed : Closed) (last : State) (out : Written) (old later : PushedOrders) → IsTaking past
-    → EndsInput past rest event item closed → IsAfter past item (past ++ closing_step item ∷ [])
+    → EndsInput f past rest event item closed → IsAfter past item (past ++ closing_step item ∷ [])
     → PushesQuit result old later → OnOk result (last.ending ≡ Some (ending.Closed closed))
-    → Handles result past rest event last (ports out old) (ports out later)
-closes laws (Ok u) past rest event item closed last out old later taking ends after quits ended =
+    → Handles f result past rest event last (ports out old) (ports out later)
+closes laws f (Ok u) past rest event item closed last out old later taking ends after quits ended =
     let new = past ++ closing_step item ∷ [] in
     let ending_is = ended ∙ sym ends.closing_is ∙ sym (ending_after laws past (closing_step item) taking) in
     record {
@@ -62,7 +65,7 @@ closes laws (Ok u) past rest event item closed last out old later taking ends af
       };
       refuses_nothing = record { writer = refl; runner = quits.2; full = quits.1 };
     }
-closes laws (Err fault) past rest event item closed last out old later taking ends after quits ended =
+closes laws f (Err fault) past rest event item closed last out old later taking ends after quits ended =
     let new = past ++ closing_step item ∷ [] in
     inl (record {
       mid = past;

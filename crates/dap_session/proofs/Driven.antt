@@ -99,7 +99,7 @@ pub record Way (f : FirstSeq) (session : State) (wanted : Option (List ℕ)) (be
 
 -- a session that has taken no event keeps the first number that it was made with
 pub first_is : (session : State) (f : FirstSeq) → Represents f session [] [] → session.stream.first ≡ f
-first_is session f stands = ap (λ s. s.first) (stands.goes_on refl).stream_is ∙ stands.first_is
+first_is session f stands = ap (λ s. s.first) (stands.goes_on refl).stream_is
 
 pub way_begins : (f : FirstSeq) (session : State) (begin : Sources) (old : Ports) → Represents f session [] []
     → session.ending ≡ None
@@ -147,7 +147,6 @@ awaits f session events past launch path stands open_ is same =
     let taking : IsTaking past = sym stands.ending_is ∙ open_ in record {
       past = past;
       rest = stands.rest;
-      first_is = stands.first_is;
       history = stands.history;
       taking = taking;
       launch = launch;
@@ -163,7 +162,6 @@ awaits_none f session events past stands open_ is =
     let taking : IsTaking past = sym stands.ending_is ∙ open_ in record {
       past = past;
       rest = stands.rest;
-      first_is = stands.first_is;
       history = stands.history;
       waits = inr (sym (stands.goes_on taking).launch_is ∙ is);
     }
@@ -288,26 +286,24 @@ way_goes_on f session after wanted want event begin now next old mid later way f
 -- ---- the end
 
 abbrev reaches_last : (f : FirstSeq) (events : List Incoming) (past : History) (rest : Rest) (event : Incoming)
-    → rest.first ≡ f → IsHistoryOf events past rest → IsTaking past → ReachesLast f (events ++ event ∷ [])
-reaches_last f events past rest event first history taking = record {
+    → IsHistoryOf f events past rest → IsTaking past → ReachesLast f (events ++ event ∷ [])
+reaches_last f events past rest event history taking = record {
   before = events;
   last = event;
   events_are = refl;
   past = past;
   rest = rest;
-  first_is = first;
   history = history;
   taking = taking;
 }
 
 serves : (f : FirstSeq) (events : List Incoming) (past : History) (rest : Rest) (by : Ending) (old later : Ports)
-    → rest.first ≡ f → IsHistoryOf events past rest → ending_of past ≡ Some by → ReachesLast f events
+    → IsHistoryOf f events past rest → ending_of past ≡ Some by → ReachesLast f events
     → Sends [] past old later → RefusesNothing old later
     → Serves f events by old later
-serves f events past rest by old later first history is reaches sent sure = record {
+serves f events past rest by old later history is reaches sent sure = record {
   past = past;
   rest = rest;
-  first_is = first;
   history = history;
   ending_is = is;
   reaches = reaches;
@@ -320,12 +316,12 @@ serves f events past rest by old later first history is reaches sent sure = reco
 stops_short : (f : FirstSeq) (events : List Incoming) (past : History) (rest : Rest) (event : Incoming)
     (old mid later last : Ports)
     (fault : SessionFault)
-    → rest.first ≡ f → IsHistoryOf events past rest → IsTaking
+    → IsHistoryOf f events past rest → IsTaking
     past → (fault ≡ faults.NoMemory → ¬ NeedsNoMemory rest.launch (Accepts past) event) → Sends [] past old mid
-    → RefusesNothing old mid → EventGivesUp fault past rest event mid later → TriesQuit later last
+    → RefusesNothing old mid → EventGivesUp f fault past rest event mid later → TriesQuit later last
     → StopsShort f (events ++ event ∷ []) fault old last
-stops_short f events past rest event old mid later last fault first history taking needs sent sure fails quit = record {
-  reaches = reaches_last f events past rest event first history taking;
+stops_short f events past rest event old mid later last fault history taking needs sent sure fails quit = record {
+  reaches = reaches_last f events past rest event history taking;
   needs = needs;
   mid = mid;
   sent = sent;
@@ -338,52 +334,52 @@ stops_short f events past rest event old mid later last fault first history taki
 -- the result is as the way and its last event lead to
 ends : (f : FirstSeq) (events : List Incoming) (past : History) (rest : Rest) (event : Incoming) (after : State)
     (old mid later last : Ports) (given : List Incoming) (loads : List Load) (fault : SessionFault)
-    → rest.first ≡ f → IsHistoryOf events past rest → IsTaking
+    → IsHistoryOf f events past rest → IsTaking
     past → (fault ≡ faults.NoMemory → ¬ NeedsNoMemory rest.launch (Accepts past) event) → Sends [] past old mid
     → RefusesNothing old mid → TriesQuit later last
     → Comes f (Err fault) events past rest event after mid later → Interleaves f [] (events ++ event ∷ []) given loads
     → SessionOutcome f (events ++ event ∷ []) given loads old last (Err fault)
-ends f events past rest event after old mid later last given loads (faults.Frame k) first history taking needs sent sure
+ends f events past rest event after old mid later last given loads (faults.Frame k) history taking needs sent sure
     quit
     comes from =
     ends_at_fault from (record {
       mid = later;
       serves = serves f (events ++ event ∷ []) comes.new comes.rest (ending.Fault (faults.Frame k)) old later
-          comes.first_is comes.history comes.ending_is
-          (reaches_last f events past rest event first history taking)
+          comes.history comes.ending_is
+          (reaches_last f events past rest event history taking)
           (sends_both [] past comes.new old mid later sent comes.sends)
           (refuses_both old mid later sure comes.refuses_nothing);
       quit = quit;
     })
-ends f events past rest event after old mid later last given loads faults.NoMemory first history taking needs sent sure
+ends f events past rest event after old mid later last given loads faults.NoMemory history taking needs sent sure
     quit
     comes from =
     runs_out_of_memory from (stops_short f events past rest event old mid later last faults.NoMemory
-    first history taking
+    history taking
     needs sent sure comes quit)
-ends f events past rest event after old mid later last given loads faults.SeqExhausted first history taking needs sent
+ends f events past rest event after old mid later last given loads faults.SeqExhausted history taking needs sent
     sure quit
     comes from =
     gives_up no_seq_is_left from (stops_short f events past rest event old mid later last faults.SeqExhausted
-    first history
+    history
     taking needs sent sure comes quit)
-ends f events past rest event after old mid later last given loads faults.OrdersFull first history taking needs sent
+ends f events past rest event after old mid later last given loads faults.OrdersFull history taking needs sent
     sure quit
     comes from =
     gives_up orders_are_full from (stops_short f events past rest event old mid later last faults.OrdersFull
-    first history
+    history
     taking needs sent sure comes quit)
-ends f events past rest event after old mid later last given loads faults.RunnerGone first history taking needs sent
+ends f events past rest event after old mid later last given loads faults.RunnerGone history taking needs sent
     sure quit
     comes from =
     gives_up runner_is_gone from (stops_short f events past rest event old mid later last faults.RunnerGone
-    first history taking
+    history taking
     needs sent sure comes quit)
-ends f events past rest event after old mid later last given loads faults.WriterGone first history taking needs sent
+ends f events past rest event after old mid later last given loads faults.WriterGone history taking needs sent
     sure quit
     comes from =
     gives_up writer_is_gone from (stops_short f events past rest event old mid later last faults.WriterGone
-    first history taking
+    history taking
     needs sent sure comes quit)
 
 -- the session was closed
@@ -409,8 +405,8 @@ way_closes f session after wanted want event begin now next old mid later by way
           (interleaves_both f [] way.events (event ∷ []) way.given adds.given way.loads adds.loads way.interleaves
           adds.one)
           (serves f (way.events ++ event ∷ []) well.new well.stands.rest (ending.Closed by) old later
-          well.stands.first_is well.stands.history (sym well.stands.ending_is ∙ is)
-          (reaches_last f way.events way.past way.stands.rest event way.stands.first_is way.stands.history
+          well.stands.history (sym well.stands.ending_is ∙ is)
+          (reaches_last f way.events way.past way.stands.rest event way.stands.history
           (sym way.stands.ending_is ∙ way.open_ended))
           (sends_both [] way.past well.new old mid later way.sent well.sends)
           (refuses_both old mid later way.sure well.refuses_nothing));
@@ -437,7 +433,7 @@ way_fails f session after wanted fault event begin now next old mid later last w
           adds.loads_are ∙ ap (λ l. l ++ adds.loads) way.loads_are ∙ append_assoc begin.loaded way.loads adds.loads;
       lawful = lawful_both way.events (event ∷ []) way.lawful law;
       drives = ends f way.events way.past way.stands.rest event after old mid later last (way.given ++ adds.given)
-          (way.loads ++ adds.loads) fault way.stands.first_is way.stands.history
+          (way.loads ++ adds.loads) fault way.stands.history
           (sym way.stands.ending_is ∙ way.open_ended) needs
           way.sent way.sure quit
           (step.comes f way.events way.past way.stands)

@@ -2,6 +2,7 @@
 use Rattle.std.proofs.Common.{◌≡◌, inl, inr, ℕ, List, Option, None, Some, Result, Ok, Err, refl, sym, ◌∙◌, ap, subst}
 use Rattle.std.specs.Prelude.{Vec}
 use Rattle.std.specs.declared.alloc.Global.{Global}
+use Rattle.dap_msg.specs.declared.request.FirstSeq.{FirstSeq}
 use Rattle.dap_history.specs.declared.fault.LoadFault.{LoadFault}
 use Rattle.dap_history.specs.declared.fault.LoadFault.TheVariants as load_fault
 use Rattle.dap_history.specs.declared.fault.SessionFault.{SessionFault}
@@ -9,13 +10,13 @@ use Rattle.dap_history.specs.declared.fault.SessionFault.TheVariants.{NoMemory}
 use Rattle.dap_history.specs.declared.launch.Launch.{Launch}
 use Rattle.dap_history.specs.History.{Loaded, History}
 use Rattle.dap_history.specs.Emission.{IsAfter}
-use Rattle.dap_history.specs.Events.{Rest, File, IsTaking, Takes, Loads, LeadsByFile, LeadsByEvent}
+use Rattle.dap_history.specs.Events.{Rest, File, IsTaking, no_content, Takes, Loads, LeadsByFile, LeadsByEvent}
 use Rattle.dap_phase.specs.Phases.{launch_of}
 use Rattle.dap_session.specs.declared.ports.Event.TheVariants as event
 use Rattle.dap_session.specs.Incoming.{incoming_of}
 use Rattle.dap_session.specs.Ports.{Ports}
 use Rattle.dap_session.specs.State.{State, GoesOn}
-use Rattle.dap_session.specs.Taking.{no_content, TowardByPiece, file_of, Toward, LacksMemory}
+use Rattle.dap_session.specs.Taking.{TowardByPiece, file_of, Toward, LacksMemory}
 use Rattle.dap_session.specs.Handling.{HasHistory, TakesItem, FailsAtItem, HandlesContents, Handles}
 use Rattle.dap_session.specs.Ports.{plain_file}
 use Rattle.dap_session.proofs.Going.{goes_after, stops_at_once, stops_at_item, arrives_at_once}
@@ -32,27 +33,27 @@ pub record IsGiven (rest : Rest) (launch : Launch) (answer : Result (List ℕ) L
   pub waits : rest.launch ≡ Some launch
   pub file_is : file_of answer ≡ Some file
 
-leads_by_answer : (past : History) (rest : Rest) (launch : Launch) (answer : Result (List ℕ) LoadFault)
+leads_by_answer : (f : FirstSeq) (past : History) (rest : Rest) (launch : Launch) (answer : Result (List ℕ) LoadFault)
     (file : Option (List ℕ)) (new : History) (left : Rest) → file_of answer ≡ Some file
-    → Loads rest.first past launch file rest.bytes new left → LeadsByFile past rest (Some launch) answer new left
-leads_by_answer past rest launch (Ok bytes) file new left is loads =
-    let e : Some bytes ≡ file = cc in inr (subst (λ f. Loads rest.first past launch f rest.bytes new left) (sym e)
+    → Loads f past launch file rest.bytes new left → LeadsByFile f past rest (Some launch) answer new left
+leads_by_answer f past rest launch (Ok bytes) file new left is loads =
+    let e : Some bytes ≡ file = cc in inr (subst (λ b. Loads f past launch b rest.bytes new left) (sym e)
     loads)
-leads_by_answer past rest launch (Err load_fault.CannotRead) file new left is loads =
-    let e : None ≡ file = cc in inr (subst (λ f. Loads rest.first past launch f rest.bytes new left) (sym e) loads)
-leads_by_answer past rest launch (Err load_fault.NoMemory) file new left is loads = absurd cc
+leads_by_answer f past rest launch (Err load_fault.CannotRead) file new left is loads =
+    let e : None ≡ file = cc in inr (subst (λ b. Loads f past launch b rest.bytes new left) (sym e) loads)
+leads_by_answer f past rest launch (Err load_fault.NoMemory) file new left is loads = absurd cc
 
-leads_by_load : (past : History) (rest : Rest) (launch : Launch) (answer : Result (List ℕ) LoadFault)
+leads_by_load : (f : FirstSeq) (past : History) (rest : Rest) (launch : Launch) (answer : Result (List ℕ) LoadFault)
     (file : Option (List ℕ)) → IsGiven rest launch answer file → (new : History) (left : Rest)
-    → Loads rest.first past launch file rest.bytes new left → LeadsByEvent past rest (File answer) new left
-leads_by_load past rest launch answer file is new left loads =
-    subst (λ l. LeadsByFile past rest l answer new left) (sym is.waits)
-    (leads_by_answer past rest launch answer file new left is.file_is loads)
+    → Loads f past launch file rest.bytes new left → LeadsByEvent f past rest (File answer) new left
+leads_by_load f past rest launch answer file is new left loads =
+    subst (λ l. LeadsByFile f past rest l answer new left) (sym is.waits)
+    (leads_by_answer f past rest launch answer file new left is.file_is loads)
 
-toward_by_load : (past : History) (rest : Rest) (launch : Launch) (answer : Result (List ℕ) LoadFault)
+toward_by_load : (f : FirstSeq) (past : History) (rest : Rest) (launch : Launch) (answer : Result (List ℕ) LoadFault)
     (file : Option (List ℕ)) → IsGiven rest launch answer file → (mid : History) → IsAfter past (Loaded launch file) mid
-    → (new : History) → TowardByPiece rest.first mid None rest.bytes new → Toward past rest (File answer) new
-toward_by_load past rest launch answer file is mid after new taken =
+    → (new : History) → TowardByPiece f mid None rest.bytes new → Toward f past rest (File answer) new
+toward_by_load f past rest launch answer file is mid after new taken =
     inr (record {
       launch = launch;
       waits = is.waits;
@@ -65,52 +66,56 @@ toward_by_load past rest launch answer file is mid after new taken =
     })
 
 -- the contents after it are taken as well
-pub file_taken : (result : Result (Unit {0}) SessionFault) (past : History) (rest : Rest) (launch : Launch)
+pub file_taken : (f : FirstSeq) (result : Result (Unit {0}) SessionFault) (past : History) (rest : Rest)
+    (launch : Launch)
     (answer : Result (List ℕ) LoadFault) (file : Option (List ℕ)) (loaded last : State) (old between later : Ports)
     → IsTaking past → IsGiven rest launch answer file
-    → loaded.stream ≡ record { first = rest.first; rest = rest.bytes; fault = None }
+    → loaded.stream ≡ record { first = f; rest = rest.bytes; fault = None }
     → TakesItem past (Loaded launch file) loaded old between
     → ((h : History) → loaded.stream.fault ≡ None → launch_of loaded.phase ≡ None → HasHistory loaded h
     → HandlesContents loaded.stream.first result h loaded.stream.rest last between later)
-    → Handles result past rest (File answer) last old later
-file_taken result past rest launch answer file loaded last old between later taking is stream_is item taken =
+    → Handles f result past rest (File answer) last old later
+file_taken f result past rest launch answer file loaded last old between later taking is stream_is item taken =
     let mid = item.new in
     let contents =
-    subst (λ b. HandlesContents rest.first result mid b last between later) (ap (λ s. s.rest) stream_is)
+    subst (λ b. HandlesContents f result mid b last between later) (ap (λ s. s.rest) stream_is)
     (subst (λ g. HandlesContents g result mid loaded.stream.rest last between later) (ap (λ s. s.first) stream_is)
     (taken mid (ap (λ s. s.fault) stream_is) item.free item.is_at)) in
-    goes_after result (Takes rest.first mid rest.bytes) (LeadsByEvent past rest (File answer))
-    (TowardByPiece rest.first mid None rest.bytes)
-    (Toward past rest (File answer)) past mid last old between later
+    goes_after f result (Takes f mid rest.bytes) (LeadsByEvent f past rest (File answer))
+    (TowardByPiece f mid None rest.bytes)
+    (Toward f past rest (File answer)) past mid last old between later
     item.sends item.refuses_nothing
-    (λ new left all. leads_by_load past rest launch answer file is new left
+    (λ new left all. leads_by_load f past rest launch answer file is new left
     (record { taking = taking; mid = mid; loaded = item.after; after = all }))
-    (toward_by_load past rest launch answer file is mid item.after) contents
+    (toward_by_load f past rest launch answer file is mid item.after) contents
 
 -- ---- a launch that is not made
 
-pub file_lost : (past : History) (rest : Rest) (answer : Result (List ℕ) LoadFault) (last : State) (old : Ports)
-    → Handles (Err NoMemory) past rest (File answer) last old old
-file_lost past rest answer last old = inl (stops_at_once (Toward past rest (File answer)) past old (inl refl))
+pub file_lost : (f : FirstSeq) (past : History) (rest : Rest) (answer : Result (List ℕ) LoadFault) (last : State)
+    (old : Ports)
+    → Handles f (Err NoMemory) past rest (File answer) last old old
+file_lost f past rest answer last old = inl (stops_at_once (Toward f past rest (File answer)) past old (inl refl))
 
-pub load_fails : (fault : SessionFault) (past : History) (rest : Rest) (launch : Launch)
+pub load_fails : (f : FirstSeq) (fault : SessionFault) (past : History) (rest : Rest) (launch : Launch)
     (answer : Result (List ℕ) LoadFault) (file : Option (List ℕ)) (last : State) (old later : Ports)
     → IsGiven rest launch answer file
-    → FailsAtItem fault past (Loaded launch file) old later → Handles (Err fault) past rest (File answer) last old later
-load_fails fault past rest launch answer file last old later is fails =
-    inl (stops_at_item (Toward past rest (File answer)) fault past (Loaded launch file) old later (inl refl)
-    (λ new after. toward_by_load past rest launch answer file is new after new (rest.bytes, no_content)) fails)
+    → FailsAtItem fault past (Loaded launch file) old later
+    → Handles f (Err fault) past rest (File answer) last old later
+load_fails f fault past rest launch answer file last old later is fails =
+    inl (stops_at_item (Toward f past rest (File answer)) fault past (Loaded launch file) old later (inl refl)
+    (λ new after. toward_by_load f past rest launch answer file is new after new (rest.bytes, no_content)) fails)
 
 -- ---- a file that no launch waits for
 
-pub file_passed : (past : History) (rest : Rest) (answer : Result (List ℕ) LoadFault) (session last : State)
+pub file_passed : (f : FirstSeq) (past : History) (rest : Rest) (answer : Result (List ℕ) LoadFault)
+    (session last : State)
     (old : Ports) → last ≡ session → session.ending ≡ None → launch_of session.phase ≡ None → IsTaking past
-    → GoesOn session past rest
-    → Handles (Ok tt) past rest (File answer) last old old
-file_passed past rest answer session last old same open_ free taking on =
-    subst (λ s. Handles (Ok tt) past rest (File answer) s old old) (sym same)
-    (arrives_at_once (LeadsByEvent past rest (File answer)) past rest session old
-    (subst (λ l. LeadsByFile past rest l answer past rest) (sym free ∙ on.launch_is) (refl, refl)) open_ taking on)
+    → GoesOn f session past rest
+    → Handles f (Ok tt) past rest (File answer) last old old
+file_passed f past rest answer session last old same open_ free taking on =
+    subst (λ s. Handles f (Ok tt) past rest (File answer) s old old) (sym same)
+    (arrives_at_once f (LeadsByEvent f past rest (File answer)) past rest session old
+    (subst (λ l. LeadsByFile f past rest l answer past rest) (sym free ∙ on.launch_is) (refl, refl)) open_ taking on)
 
 -- ---- no memory for a file
 

@@ -1,5 +1,6 @@
 -- How far a session came, seen from an earlier history.
 use Rattle.std.proofs.Common.{◌≡◌, inl, inr, None, Result, Ok, Err, refl, sym, ◌∙◌}
+use Rattle.dap_msg.specs.declared.request.FirstSeq.{FirstSeq}
 use Rattle.dap_history.specs.declared.fault.SessionFault.{SessionFault}
 use Rattle.dap_history.specs.declared.fault.SessionFault.TheVariants.{NoMemory}
 use Rattle.dap_history.specs.History.{Item, History}
@@ -13,12 +14,13 @@ use Rattle.dap_session.proofs.Items.{refuses_none}
 use Rattle.dap_session.proofs.Joining.{refuses_both, sends_both, sends_nothing}
 
 -- what was sent before is sent as well
-pub goes_after : (result : Result (Unit {0}) SessionFault) (L M : History → Rest → Type 0) (T U : History → Type 0)
+pub goes_after : (f : FirstSeq) (result : Result (Unit {0}) SessionFault) (L M : History → Rest → Type 0)
+    (T U : History → Type 0)
     (past mid : History) (session : State) (old between later : Ports)
     → Sends past mid old between → RefusesNothing old between
     → ((new : History) (rest : Rest) → L new rest → M new rest) → ((new : History) → T new → U new)
-    → Goes result L T mid session between later → Goes result M U past session old later
-goes_after (Ok u) L M T U past mid session old between later sends refuses leads toward goes =
+    → Goes f result L T mid session between later → Goes f result M U past session old later
+goes_after f (Ok u) L M T U past mid session old between later sends refuses leads toward goes =
     record {
       new = goes.new;
       rest = goes.rest;
@@ -28,7 +30,7 @@ goes_after (Ok u) L M T U past mid session old between later sends refuses leads
       sends = sends_both past mid goes.new old between later sends goes.sends;
       refuses_nothing = refuses_both old between later refuses goes.refuses_nothing;
     }
-goes_after (Err fault) L M T U past mid session old between later sends refuses leads toward (inl stops) =
+goes_after f (Err fault) L M T U past mid session old between later sends refuses leads toward (inl stops) =
     inl (record {
       mid = stops.mid;
       way = toward stops.mid stops.way;
@@ -39,7 +41,7 @@ goes_after (Err fault) L M T U past mid session old between later sends refuses 
       next_is = elim stops.next_is [ inl same ↦ inl same | inr on ↦ inr (toward stops.next on.0, on.1) ];
       breaks = stops.breaks;
     })
-goes_after (Err fault) L M T U past mid session old between later sends refuses leads toward (inr ends) =
+goes_after f (Err fault) L M T U past mid session old between later sends refuses leads toward (inr ends) =
     inr (
       ends.0,
       ends.1,
@@ -85,9 +87,11 @@ stops_at_item T fault past item old later here toward fails =
     }
 
 -- nothing comes of the event
-pub arrives_at_once : (L : History → Rest → Type 0) (past : History) (rest : Rest) (session : State) (old : Ports)
-    → L past rest → session.ending ≡ None → IsTaking past → GoesOn session past rest → Arrives L past session old old
-arrives_at_once L past rest session old here open_ taking on =
+pub arrives_at_once : (f : FirstSeq) (L : History → Rest → Type 0) (past : History) (rest : Rest) (session : State)
+    (old : Ports)
+    → L past rest → session.ending ≡ None → IsTaking past → GoesOn f session past rest
+    → Arrives f L past session old old
+arrives_at_once f L past rest session old here open_ taking on =
     record {
       new = past;
       rest = rest;

@@ -10,8 +10,8 @@ use Rattle.dap_history.specs.History.{History, messages_of}
 use Rattle.dap_history.specs.Events.{Incoming, Rest, IsHistoryOf}
 use Rattle.dap_history.specs.Laws.{HistoryIsOne, SeqCountFromOne, FramesAreReadBack}
 use Rattle.dap_history.specs.Output.{frames_from}
-use Rattle.dap_history.specs.ReadingLaws.{ReadingsGoOn}
 use Rattle.dap_history.proofs.OneHistory.{IsReadOnce}
+use Rattle.dap_msg.specs.declared.request.FirstSeq.{FirstSeq}
 use Rattle.dap_session.specs.Laws.{FramesAreNumbered}
 use Rattle.dap_session.proofs.Beginnings.{drives_few}
 
@@ -27,21 +27,21 @@ there_is f None b is = absurd cc
 there_is f (Some a) b is = (a, refl)
 
 module _ (count : SeqCountFromOne) (back : FramesAreReadBack) where
-  reads_nth : (events : List Incoming) (past : History) (rest : Rest) → IsHistoryOf events past rest
+  reads_nth : (f : FirstSeq) (events : List Incoming) (past : History) (rest : Rest) → IsHistoryOf f events past rest
       → (n : ℕ) (frame : List ℕ) → slice_get (frames_from 1 (messages_of past)) n ≡ Some frame → n + 1 < 2 ^ 64
       → (message : Outgoing) × (content : List ℕ) × (slice_get (messages_of past) n ≡ Some message)
       × (frame ≡ frame_of content) × ReadsAsMessage message (n + 1) content
-  reads_nth events past rest history n frame is small =
+  reads_nth f events past rest history n frame is small =
       let there =
       there_is (λ m. frame_of (text_of m (n + 1))) (slice_get (messages_of past) n) frame
       (sym (count (messages_of past) n) ∙ is) in
-      let read = back events past rest history n there.0 there.1 small in
+      let read = back f events past rest history n there.0 there.1 small in
       (there.0, read.0, there.1, same_Some frame (frame_of read.0) (sym is ∙ read.1), read.2)
 
-  pub frames_are_numbered : ReadingsGoOn → IsReadOnce → HistoryIsOne → FramesAreNumbered
-  frames_are_numbered laws once one f result given_before given_after loaded_before loaded_after old later driven =
+  pub frames_are_numbered : IsReadOnce → HistoryIsOne → FramesAreNumbered
+  frames_are_numbered once one f result given_before given_after loaded_before loaded_after old later driven =
       let sent =
-      drives_few laws once one f result driven.events driven.given driven.loads old later driven.lawful driven.drives
+      drives_few once one f result driven.events driven.given driven.loads old later driven.lawful driven.drives
       in
       let reached = sent.1 in
       let puts = sent.2 in (
@@ -56,7 +56,7 @@ module _ (count : SeqCountFromOne) (back : FramesAreReadBack) where
               subst (λ fs. slice_get fs n ≡ Some frame) puts.begins.1
               (get_begins puts.frames puts.begins.0 n frame is) in
               let within = slice_get_within puts.frames n frame is in
-              reads_nth reached.taken sent.0 reached.rest reached.history n frame whole
+              reads_nth f reached.taken sent.0 reached.rest reached.history n frame whole
               (omega (arith, within, puts.few));
         },
       )

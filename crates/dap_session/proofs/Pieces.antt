@@ -6,11 +6,11 @@ use Rattle.dap_history.specs.declared.fault.SessionFault.{SessionFault}
 use Rattle.dap_history.specs.declared.fault.SessionFault.TheVariants.{NoMemory}
 use Rattle.dap_history.specs.declared.launch.Launch.{Launch}
 use Rattle.dap_history.specs.History.{History}
-use Rattle.dap_history.specs.Events.{Rest, Piece, IsTaking, LeadsByPiece}
+use Rattle.dap_history.specs.Events.{Rest, Piece, IsTaking, no_content, LeadsByPiece}
 use Rattle.dap_phase.specs.Phases.{IsPhase, launch_of}
 use Rattle.dap_session.specs.Ports.{Ports}
 use Rattle.dap_session.specs.State.{State, GoesOn}
-use Rattle.dap_session.specs.Taking.{no_content, TowardByPiece, Toward}
+use Rattle.dap_session.specs.Taking.{TowardByPiece, Toward}
 use Rattle.dap_session.specs.Handling.{HasHistory, Goes, Handles, HandlesContents}
 use Rattle.dap_session.proofs.Going.{stops_at_once, arrives_at_once}
 
@@ -20,11 +20,11 @@ toward_here f past None bytes = (bytes, no_content)
 toward_here f past (Some launch) bytes = refl
 
 -- there was no memory for the piece
-pub piece_lost : (session : State) (past : History) (rest : Rest) (piece : List ℕ) (old : Ports)
-    → Handles (Err NoMemory) past rest (Piece piece) session old old
-piece_lost session past rest piece old =
-    inl (stops_at_once (Toward past rest (Piece piece)) past old
-    (toward_here rest.first past rest.launch (rest.bytes ++ piece)))
+pub piece_lost : (f : FirstSeq) (session : State) (past : History) (rest : Rest) (piece : List ℕ) (old : Ports)
+    → Handles f (Err NoMemory) past rest (Piece piece) session old old
+piece_lost f session past rest piece old =
+    inl (stops_at_once (Toward f past rest (Piece piece)) past old
+    (toward_here f past rest.launch (rest.bytes ++ piece)))
 
 -- the session with a decoder that has the piece
 pub record IsFed (session fed : State) (piece : List ℕ) : Type 0 where
@@ -37,17 +37,19 @@ pub record IsFed (session fed : State) (piece : List ℕ) : Type 0 where
     fault = None;
   }
 
-bytes_are : (session fed : State) (piece : List ℕ) (past : History) (rest : Rest) → IsFed session fed piece
-    → GoesOn session past rest → fed.stream.rest ≡ rest.bytes ++ piece
-bytes_are session fed piece past rest is on = ap (λ s. s.rest) is.stream_is ∙ ap (λ s. s.rest ++ piece) on.stream_is
+bytes_are : (f : FirstSeq) (session fed : State) (piece : List ℕ) (past : History) (rest : Rest)
+    → IsFed session fed piece
+    → GoesOn f session past rest → fed.stream.rest ≡ rest.bytes ++ piece
+bytes_are f session fed piece past rest is on = ap (λ s. s.rest) is.stream_is ∙ ap (λ s. s.rest ++ piece) on.stream_is
 
-first_of : (session fed : State) (piece : List ℕ) (past : History) (rest : Rest) → IsFed session fed piece
-    → GoesOn session past rest → fed.stream.first ≡ rest.first
-first_of session fed piece past rest is on = ap (λ s. s.first) is.stream_is ∙ ap (λ s. s.first) on.stream_is
+first_of : (f : FirstSeq) (session fed : State) (piece : List ℕ) (past : History) (rest : Rest)
+    → IsFed session fed piece
+    → GoesOn f session past rest → fed.stream.first ≡ f
+first_of f session fed piece past rest is on = ap (λ s. s.first) is.stream_is ∙ ap (λ s. s.first) on.stream_is
 
-at_fed : (session fed : State) (piece : List ℕ) (past : History) (rest : Rest) → IsFed session fed piece
-    → session.ending ≡ None → IsTaking past → GoesOn session past rest → HasHistory fed past
-at_fed session fed piece past rest is open_ taking on =
+at_fed : (f : FirstSeq) (session fed : State) (piece : List ℕ) (past : History) (rest : Rest) → IsFed session fed piece
+    → session.ending ≡ None → IsTaking past → GoesOn f session past rest → HasHistory fed past
+at_fed f session fed piece past rest is open_ taking on =
     record {
       ending_is = is.ending_is ∙ open_ ∙ sym taking;
       knows = λ _. record {
@@ -57,42 +59,43 @@ at_fed session fed piece past rest is open_ taking on =
     }
 
 -- its contents are taken
-pub piece_taken : (result : Result (Unit {0}) SessionFault) (session fed last : State) (piece : List ℕ) (past : History)
+pub piece_taken : (f : FirstSeq) (result : Result (Unit {0}) SessionFault) (session fed last : State) (piece : List ℕ)
+    (past : History)
     (rest : Rest) (old later : Ports) → session.ending ≡ None → IsFed session fed piece → launch_of fed.phase ≡ None
     → ((h : History) → fed.stream.fault ≡ None → launch_of fed.phase ≡ None → HasHistory fed h
     → HandlesContents fed.stream.first result h fed.stream.rest last old later)
-    → IsTaking past → GoesOn session past rest → Handles result past rest (Piece piece) last old later
-piece_taken result session fed last piece past rest old later open_ is free taken taking on =
+    → IsTaking past → GoesOn f session past rest → Handles f result past rest (Piece piece) last old later
+piece_taken f result session fed last piece past rest old later open_ is free taken taking on =
     let bytes = rest.bytes ++ piece in
     let no_launch : None ≡ rest.launch = sym free ∙ ap launch_of is.phase_is ∙ on.launch_is in
     let goes =
-    taken past (ap (λ s. s.fault) is.stream_is) free (at_fed session fed piece past rest is open_ taking on) in
-    subst (λ launch. Goes result (LeadsByPiece rest.first past launch bytes)
-    (TowardByPiece rest.first past launch bytes) past last old later)
+    taken past (ap (λ s. s.fault) is.stream_is) free (at_fed f session fed piece past rest is open_ taking on) in
+    subst (λ launch. Goes f result (LeadsByPiece f past launch bytes)
+    (TowardByPiece f past launch bytes) past last old later)
     no_launch
-    (subst (λ b. Goes result (LeadsByPiece rest.first past None b) (TowardByPiece rest.first past None b) past last old
+    (subst (λ b. Goes f result (LeadsByPiece f past None b) (TowardByPiece f past None b) past last old
     later)
-    (bytes_are session fed piece past rest is on)
+    (bytes_are f session fed piece past rest is on)
     (subst (λ g. HandlesContents g result past fed.stream.rest last old later)
-    (first_of session fed piece past rest is on)
+    (first_of f session fed piece past rest is on)
     goes))
 
 -- it waits with a launch
 waits_with : (f : FirstSeq) (launch : Option Launch) (past : History) (bytes : List ℕ) → is_some launch ≡ true
-    → LeadsByPiece f past launch bytes past (record { first = f; launch = launch; bytes = bytes })
+    → LeadsByPiece f past launch bytes past (record { launch = launch; bytes = bytes })
 waits_with f None past bytes some = absurd cc
 waits_with f (Some launch) past bytes some = (refl, refl)
 
-pub piece_waits : (session fed : State) (piece : List ℕ) (past : History) (rest : Rest) (old : Ports)
+pub piece_waits : (f : FirstSeq) (session fed : State) (piece : List ℕ) (past : History) (rest : Rest) (old : Ports)
     → session.ending ≡ None → IsFed session fed piece → is_some (launch_of fed.phase) ≡ true
-    → IsTaking past → GoesOn session past rest → Handles (Ok tt) past rest (Piece piece) fed old old
-piece_waits session fed piece past rest old open_ is some taking on =
+    → IsTaking past → GoesOn f session past rest → Handles f (Ok tt) past rest (Piece piece) fed old old
+piece_waits f session fed piece past rest old open_ is some taking on =
     let bytes = rest.bytes ++ piece in
-    let at = at_fed session fed piece past rest is open_ taking on in
+    let at = at_fed f session fed piece past rest is open_ taking on in
     let same : launch_of fed.phase ≡ rest.launch = ap launch_of is.phase_is ∙ on.launch_is in
-    arrives_at_once (LeadsByPiece rest.first past rest.launch bytes) past
-    (record { first = rest.first; launch = rest.launch; bytes = bytes }) fed old
-    (waits_with rest.first rest.launch past bytes (ap is_some (sym same) ∙ some)) (is.ending_is ∙ open_) taking
+    arrives_at_once f (LeadsByPiece f past rest.launch bytes) past
+    (record { launch = rest.launch; bytes = bytes }) fed old
+    (waits_with f rest.launch past bytes (ap is_some (sym same) ∙ some)) (is.ending_is ∙ open_) taking
     (record {
       knows = at.knows taking;
       launch_is = same;

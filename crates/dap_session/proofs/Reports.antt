@@ -4,6 +4,7 @@ use Rattle.std.specs.Prelude.{OnOk}
 use Rattle.dbg_runner.specs.declared.outcome.SliceOutcome.{SliceOutcome}
 use Rattle.dbg_runner.specs.declared.outcome.SliceOutcome.TheVariants as slice
 use Rattle.dbg_runner.specs.Plain.{PlainReport, Heading, heading_of}
+use Rattle.dap_msg.specs.declared.request.FirstSeq.{FirstSeq}
 use Rattle.dap_history.specs.declared.fault.SessionFault.{SessionFault}
 use Rattle.dap_history.specs.declared.fault.SessionFault.TheVariants.{NoMemory}
 use Rattle.dap_history.specs.History.{Accepted, History}
@@ -34,11 +35,13 @@ needed_none (Err fault) session free enough = λ lost. enough (ap Err lost)
 
 -- ---- a report that is passed over
 
-passed : (past : History) (rest : Rest) (r : PlainReport) (session : State) (old : Ports) → ¬ Accepts past r
-    → session.ending ≡ None → IsTaking past → GoesOn session past rest
-    → Handles (Ok tt) past rest (Report r) session old old
-passed past rest r session old not open_ taking on =
-    arrives_at_once (LeadsByEvent past rest (Report r)) past rest session old (inl ((λ both. not both.1), refl), refl)
+passed : (f : FirstSeq) (past : History) (rest : Rest) (r : PlainReport) (session : State) (old : Ports)
+    → ¬ Accepts past r
+    → session.ending ≡ None → IsTaking past → GoesOn f session past rest
+    → Handles f (Ok tt) past rest (Report r) session old old
+passed f past rest r session old not open_ taking on =
+    arrives_at_once f (LeadsByEvent f past rest (Report r)) past rest session old
+    (inl ((λ both. not both.1), refl), refl)
     open_ taking on
 
 -- what the next report begins with, by the history
@@ -62,12 +65,12 @@ expects (phase.Stopped t d) past r is accepts = let e = sym accepts.running ∙ 
 expects (phase.Faulted t d) past r is accepts = let e = sym accepts.running ∙ is.situation_is in absurd cc
 expects (phase.Ended t u) past r is accepts = let e = sym accepts.running ∙ is.situation_is in absurd cc
 
-pub report_passed : (past : History) (rest : Rest) (r : PlainReport) (session last : State) (old : Ports)
-    → last ≡ session → ¬ Expects session.phase r → session.ending ≡ None → IsTaking past → GoesOn session past rest
-    → Handles (Ok tt) past rest (Report r) last old old
-report_passed past rest r session last old same other open_ taking on =
-    subst (λ s. Handles (Ok tt) past rest (Report r) s old old) (sym same)
-    (passed past rest r session old (λ accepts. other (expects session.phase past r on.knows.phase_is accepts)) open_
+pub report_passed : (f : FirstSeq) (past : History) (rest : Rest) (r : PlainReport) (session last : State) (old : Ports)
+    → last ≡ session → ¬ Expects session.phase r → session.ending ≡ None → IsTaking past → GoesOn f session past rest
+    → Handles f (Ok tt) past rest (Report r) last old old
+report_passed f past rest r session last old same other open_ taking on =
+    subst (λ s. Handles f (Ok tt) past rest (Report r) s old old) (sym same)
+    (passed f past rest r session old (λ accepts. other (expects session.phase past r on.knows.phase_is accepts)) open_
     taking on)
 
 -- ---- a report that is accepted
@@ -98,12 +101,12 @@ pub record HadRun (session : State) (t : Target) (run : OrderedRun) (r : PlainRe
   pub phase_was : session.phase ≡ phase.Running t run
   pub expected : heading_of r ≡ heading_in t.runs run
 
-pub report_taken : (result : Result (Unit {0}) SessionFault) (past : History) (rest : Rest) (t : Target)
+pub report_taken : (f : FirstSeq) (result : Result (Unit {0}) SessionFault) (past : History) (rest : Rest) (t : Target)
     (run : OrderedRun)
     (r : PlainReport) (session last : State) (old later : Ports) → HadRun session t run r → last.stream ≡ session.stream
-    → IsTaking past → GoesOn session past rest
-    → HandlesItem result past (Accepted r) last old later → Handles result past rest (Report r) last old later
-report_taken (Ok u) past rest t run r session last old later had same taking on item =
+    → IsTaking past → GoesOn f session past rest
+    → HandlesItem result past (Accepted r) last old later → Handles f result past rest (Report r) last old later
+report_taken f (Ok u) past rest t run r session last old later had same taking on item =
     let is = subst (λ p. IsPhase p past) had.phase_was on.knows.phase_is in
     let accepts = accepts_report past t run r is had.expected in
     record {
@@ -119,8 +122,8 @@ report_taken (Ok u) past rest t run r session last old later had same taking on 
       sends = item.sends;
       refuses_nothing = item.refuses_nothing;
     }
-report_taken (Err fault) past rest t run r session last old later had same taking on item =
+report_taken f (Err fault) past rest t run r session last old later had same taking on item =
     let is = subst (λ p. IsPhase p past) had.phase_was on.knows.phase_is in
     let accepts = accepts_report past t run r is had.expected in
-    inl (stops_at_item (Toward past rest (Report r)) fault past (Accepted r) old later (inl refl)
+    inl (stops_at_item (Toward f past rest (Report r)) fault past (Accepted r) old later (inl refl)
     (λ new after. inr (accepts, after)) item)

@@ -12,77 +12,64 @@ use Rattle.dap_history.specs.declared.ending.Ending.{Ending}
 use Rattle.dap_history.specs.declared.launch.Launch.{Launch}
 use Rattle.dap_history.specs.History.{Item, MemoryFailure, Fault, History}
 use Rattle.dap_history.specs.Readings.{closing, ending_of}
-use Rattle.dap_history.specs.ReadingLaws.{ReadingsGoOn}
 use Rattle.dap_history.specs.Emission.{IsAfter}
 use Rattle.dap_history.specs.Events as event
-use Rattle.dap_history.specs.Events.{Incoming, Rest, only_bytes, IsHistoryOf, IsTaking, Takes, one_more, closed, open_ended, faulty, waits, Loads, LeadsByPiece, LeadsByFile, LeadsByEvent, LeadsByEvents}
+use Rattle.dap_history.specs.Events.{Incoming, Rest, only_bytes, IsHistoryOf, IsTaking, TakesSome, no_content, one_content, Rests, closed, open_ended, faulty, waits, Takes, Loads, LeadsByPiece, LeadsByFile, LeadsByEvent, LeadsByEvents}
 use Rattle.dap_phase.specs.declared.phase.Phase.TheVariants as phase
 use Rattle.dap_phase.specs.Phases.{launch_of}
 use Rattle.dap_session.specs.declared.want.Want.{Want}
 use Rattle.dap_session.specs.declared.want.Want.TheVariants as want_is
 use Rattle.dap_session.specs.Ports.{Ports}
 use Rattle.dap_session.specs.State.{State, Represents, WantsHere, Wants}
-use Rattle.dap_session.specs.Taking.{TakesSome, no_content, one_content, TowardByPiece, LoadsToward, file_of, Toward, EventGivesUp, Comes, TakesEvent}
+use Rattle.dap_session.specs.Taking.{TowardByPiece, LoadsToward, file_of, Toward, EventGivesUp, Comes, TakesEvent}
 use Rattle.dap_session.specs.Handling.{Arrives, StopsOnTheWay, Handles, NeededNoMemory, HandlesEvent}
-use Rattle.dap_history.proofs.FirstKept.{first_by_event}
-use Rattle.dap_session.proofs.Items.{ending_after}
+use Rattle.dap_history.proofs.Along.{closes_for_good}
 
 -- one event after others
-pub leads_one_more : (past : History) (rest : Rest) (events : List Incoming) (mid : History) (between : Rest)
+pub leads_one_more : (f : FirstSeq) (past : History) (rest : Rest) (events : List Incoming) (mid : History)
+    (between : Rest)
     (event : Incoming) (new : History) (left : Rest)
-    → LeadsByEvents past rest events mid between → LeadsByEvent mid between event new left
-    → LeadsByEvents past rest (events ++ event ∷ []) new left
-leads_one_more past rest [] mid between event new left all leads = (
+    → LeadsByEvents f past rest events mid between → LeadsByEvent f mid between event new left
+    → LeadsByEvents f past rest (events ++ event ∷ []) new left
+leads_one_more f past rest [] mid between event new left all leads = (
   new,
   left,
-  subst (λ h. LeadsByEvent h rest event new left) all.0 (subst (λ b. LeadsByEvent mid b event new left) all.1 leads),
+  subst (λ h. LeadsByEvent f h rest event new left) all.0
+      (subst (λ b. LeadsByEvent f mid b event new left) all.1 leads),
   (refl, refl),
 )
-leads_one_more past rest (e ∷ events) mid between event new left all leads =
-    (all.0, all.1, all.2, leads_one_more all.0 all.1 events mid between event new left all.3 leads)
-
-pub history_one_more : (events : List Incoming) (mid : History) (between : Rest) (event : Incoming) (new : History)
-    (left : Rest) → IsHistoryOf events mid between → LeadsByEvent mid between event new left
-    → IsHistoryOf (events ++ event ∷ []) new left
-history_one_more events mid between event new left history leads =
-    subst (λ f. LeadsByEvents [] (only_bytes f []) (events ++ event ∷ []) new left)
-    (sym (first_by_event mid between event new left leads))
-    (leads_one_more [] (only_bytes between.first []) events mid between event new left history leads)
+leads_one_more f past rest (e ∷ events) mid between event new left all leads =
+    (all.0, all.1, all.2, leads_one_more f all.0 all.1 events mid between event new left all.3 leads)
 
 -- ---- where a session goes on after an event, only items that it takes were taken
 
--- after an item that ends a session it takes nothing
-pub ended : ReadingsGoOn → (past : History) (item : Item) (ending : Ending) (new : History) → IsTaking past
-    → closing item ≡ Some ending → IsAfter past item new → ¬ IsTaking new
-ended laws past item ending new taking closes after still =
-    let e : Some ending ≡ None =
-    sym closes ∙ sym (ap closing after.item_is) ∙ sym (ending_after laws past after.step taking)
-    ∙ ap ending_of (sym after.new_is) ∙ still in
-    absurd cc
+-- no further item is taken where it still takes any
+none_after : {f : FirstSeq} {past new : History} {bytes : List ℕ} {rest : Rest}
+    → Rests f past bytes new rest
+    → IsTaking new → past ≡ new
+none_after (closed not) still = refl
+none_after (open_ended taking is) still = refl
+none_after {past = past} (faulty k new taking is after) still =
+    absurd (closes_for_good past (Fault k) new _ refl after still)
+none_after (waits request launch more taking front wanted) still = refl
 
-toward_by_contents : ReadingsGoOn → {f : FirstSeq} {past new : History} {bytes : List ℕ} {rest : Rest}
+toward_by_contents : (f : FirstSeq) (past new : History) (bytes : List ℕ) (rest : Rest)
     → Takes f past bytes new rest
-    → IsTaking new → (more : List ℕ) × TakesSome f past bytes new more
-toward_by_contents laws (one_more request taking front unwanted after taken) still =
-    let next = toward_by_contents laws taken still in
-    (next.0, one_content request taking front unwanted after next.1)
-toward_by_contents laws {bytes = bytes} (closed not) still = (bytes, no_content)
-toward_by_contents laws {bytes = bytes} (open_ended taking open_) still = (bytes, no_content)
-toward_by_contents laws {past = past} (faulty k new taking is after) still =
-    absurd (ended laws past (Fault k) _ new taking refl after still)
-toward_by_contents laws {bytes = bytes} (waits request launch more taking front wanted) still = (bytes, no_content)
+    → IsTaking new → TowardByPiece f past None bytes new
+toward_by_contents f past new bytes rest taken still =
+    (taken.1, subst (λ h. TakesSome f past bytes h taken.1) (none_after taken.3 still) taken.2)
 
-toward_by_piece : ReadingsGoOn → (f : FirstSeq) (past : History) (launch : Option Launch) (bytes : List ℕ)
+toward_by_piece : (f : FirstSeq) (past : History) (launch : Option Launch) (bytes : List ℕ)
     (new : History)
     (left : Rest) → LeadsByPiece f past launch bytes new left → IsTaking new → TowardByPiece f past launch bytes new
-toward_by_piece laws f past None bytes new left leads still = toward_by_contents laws leads still
-toward_by_piece laws f past (Some launch) bytes new left leads still = leads.0
+toward_by_piece f past None bytes new left leads still = toward_by_contents f past new bytes left leads still
+toward_by_piece f past (Some launch) bytes new left leads still = leads.0
 
-toward_by_loads : ReadingsGoOn → (past : History) (rest : Rest) (launch : Launch) (answer : Result (List ℕ) LoadFault)
+toward_by_loads : (f : FirstSeq) (past : History) (rest : Rest) (launch : Launch) (answer : Result (List ℕ) LoadFault)
     (file : Option (List ℕ)) (new : History) (left : Rest) → rest.launch ≡ Some launch → file_of answer ≡ Some file
-    → Loads rest.first past launch file rest.bytes new left → IsTaking new → LoadsToward past rest answer new
-toward_by_loads laws past rest launch answer file new left is file_is loads still =
-    let taken = toward_by_contents laws loads.after still in
+    → Loads f past launch file rest.bytes new left → IsTaking new → LoadsToward f past rest answer new
+toward_by_loads f past rest launch answer file new left is file_is loads still =
+    let taken = toward_by_contents f loads.mid new rest.bytes left loads.after still in
     record {
       launch = launch;
       waits = is;
@@ -94,48 +81,46 @@ toward_by_loads laws past rest launch answer file new left is file_is loads stil
       taken = taken.1;
     }
 
-toward_by_file : ReadingsGoOn → (past : History) (rest : Rest) (launch : Option Launch)
+toward_by_file : (f : FirstSeq) (past : History) (rest : Rest) (launch : Option Launch)
     (answer : Result (List ℕ) LoadFault) (new : History) (left : Rest) → rest.launch ≡ launch → IsTaking past
-    → LeadsByFile past rest launch answer new left → IsTaking new
-    → (new ≡ past) ⊎ LoadsToward past rest answer new
-toward_by_file laws past rest None answer new left is taking leads still = inl leads.0
-toward_by_file laws past rest (Some launch) (Ok file) new left is taking (inl not) still = inl not.1
-toward_by_file laws past rest (Some launch) (Ok file) new left is taking (inr loads) still =
-    inr (toward_by_loads laws past rest launch (Ok file) (Some file) new left is refl loads still)
-toward_by_file laws past rest (Some launch) (Err load_fault.CannotRead) new left is taking (inl not) still = inl not.1
-toward_by_file laws past rest (Some launch) (Err load_fault.CannotRead) new left is taking (inr loads) still =
-    inr (toward_by_loads laws past rest launch (Err load_fault.CannotRead) None new left is refl loads still)
-toward_by_file laws past rest (Some launch) (Err load_fault.NoMemory) new left is taking leads still =
+    → LeadsByFile f past rest launch answer new left → IsTaking new
+    → (new ≡ past) ⊎ LoadsToward f past rest answer new
+toward_by_file f past rest None answer new left is taking leads still = inl leads.0
+toward_by_file f past rest (Some launch) (Ok file) new left is taking (inl not) still = inl not.1
+toward_by_file f past rest (Some launch) (Ok file) new left is taking (inr loads) still =
+    inr (toward_by_loads f past rest launch (Ok file) (Some file) new left is refl loads still)
+toward_by_file f past rest (Some launch) (Err load_fault.CannotRead) new left is taking (inl not) still = inl not.1
+toward_by_file f past rest (Some launch) (Err load_fault.CannotRead) new left is taking (inr loads) still =
+    inr (toward_by_loads f past rest launch (Err load_fault.CannotRead) None new left is refl loads still)
+toward_by_file f past rest (Some launch) (Err load_fault.NoMemory) new left is taking leads still =
     elim leads.0 [
       | inl not ↦ inl not.1
-      | inr after ↦ absurd
-          (ended laws past MemoryFailure _ new taking refl after.1 still)
+      | inr after ↦ absurd (closes_for_good past MemoryFailure new _ refl after.1 still)
     ]
 
-leads_toward : ReadingsGoOn → (past : History) (rest : Rest) (e : Incoming) (new : History) (left : Rest)
-    → IsTaking past → LeadsByEvent past rest e new left → IsTaking new → Toward past rest e new
-leads_toward laws past rest (event.Piece piece) new left taking leads still =
-    toward_by_piece laws rest.first past rest.launch (rest.bytes ++ piece) new left leads still
-leads_toward laws past rest event.End new left taking leads still =
+leads_toward : (f : FirstSeq) (past : History) (rest : Rest) (e : Incoming) (new : History) (left : Rest)
+    → IsTaking past → LeadsByEvent f past rest e new left → IsTaking new → Toward f past rest e new
+leads_toward f past rest (event.Piece piece) new left taking leads still =
+    toward_by_piece f past rest.launch (rest.bytes ++ piece) new left leads still
+leads_toward f past rest event.End new left taking leads still =
     elim leads.0 [ inl not ↦ inl not.1 | inr after ↦ inr after.1 ]
-leads_toward laws past rest event.ReadFailed new left taking leads still =
+leads_toward f past rest event.ReadFailed new left taking leads still =
     elim leads.0 [ inl not ↦ inl not.1 | inr after ↦ inr after.1 ]
-leads_toward laws past rest event.NoMemory new left taking leads still =
+leads_toward f past rest event.NoMemory new left taking leads still =
     elim leads.0 [
       | inl not ↦ not.1
-      | inr after ↦ absurd
-          (ended laws past MemoryFailure _ new taking refl after.1 still)
+      | inr after ↦ absurd (closes_for_good past MemoryFailure new _ refl after.1 still)
     ]
-leads_toward laws past rest (event.File answer) new left taking leads still =
-    toward_by_file laws past rest rest.launch answer new left refl taking leads still
-leads_toward laws past rest (event.Report r) new left taking leads still =
+leads_toward f past rest (event.File answer) new left taking leads still =
+    toward_by_file f past rest rest.launch answer new left refl taking leads still
+leads_toward f past rest (event.Report r) new left taking leads still =
     elim leads.0 [ inl not ↦ inl not.1 | inr is ↦ inr (is.1, is.2) ]
 
 -- ---- what comes of the event
 
-fails_at : (fault : SessionFault) (past : History) (rest : Rest) (e : Incoming) (old later : Ports)
-    → StopsOnTheWay (Toward past rest e) past fault old later → EventGivesUp fault past rest e old later
-fails_at fault past rest e old later stops =
+fails_at : (f : FirstSeq) (fault : SessionFault) (past : History) (rest : Rest) (e : Incoming) (old later : Ports)
+    → StopsOnTheWay (Toward f past rest e) past fault old later → EventGivesUp f fault past rest e old later
+fails_at f fault past rest e old later stops =
     record {
       mid = stops.mid;
       toward = stops.way;
@@ -150,20 +135,23 @@ fails_at fault past rest e old later stops =
 -- a fault that is none of framing
 comes_of_stop : (f : FirstSeq) (fault : SessionFault) (events : List Incoming) (past : History) (rest : Rest)
     (e : Incoming)
-    (session : State) (old later : Ports) → StopsOnTheWay (Toward past rest e) past fault old later
+    (session : State) (old later : Ports) → StopsOnTheWay (Toward f past rest e) past fault old later
     → Comes f (Err fault) events past rest e session old later
 comes_of_stop f (Frame k) events past rest e session old later stops = absurd stops.breaks
-comes_of_stop f NoMemory events past rest e session old later stops = fails_at NoMemory past rest e old later stops
+comes_of_stop f NoMemory events past rest e session old later stops = fails_at f NoMemory past rest e old later stops
 comes_of_stop f SeqExhausted events past rest e session old later stops =
-    fails_at SeqExhausted past rest e old later stops
-comes_of_stop f OrdersFull events past rest e session old later stops = fails_at OrdersFull past rest e old later stops
-comes_of_stop f RunnerGone events past rest e session old later stops = fails_at RunnerGone past rest e old later stops
-comes_of_stop f WriterGone events past rest e session old later stops = fails_at WriterGone past rest e old later stops
+    fails_at f SeqExhausted past rest e old later stops
+comes_of_stop f OrdersFull events past rest e session old later stops = fails_at f OrdersFull past rest e old later
+    stops
+comes_of_stop f RunnerGone events past rest e session old later stops = fails_at f RunnerGone past rest e old later
+    stops
+comes_of_stop f WriterGone events past rest e session old later stops = fails_at f WriterGone past rest e old later
+    stops
 
 -- the session gave up
 comes_of_fault : (f : FirstSeq) (fault : SessionFault) (events : List Incoming) (past : History) (e : Incoming)
     (start session last : State) (old later : Ports) (stands : Represents f start events past)
-    → Handles (Err fault) past stands.rest e session old later
+    → Handles f (Err fault) past stands.rest e session old later
     → Comes f (Err fault) events past stands.rest e last old later
 comes_of_fault f fault events past e start session last old later stands (inl stops) =
     comes_of_stop f fault events past stands.rest e last old later stops
@@ -171,30 +159,30 @@ comes_of_fault f fault events past e start session last old later stands (inr en
     rw ends.1 (record {
       new = ends.2.new;
       rest = ends.2.rest;
-      first_is = first_by_event past stands.rest e ends.2.new ends.2.rest ends.2.way ∙ stands.first_is;
-      history = history_one_more events past stands.rest e ends.2.new ends.2.rest stands.history ends.2.way;
+      history = leads_one_more f [] (only_bytes []) events past stands.rest e ends.2.new ends.2.rest stands.history
+          ends.2.way;
       ending_is = ends.2.ending_is;
       sends = ends.2.sends;
       refuses_nothing = ends.2.refuses_nothing;
     })
 
 -- The session came through the event. It asks for something next, or there was no memory to ask.
-comes_of_want : ReadingsGoOn → (f : FirstSeq) (result : Result Want SessionFault) (events : List Incoming)
+comes_of_want : (f : FirstSeq) (result : Result Want SessionFault) (events : List Incoming)
     (past : History)
     (e : Incoming) (start session last : State) (old later : Ports) (stands : Represents f start events past)
     → IsTaking past
-    → Arrives (LeadsByEvent past stands.rest e) past session old later
+    → Arrives f (LeadsByEvent f past stands.rest e) past session old later
     → IfOk result (λ want. Wants want session session.ending)
     → IfErr result (λ fault. (fault ≡ NoMemory) × (session.ending ≡ None))
     → ((want : Want) → result ≡ Ok want → last ≡ session)
     → Comes f result events past stands.rest e last old later
-comes_of_want laws f (Ok want) events past e start session last old later stands taking came wants lost same =
+comes_of_want f (Ok want) events past e start session last old later stands taking came wants lost same =
     rw (same want refl) (record {
       new = came.new;
       stands = record {
         rest = came.rest;
-        first_is = first_by_event past stands.rest e came.new came.rest came.way ∙ stands.first_is;
-        history = history_one_more events past stands.rest e came.new came.rest stands.history came.way;
+        history = leads_one_more f [] (only_bytes []) events past stands.rest e came.new came.rest stands.history
+            came.way;
         ending_is = came.ending_is;
         goes_on = came.goes_on;
       };
@@ -202,10 +190,10 @@ comes_of_want laws f (Ok want) events past e start session last old later stands
       refuses_nothing = came.refuses_nothing;
       wants = wants;
     })
-comes_of_want laws f (Err fault) events past e start session last old later stands taking came wants lost same =
+comes_of_want f (Err fault) events past e start session last old later stands taking came wants lost same =
     rw lost.0 (record {
       mid = came.new;
-      toward = leads_toward laws past stands.rest e came.new came.rest taking came.way (sym came.ending_is ∙ lost.1);
+      toward = leads_toward f past stands.rest e came.new came.rest taking came.way (sym came.ending_is ∙ lost.1);
       between = later;
       sent = came.sends;
       refuses_nothing = came.refuses_nothing;
@@ -238,10 +226,10 @@ want_needs_none (Err fault) session free lost waits_ = λ e. absurd (waits_ (fre
 handled_from : (start session : State) (e : Incoming) (taken : Result (Unit {0}) SessionFault) (old later : Ports)
     → start.ending ≡ None → HandlesEvent start e taken session old later
     → (f : FirstSeq) (events : List Incoming) (past : History)
-    (stands : Represents f start events past) → Handles taken past stands.rest e session old later
+    (stands : Represents f start events past) → Handles f taken past stands.rest e session old later
 handled_from start session e taken old later open_ handled f events past stands =
     let taking : IsTaking past = sym stands.ending_is ∙ open_ in
-    handled.comes past stands.rest taking (stands.goes_on taking)
+    handled.comes f past stands.rest taking (stands.goes_on taking)
 
 -- with the result under another name
 pub takes_as : (start last : State) (e : Incoming) (result same : Result Want SessionFault) (old later : Ports)
@@ -254,7 +242,7 @@ pub takes_of_fault : (start session last : State) (e : Incoming) (taken : Result
     → taken ≡ Err fault → TakesEvent start e (Err fault) last old later
 takes_of_fault start session last e taken fault old later open_ handled is = record {
   comes = λ f events past stands. comes_of_fault f fault events past e start session last old later stands
-      (subst (λ t. Handles t past stands.rest e session old later) is
+      (subst (λ t. Handles f t past stands.rest e session old later) is
       (handled_from start session e taken old later open_ handled f events past stands));
   no_memory = λ lacks.
       let lost = sym is ∙ handled.no_memory lacks in
@@ -263,7 +251,7 @@ takes_of_fault start session last e taken fault old later open_ handled is = rec
 }
 
 -- it came through the event
-pub takes_of_want : ReadingsGoOn → (start session last : State) (e : Incoming) (taken : Result (Unit {0}) SessionFault)
+pub takes_of_want : (start session last : State) (e : Incoming) (taken : Result (Unit {0}) SessionFault)
     (result : Result Want SessionFault) (old later : Ports) → start.ending ≡ None
     → HandlesEvent start e taken session old later → taken ≡ Ok tt
     → IfOk result (λ want. Wants want session session.ending)
@@ -271,10 +259,10 @@ pub takes_of_want : ReadingsGoOn → (start session last : State) (e : Incoming)
     → IfErr result (λ fault. launch_of session.phase ≢ None)
     → ((want : Want) → result ≡ Ok want → last ≡ session)
     → TakesEvent start e result last old later
-takes_of_want laws start session last e taken result old later open_ handled is wants lost waits_ same = record {
-  comes = λ f events past stands. comes_of_want laws f result events past e start session last old later stands
+takes_of_want start session last e taken result old later open_ handled is wants lost waits_ same = record {
+  comes = λ f events past stands. comes_of_want f result events past e start session last old later stands
       (sym stands.ending_is ∙ open_)
-      (subst (λ t. Handles t past stands.rest e session old later) is
+      (subst (λ t. Handles f t past stands.rest e session old later) is
       (handled_from start session e taken old later open_ handled f events past stands))
       wants lost same;
   no_memory = λ lacks. absurd (let never = sym is ∙ handled.no_memory lacks in cc);

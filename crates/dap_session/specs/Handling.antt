@@ -84,13 +84,14 @@ HandlesContent (Err fault) past request session old later = FailsAtContent fault
 -- ---- one after another
 
 -- Everything that `leads` describes was taken, and everything that it adds to the history was sent.
-pub record Arrives (leads : History → Rest → Type 0) (past : History) (session : State) (old later : Ports) : Type 0
+pub record Arrives (first : FirstSeq) (leads : History → Rest → Type 0) (past : History) (session : State)
+    (old later : Ports) : Type 0
   where
     pub new : History
     pub rest : Rest
     pub way : leads new rest
     pub ending_is : session.ending ≡ ending_of new
-    pub goes_on : IsTaking new → GoesOn session new rest
+    pub goes_on : IsTaking new → GoesOn first session new rest
     pub sends : Sends past new old later
     pub refuses_nothing : RefusesNothing old later
 
@@ -117,10 +118,11 @@ pub record StopsOnTheWay (toward : History → Type 0) (past : History) (fault :
   pub breaks : BreaksOff fault mid next between later
 
 -- one of the three, by the result
-abbrev pub Goes : Result (Unit {0}) SessionFault → (History → Rest → Type 0) → (History → Type 0) → History → State
+abbrev pub Goes : FirstSeq → Result (Unit {0}) SessionFault → (History → Rest → Type 0) → (History → Type 0) → History
+    → State
     → Ports → Ports → Type 0
-Goes (Ok u) leads toward past session old later = Arrives leads past session old later
-Goes (Err fault) leads toward past session old later =
+Goes first (Ok u) leads toward past session old later = Arrives first leads past session old later
+Goes first (Err fault) leads toward past session old later =
     StopsOnTheWay toward past fault old later
     ⊎ ((k : FramingFault) × (fault ≡ Frame k) × ArrivesAtFault leads past k old later)
 
@@ -128,12 +130,13 @@ Goes (Err fault) leads toward past session old later =
 abbrev pub HandlesContents : FirstSeq → Result (Unit {0}) SessionFault → History → List ℕ → State → Ports → Ports
     → Type 0
 HandlesContents first result past bytes session old later =
-    Goes result (Takes first past bytes) (TowardByPiece first past None bytes) past session old later
+    Goes first result (Takes first past bytes) (TowardByPiece first past None bytes) past session old later
 
 -- the same for an event
-abbrev pub Handles : Result (Unit {0}) SessionFault → History → Rest → Incoming → State → Ports → Ports → Type 0
-Handles result past rest event session old later =
-    Goes result (LeadsByEvent past rest event) (Toward past rest event) past session old later
+abbrev pub Handles : FirstSeq → Result (Unit {0}) SessionFault → History → Rest → Incoming → State → Ports → Ports
+    → Type 0
+Handles first result past rest event session old later =
+    Goes first result (LeadsByEvent first past rest event) (Toward first past rest event) past session old later
 
 -- No memory was needed to take the event, and none is needed to ask for the next.
 abbrev pub NeededNoMemory : Result (Unit {0}) SessionFault → State → Type 0
@@ -144,8 +147,8 @@ NeededNoMemory (Err fault) session = fault ≢ NoMemory
 -- for the event, the result is `NoMemory`; an event that needs none, and asking for the next, take none.
 pub record HandlesEvent (session : State) (event : Incoming) (result : Result (Unit {0}) SessionFault) (after : State)
     (old later : Ports) : Type 0 where
-  pub comes : (past : History) (rest : Rest) → IsTaking past → GoesOn session past rest
-      → Handles result past rest event after old later
+  pub comes : (first : FirstSeq) (past : History) (rest : Rest) → IsTaking past → GoesOn first session past rest
+      → Handles first result past rest event after old later
   pub no_memory : LacksMemory event (launch_of session.phase) → result ≡ Err NoMemory
   pub enough : NeedsNoMemory (launch_of session.phase) (Expects session.phase) event → NeededNoMemory result after
 

@@ -19,20 +19,18 @@ use Rattle.dap_session.specs.Serving.{ReachesLast, Driven}
 -- All events but the last were taken, and some items of the last, perhaps none.
 pub record IsOnTheWay (first : FirstSeq) (events : List Incoming) (reached : History) : Type 0 where
   pub reaches : ReachesLast first events
-  pub toward : Toward reaches.past reaches.rest reaches.last reached
+  pub toward : Toward first reaches.past reaches.rest reaches.last reached
 
 -- A session reached this history with the events: it took all of them, or gave up at the last one. The history is a
 -- prefix of any history of all the events. It is itself the history of some lawful events, so the laws of histories
 -- hold of it.
 pub record IsReached (first : FirstSeq) (events : List Incoming) (reached : History) : Type 0 where
-  pub way : ((rest : Rest) × (rest.first ≡ first) × IsHistoryOf events reached rest) ⊎ IsOnTheWay first events reached
-  pub begins : (past : History) (rest : Rest) → rest.first ≡ first → IsHistoryOf events past rest
-      → IsPrefixOf reached past
+  pub way : ((rest : Rest) × IsHistoryOf first events reached rest) ⊎ IsOnTheWay first events reached
+  pub begins : (past : History) (rest : Rest) → IsHistoryOf first events past rest → IsPrefixOf reached past
   pub taken : List Incoming
   pub rest : Rest
-  pub first_is : rest.first ≡ first
   pub lawful : AreLawful taken
-  pub history : IsHistoryOf taken reached rest
+  pub history : IsHistoryOf first taken reached rest
 
 -- The frames that were put are a prefix of those of the history's messages, and the orders pushed a prefix of its
 -- orders.

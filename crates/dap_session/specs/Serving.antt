@@ -24,8 +24,7 @@ pub record ReachesLast (first : FirstSeq) (events : List Incoming) : Type 0 wher
   pub events_are : events ≡ before ++ last ∷ []
   pub past : History
   pub rest : Rest
-  pub first_is : rest.first ≡ first
-  pub history : IsHistoryOf before past rest
+  pub history : IsHistoryOf first before past rest
   pub taking : IsTaking past
 
 -- The events were taken until the session had this ending, none of them after it, and everything that they cause was
@@ -33,8 +32,7 @@ pub record ReachesLast (first : FirstSeq) (events : List Incoming) : Type 0 wher
 pub record Serves (first : FirstSeq) (events : List Incoming) (ending : Ending) (old later : Ports) : Type 0 where
   pub past : History
   pub rest : Rest
-  pub first_is : rest.first ≡ first
-  pub history : IsHistoryOf events past rest
+  pub history : IsHistoryOf first events past rest
   pub ending_is : ending_of past ≡ Some ending
   pub reaches : ReachesLast first events
   pub frames_are : later.frames ≡ old.frames ++ frames_from 1 (messages_of past)
@@ -62,7 +60,7 @@ pub record StopsShort (first : FirstSeq) (events : List Incoming) (fault : Sessi
   pub sent : Sends [] reaches.past old mid
   pub refuses_nothing : RefusesNothing old mid
   pub stopped : Ports
-  pub fails : EventGivesUp fault reaches.past reaches.rest reaches.last mid stopped
+  pub fails : EventGivesUp first fault reaches.past reaches.rest reaches.last mid stopped
   pub quit : TriesQuit stopped later
 
 -- The faults at which what an event causes can't be sent: no seq is left, the queue of orders is full, or nobody takes

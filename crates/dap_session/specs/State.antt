@@ -35,18 +35,17 @@ pub record Knows (session : State) (past : History) : Type 0 where
   pub seq_is : session.next_seq ≡ next_seq past
 
 -- the same, of a session that goes on; what isn't taken yet is kept in its phase and its decoder
-pub record GoesOn (session : State) (past : History) (rest : Rest) : Type 0 where
+pub record GoesOn (first : FirstSeq) (session : State) (past : History) (rest : Rest) : Type 0 where
   pub knows : Knows session past
   pub launch_is : launch_of session.phase ≡ rest.launch
-  pub stream_is : session.stream ≡ record { first = rest.first; rest = rest.bytes; fault = None }
+  pub stream_is : session.stream ≡ record { first = first; rest = rest.bytes; fault = None }
 
 -- The session represents the events, whose history is `past`.
 pub record Represents (first : FirstSeq) (session : State) (events : List Incoming) (past : History) : Type 0 where
   pub rest : Rest
-  pub first_is : rest.first ≡ first
-  pub history : IsHistoryOf events past rest
+  pub history : IsHistoryOf first events past rest
   pub ending_is : session.ending ≡ ending_of past
-  pub goes_on : IsTaking past → GoesOn session past rest
+  pub goes_on : IsTaking past → GoesOn first session past rest
 
 -- ---- what the session asks for next
 

@@ -15,7 +15,7 @@ use Rattle.dap_history.specs.Readings.{situation, ending_of}
 use Rattle.dap_history.specs.Launching.{wanted_in}
 use Rattle.dap_history.specs.Reports.{Accepts}
 use Rattle.dap_history.specs.Emission.{IsAfter}
-use Rattle.dap_history.specs.Events.{Incoming, Piece, End, ReadFailed, File, Report, Rest, IsTaking, IsInFront, IsHistoryOf}
+use Rattle.dap_history.specs.Events.{Incoming, Piece, End, ReadFailed, File, Report, Rest, TakesSome, IsHistoryOf}
 use Rattle.dap_history.specs.Events.{NoMemory as NoMemoryCame}
 use Rattle.dap_phase.specs.declared.phase.Phase.{Phase}
 use Rattle.dap_phase.specs.declared.phase.Phase.TheVariants as phase
@@ -29,15 +29,6 @@ use Rattle.dap_session.specs.State.{State, Represents, Wants}
 
 -- ---- how far an event was taken
 
--- From the history `past`, some contents at the front of the bytes that want no file were taken one after another; the
--- history is `new` then, and the bytes `left` remain.
-pub data TakesSome : FirstSeq → History → List ℕ → History → List ℕ → Type 0 where
-  no_content : {first : FirstSeq} {past : History} {bytes : List ℕ} → TakesSome first past bytes past bytes
-  one_content : {first : FirstSeq} {past mid new : History} {bytes more left : List ℕ} (request : Option Request) →
-      IsTaking past → IsInFront first bytes request more → wanted_in (situation past) request ≡ None →
-      IsAfter past (Content request) mid → TakesSome first mid more new left →
-      TakesSome first past bytes new left
-
 -- from `past`, some contents at the front of the bytes were taken, or none while a launch waits
 abbrev pub TowardByPiece : FirstSeq → History → Option Launch → List ℕ → History → Type 0
 TowardByPiece first past None bytes new = (left : List ℕ) × TakesSome first past bytes new left
@@ -50,8 +41,8 @@ file_of (Err load_fault.CannotRead) = Some None
 file_of (Err load_fault.NoMemory) = None
 
 -- the launch was made with its file, and some contents after it were taken
-pub record LoadsToward (past : History) (rest : Rest) (answer : Result (List ℕ) LoadFault) (new : History) : Type 0
-  where
+pub record LoadsToward (first : FirstSeq) (past : History) (rest : Rest) (answer : Result (List ℕ) LoadFault)
+    (new : History) : Type 0 where
     pub launch : Launch
     pub waits : rest.launch ≡ Some launch
     pub file : Option (List ℕ)
@@ -59,16 +50,16 @@ pub record LoadsToward (past : History) (rest : Rest) (answer : Result (List ℕ
     pub mid : History
     pub loaded : IsAfter past (Loaded launch file) mid
     pub left : List ℕ
-    pub taken : TakesSome rest.first mid rest.bytes new left
+    pub taken : TakesSome first mid rest.bytes new left
 
 -- From the history `past`, items of the event were taken in order, perhaps not all of them, which led to `new`.
-abbrev pub Toward : History → Rest → Incoming → History → Type 0
-Toward past rest (Piece piece) new = TowardByPiece rest.first past rest.launch (rest.bytes ++ piece) new
-Toward past rest End new = (new ≡ past) ⊎ IsAfter past InputEnd new
-Toward past rest ReadFailed new = (new ≡ past) ⊎ IsAfter past ReadFailure new
-Toward past rest NoMemoryCame new = new ≡ past
-Toward past rest (File answer) new = (new ≡ past) ⊎ LoadsToward past rest answer new
-Toward past rest (Report r) new = (new ≡ past) ⊎ (Accepts past r × IsAfter past (Accepted r) new)
+abbrev pub Toward : FirstSeq → History → Rest → Incoming → History → Type 0
+Toward first past rest (Piece piece) new = TowardByPiece first past rest.launch (rest.bytes ++ piece) new
+Toward first past rest End new = (new ≡ past) ⊎ IsAfter past InputEnd new
+Toward first past rest ReadFailed new = (new ≡ past) ⊎ IsAfter past ReadFailure new
+Toward first past rest NoMemoryCame new = new ≡ past
+Toward first past rest (File answer) new = (new ≡ past) ⊎ LoadsToward first past rest answer new
+Toward first past rest (Report r) new = (new ≡ past) ⊎ (Accepts past r × IsAfter past (Accepted r) new)
 
 -- ---- memory
 
@@ -96,16 +87,16 @@ LacksMemory _ _ = ⊥
 
 -- The session gave up at the event. Some of its steps were sent completely, and one more step as far as the fault
 -- allowed.
-pub record EventGivesUp (fault : SessionFault) (past : History) (rest : Rest) (event : Incoming)
+pub record EventGivesUp (first : FirstSeq) (fault : SessionFault) (past : History) (rest : Rest) (event : Incoming)
     (old later : Ports) : Type 0
   where
     pub mid : History
-    pub toward : Toward past rest event mid
+    pub toward : Toward first past rest event mid
     pub between : Ports
     pub sent : Sends past mid old between
     pub refuses_nothing : RefusesNothing old between
     pub next : History
-    pub next_is : (next ≡ mid) ⊎ (Toward past rest event next × ((item : Item) × IsAfter mid item next))
+    pub next_is : (next ≡ mid) ⊎ (Toward first past rest event next × ((item : Item) × IsAfter mid item next))
     pub breaks : BreaksOff fault mid next between later
 
 -- A framing fault ended the session at the event, and everything that the event causes was sent.
@@ -113,8 +104,7 @@ pub record EventEndsInFault (first : FirstSeq) (fault : FramingFault) (events : 
     (event : Incoming) (old later : Ports) : Type 0 where
   pub new : History
   pub rest : Rest
-  pub first_is : rest.first ≡ first
-  pub history : IsHistoryOf (events ++ event ∷ []) new rest
+  pub history : IsHistoryOf first (events ++ event ∷ []) new rest
   pub ending_is : ending_of new ≡ Some (Fault (Frame fault))
   pub sends : Sends past new old later
   pub refuses_nothing : RefusesNothing old later
@@ -135,7 +125,7 @@ Comes first (Ok want) events past rest event session old later =
     EventIsTaken first events past event want session old later
 Comes first (Err (Frame fault)) events past rest event session old later =
     EventEndsInFault first fault events past event old later
-Comes first (Err fault) events past rest event session old later = EventGivesUp fault past rest event old later
+Comes first (Err fault) events past rest event session old later = EventGivesUp first fault past rest event old later
 
 -- The session, which goes on, takes the event with this result. Whatever events it represents, the result is what one
 -- more leads to. Where memory was lacking for the event it is `NoMemory`; an event that needs none never leads to that.

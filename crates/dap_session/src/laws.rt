@@ -3,7 +3,7 @@
 ghost use Rattle.dap_session.specs.Laws.{FaultsLeavePrefixes, FramesAreNumbered};
 
 use dap_frame::frame_laws;
-use dap_history::{history_laws, reading_laws};
+use dap_history::history_laws;
 use dap_msg::message_laws;
 
 /// What holds of all that a session sends, as the contract of [`drive`](crate::drive) says it. It does nothing: its
@@ -15,5 +15,4 @@ pub fn session_laws()
     frame_laws();
     message_laws();
     history_laws();
-    reading_laws();
 }

@@ -128,7 +128,6 @@ impl Session {
             Some(Ending::Closed(_)) => return Ok(Want::Closed),
             None => {}
         }
-        reading_laws();
         let result = match self.take_event(event, out, orders) {
             Ok(()) => self.want(),
             Err(fault) => Err(fault),

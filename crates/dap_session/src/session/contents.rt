@@ -12,6 +12,7 @@ impl Session {
     ghost use Rattle.std.specs.Prelude.{◌≡◌, ◌<◌, length, Option, None, OnOk, IfOk, IfErr, IfSome, is_some};
     ghost use Rattle.dap_frame.specs.Frame.{IsFront};
     ghost use Rattle.dap_msg.specs.Laws.{IsWithin};
+    ghost use Rattle.dap_msg.specs.declared.request.FirstSeq.{FirstSeq};
     ghost use Rattle.dap_history.specs.declared.fault.SessionFault.TheVariants.{NoMemory};
     ghost use Rattle.dap_history.specs.History.{History};
     ghost use Rattle.dap_history.specs.Events.{Rest, IsTaking, IsInFront, Piece};
@@ -28,8 +29,8 @@ impl Session {
         orders: &mut D,
     ) -> Result<(), SessionFault>
         requires { self.old.ending ≡ None }
-        ensures comes { (past : History) (rest : Rest) → IsTaking past → GoesOn self.old past rest →
-            Handles result past rest (Piece piece.now) self.new
+        ensures comes { (first : FirstSeq) (past : History) (rest : Rest) → IsTaking past →
+            GoesOn first self.old past rest → Handles first result past rest (Piece piece.now) self.new
             (ports (O.seen out.old) (D.seen orders.old))
             (ports (O.seen out.new) (D.seen orders.new)) }
         ensures well { OnOk result (IsWell self.new.ending) }

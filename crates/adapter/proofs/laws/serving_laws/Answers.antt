@@ -14,7 +14,7 @@ returns-clause-input c =
     input_taken_whole c.command_laws.ensures.taken c.command_laws.ensures.ends c.history_laws.ensures.closed_by
 
 pub returns-clause-written : goal.returns-clause-written
-returns-clause-written c = output_is_of_history c.reading_laws.ensures (record {
+returns-clause-written c = output_is_of_history (record {
   one_frame = c.frame_laws.ensures.frames;
   one_fault = c.frame_laws.ensures.faults;
   not_both = c.frame_laws.ensures.both;

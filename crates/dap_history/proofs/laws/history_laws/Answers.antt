@@ -1,5 +1,5 @@
-use Rattle.std.proofs.Common.{[], subst, sym}
-use Rattle.dap_history.specs.Events.{only_bytes, LeadsByEvents}
+use Rattle.std.proofs.Common.{[]}
+use Rattle.dap_history.specs.Events.{only_bytes}
 use Rattle.dap_history.proofs.Contents.{contents_of_stream}
 use Rattle.dap_history.proofs.Cuts.{cuts_change_nothing}
 use Rattle.dap_history.proofs.Starts.{each_run_starts}
@@ -32,15 +32,14 @@ returns-clause-one_effect c = one_after (record {
 })
 
 pub returns-clause-one : goal.returns-clause-one
-returns-clause-one c = λ events past other rest left history there same.
+returns-clause-one c = λ f events past other rest left history there.
     one_history (record {
       one_frame = c.frame_laws.ensures.frames;
       one_fault = c.frame_laws.ensures.faults;
       not_both = c.frame_laws.ensures.both;
       one_request = c.message_laws.ensures.reading;
       one_after = returns-clause-one_effect c;
-    }) [] (only_bytes rest.first []) events past other rest left history
-    (subst (λ f. LeadsByEvents [] (only_bytes f []) events other left) (sym same) there)
+    }) f [] (only_bytes []) events past other rest left history there
 
 pub returns-clause-answered : goal.returns-clause-answered
 returns-clause-answered c = each_answered
@@ -99,7 +98,8 @@ returns-clause-not_held c = retreats_not_held
 
 pub returns-clause-closed_by : goal.returns-clause-closed_by
 returns-clause-closed_by c =
-    λ events past rest history. (closed_by_end events past rest history, closed_by_failure events past rest history)
+    λ f events past rest history. (closed_by_end f events past rest history, closed_by_failure f events past rest
+    history)
 
 pub returns-clause-quits_last : goal.returns-clause-quits_last
 returns-clause-quits_last c = quit_is_last

@@ -3,7 +3,7 @@ use Rattle.dap_session.proofs.Numbering.{frames_are_numbered}
 use Rattle.dap_session.proofs.laws.session_laws.Goals as goal
 
 pub returns-clause-prefixes : goal.returns-clause-prefixes
-returns-clause-prefixes c = faults_leave_prefixes c.reading_laws.ensures (record {
+returns-clause-prefixes c = faults_leave_prefixes (record {
   one_frame = c.frame_laws.ensures.frames;
   one_fault = c.frame_laws.ensures.faults;
   not_both = c.frame_laws.ensures.both;
@@ -13,7 +13,7 @@ returns-clause-prefixes c = faults_leave_prefixes c.reading_laws.ensures (record
 
 pub returns-clause-numbered : goal.returns-clause-numbered
 returns-clause-numbered c =
-    frames_are_numbered c.history_laws.ensures.numbered c.history_laws.ensures.read_back c.reading_laws.ensures
+    frames_are_numbered c.history_laws.ensures.numbered c.history_laws.ensures.read_back
     (record {
       one_frame = c.frame_laws.ensures.frames;
       one_fault = c.frame_laws.ensures.faults;

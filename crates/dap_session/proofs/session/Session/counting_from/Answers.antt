@@ -4,8 +4,7 @@ use Rattle.dap_session.proofs.session.Session.counting_from.Goals as goal
 
 pub returns : goal.returns
 returns c = record {
-  rest = only_bytes c.args.first [];
-  first_is = refl;
+  rest = only_bytes [];
   history = (refl, refl);
   ending_is = refl;
   goes_on = λ taking. record {

@@ -10,7 +10,7 @@ returns-in-Err-result-clause-takes g c = λ open_.
       | in-Ok w ↦
           let fails = sym w.result-is ∙ c.in-Err-result.is in
           takes_as c.args.self.now _ (incoming_of c.args.event) w.want-result.result _ _ _ fails
-          (takes_of_want c.reading_laws.ensures c.args.self.now c.take_event.new.self _ (incoming_of c.args.event)
+          (takes_of_want c.args.self.now c.take_event.new.self _ (incoming_of c.args.event)
           c.take_event.result w.want-result.result _ _ open_ c.take_event.ensures.handles w.in-Ok.is
           w.want-result.ensures.ok w.want-result.ensures.err w.want-result.ensures.waits
           (λ want is. absurd (let e = sym is ∙ fails in cc)))
@@ -25,7 +25,7 @@ returns-in_default-clause-takes g c = λ open_.
     elim c.match-take_event.branch [
       | in-Ok w ↦
           takes_as c.args.self.now _ (incoming_of c.args.event) w.want-result.result _ _ _ (sym w.result-is)
-          (takes_of_want c.reading_laws.ensures c.args.self.now c.take_event.new.self _ (incoming_of c.args.event)
+          (takes_of_want c.args.self.now c.take_event.new.self _ (incoming_of c.args.event)
           c.take_event.result w.want-result.result _ _ open_ c.take_event.ensures.handles w.in-Ok.is
           w.want-result.ensures.ok w.want-result.ensures.err w.want-result.ensures.waits (λ want is. refl))
       | in-Err w ↦ absurd (c.in_default.not-Err _ w.result-is)

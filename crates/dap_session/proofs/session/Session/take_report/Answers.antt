@@ -6,15 +6,17 @@ use Rattle.dap_session.proofs.Reports.{report_passed, report_taken}
 use Rattle.dap_session.proofs.session.Session.take_report.Goals as goal
 
 pub returns-in_default-clause-comes : goal.returns-in_default-clause-comes
-returns-in_default-clause-comes g c = λ past rest taking on.
-    report_passed past rest (plain_report c.args.report) c.args.self.now c.take_run.new.self _ c.in_default.ensures.same
+returns-in_default-clause-comes g c = λ f past rest taking on.
+    report_passed f past rest (plain_report c.args.report) c.args.self.now c.take_run.new.self _
+    c.in_default.ensures.same
     c.in_default.ensures.none c.requires taking on
 
 pub returns-clause-comes : goal.returns-clause-comes
-returns-clause-comes g c = λ past rest taking on.
+returns-clause-comes g c = λ f past rest taking on.
     let was = c.in-Some.ensures.found.0 in
     let rest_is = c.take_run.ensures.rest in
-    report_taken c.accept.result past rest c.in-Some.target c.in-Some.run' (plain_report c.args.report) c.args.self.now
+    report_taken f c.accept.result past rest c.in-Some.target c.in-Some.run' (plain_report c.args.report)
+    c.args.self.now
     c.accept.new.self _ _
     (record { phase_was = was; expected = c.in-Some.ensures.found.1 })
     (c.accept.ensures.stream ∙ ap (λ s. s.stream) rest_is) taking on
