@@ -19,7 +19,7 @@ ghost use Rattle.adapter.specs.Jobs.{SessionLeaves};
 use crate::gates::{Gated, OpenGate};
 use crate::tasks::{LastTask, Task};
 use byte_streams::{Sink, Source, WriteFailed};
-use dap_session::{Closed, FirstSeq, Loader, Order, Orders, SessionFault, drive_counting_from};
+use dap_session::{Closed, FirstSeq, Loader, Order, Orders, SessionFault, drive};
 use dap_wires::{
     ClientSender, EventReceiver, FrameReceiver, FrameSender, OrderReceiver, OrderSender, OutboxLog,
     ReadEnd, ReportSender, SessionEnds, Wires, read_loop, write_loop,
@@ -247,7 +247,7 @@ impl<'a, L: Loader, R: Wait + Drop> Task for SessionTask<'a, L, R> {
             mut orders,
         } = self;
         let events = &mut inbox;
-        let end = drive_counting_from(&rt, alloc, first, events, loader, &mut outbox, &mut orders);
+        let end = drive(&rt, alloc, first, events, loader, &mut outbox, &mut orders);
         let queues = SessionEnds {
             inbox: inbox.leave(),
             outbox: outbox.finish(),

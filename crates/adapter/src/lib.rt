@@ -34,5 +34,5 @@ pub use files::FileLoader;
 pub use laws::{serving_laws, worked_exits};
 pub use program::{execute, run, run_process};
 pub use reporting::say_reason;
-pub use serving::{ServeFault, Served, serve, serve_counting_from};
+pub use serving::{ServeFault, Served, serve};
 pub use telling::{EndListener, NoListener};

@@ -20,7 +20,7 @@ use crate::exit_reason::{
 use crate::files::FileLoader;
 use crate::gates::OpenGate;
 use crate::reporting::{EndReporter, note_mistake, note_unread, report};
-use crate::serving::{end_loan, serve_counting_from};
+use crate::serving::{end_loan, serve};
 use byte_streams::{Sink, Source, WriteFailed, borrow_texts, collect_arguments, write_all};
 use dap_session::{FirstSeq, Loader};
 use std::env::Args;
@@ -229,7 +229,7 @@ where
     let alloc = rt.alloc();
     let gate = &mut OpenGate::new();
     let mut reporter = EndReporter::new(rt, errors);
-    let served = serve_counting_from(rt, alloc, first, input, output, loader, gate, &mut reporter);
+    let served = serve(rt, alloc, first, input, output, loader, gate, &mut reporter);
     end_loan(reporter.into_errors());
     end_of_serve(&served)
 }

@@ -7,7 +7,7 @@ ghost use Rattle.dap_wires.specs.Wires.{AreUnused, AreJoined};
 
 use crate::jobs::tasks_over;
 use crate::tasks::run_beside;
-use crate::telling::{EndListener, ListenerWitness, NoListener, tell};
+use crate::telling::{EndListener, ListenerWitness, tell};
 use byte_streams::{Sink, Source, WriteFailed};
 use dap_session::{Closed, FirstSeq, Loader, SessionFault};
 use dap_wires::{Wires, reconcile};
@@ -42,7 +42,8 @@ pub enum ServeFault {
 const NO_MEMORY: Result<Served, ServeFault> = Err(ServeFault::Session(SessionFault::NoMemory));
 
 /// Serves an input and an output: a reader, a runner and a writer work in threads of their own, the session in this one,
-/// and all are joined. The loader is asked for the program of each launch, and each slice of a run passes the gate.
+/// and all are joined. The client may count its requests from `first`. The loader is asked for the program of each launch,
+/// and each slice of a run passes the gate. The listener is told how serving ended before the reader is joined.
 ///
 /// After the answer to `disconnect` the reader ends when its next read returns. What was read then changes nothing.
 ///
@@ -52,45 +53,7 @@ const NO_MEMORY: Result<Served, ServeFault> = Err(ServeFault::Session(SessionFau
 /// and the runs call for; after a failed read or a framing fault, all of it was written. Where several failed, a failed
 /// write is returned before a session fault, and that before a failed read. Where a thread can't be started, those that
 /// were started are joined.
-pub fn serve<R, I, O, L, G>(
-    rt: &R,
-    alloc: Global,
-    input: &mut I,
-    output: &mut O,
-    loader: &mut L,
-    gate: &mut G,
-) -> Result<Served, ServeFault>
-where
-    R: Threads + Wait + Copy + Drop + Send,
-    I: Source + Send,
-    O: Sink + Send,
-    L: Loader,
-    G: Gate + Send,
-    ensures { IsServed FirstSeq.One result
-        (world (L.loaded loader.old) (G.passed gate.old)
-        (streams (I.supply input.old) (O.output output.old)))
-        (world (L.loaded loader.new) (G.passed gate.new)
-        (streams (I.supply input.new) (O.output output.new))) }
-{
-    serve_counting_from(
-        rt,
-        alloc,
-        FirstSeq::One,
-        input,
-        output,
-        loader,
-        gate,
-        &mut NoListener,
-    )
-}
-
-/// Serves as [`serve`] does, by the first number that the client may use, and tells the listener how it ended. The
-/// listener is told before the reader is joined, which may wait for a read.
-///
-/// # Errors
-///
-/// As [`serve`].
-pub fn serve_counting_from<R, I, O, L, G, E>(
+pub fn serve<R, I, O, L, G, E>(
     rt: &R,
     alloc: Global,
     first: FirstSeq,
@@ -122,7 +85,7 @@ where
     }
 }
 
-/// Serves as [`serve_counting_from`] does, over queues that nothing went through.
+/// Serves as [`serve`] does, over queues that nothing went through.
 fn serve_over<R, I, O, L, G, E>(
     rt: &R,
     alloc: Global,

@@ -5,7 +5,7 @@ use crate::programs::{BROKEN, CUT_OFF, Debugging, NOTHING, PAUSED, PROCEDURES};
 use crate::rows::STARTED;
 use crate::serving::{Outcome, run};
 use crate::transcript::{Exchange, input, sent_frames};
-use adapter::{FirstSeq, ServeFault, Served, serve_counting_from};
+use adapter::{FirstSeq, ServeFault, Served, serve};
 use dap_frame::FramingFault;
 use dap_session::SessionFault;
 use std::alloc::Global;
@@ -201,7 +201,7 @@ fn tells_how_it_ended_before_the_input_ends(rt: HostRuntime) {
             ..Streams::WELL
         };
         let progress = Progress::new();
-        let came = serve_counting_from(
+        let came = serve(
             &rt,
             alloc,
             FirstSeq::One,

@@ -5,7 +5,7 @@ use crate::rows::{FAULTS, HELLO, INITIALIZE, ROWS, Row, fault_row};
 use crate::transcript::{answered_frames, input, sent_frames};
 use adapter::{
     ExitReason, FirstSeq, NoListener, Reading, ServeFault, Served, Writing, end_of_serve,
-    say_reason, serve, serve_counting_from,
+    say_reason, serve,
 };
 use std::alloc::Global;
 use std::process::Abort;
@@ -35,7 +35,16 @@ pub fn run<R: Threads + Wait + Abort + Copy + Drop + Send + Sync>(
     let mut output = Output::new(rt, alloc, streams, &progress);
     let mut files = Files::everywhere(alloc, program.as_bytes());
     let mut gate = SliceGate::new(rt, streams, &progress);
-    let end = serve(rt, alloc, &mut input, &mut output, &mut files, &mut gate);
+    let end = serve(
+        rt,
+        alloc,
+        FirstSeq::One,
+        &mut input,
+        &mut output,
+        &mut files,
+        &mut gate,
+        &mut NoListener,
+    );
     Outcome {
         end,
         output: output.bytes,
@@ -198,10 +207,12 @@ fn serves_streams_of_std(rt: HostRuntime) {
     let result = serve(
         &rt,
         alloc,
+        FirstSeq::One,
         &mut Reading::new(&rt, input.as_slice()),
         &mut Writing::new(&rt, &mut output),
         &mut Files::everywhere(alloc, b""),
         &mut SliceGate::new(&rt, Streams::WELL, &progress),
+        &mut NoListener,
     );
     assert_eq!(rt; result, Ok(Served::Disconnected));
     let came = std::str::from_utf8(output.as_slice());
@@ -229,7 +240,7 @@ fn serves_clients_that_count_from_zero(rt: HostRuntime) {
         let expected = answered_frames(&rt, alloc, answers);
         let mut output = Vec::new(alloc);
         let progress = Progress::new();
-        let result = serve_counting_from(
+        let result = serve(
             &rt,
             alloc,
             first,

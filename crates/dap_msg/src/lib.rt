@@ -2,12 +2,12 @@
 //! written as contents.
 //!
 //! ```
-//! use dap_msg::{Body, Command, MsgFault, Outgoing, Refusal, read, write};
+//! use dap_msg::{Body, Command, FirstSeq, MsgFault, Outgoing, Refusal, read, write};
 //! use std::alloc::Global;
 //!
 //! /// Returns the content of the answer to a request, numbered `seq`, or `None` where the content is no request.
 //! fn answered(alloc: Global, content: &[u8], seq: u64) -> Result<Option<Vec<u8>>, MsgFault> {
-//!     let Some(request) = read(alloc, content)? else {
+//!     let Some(request) = read(alloc, FirstSeq::One, content)? else {
 //!         return Ok(None);
 //!     };
 //!     let result = match &request.body {
@@ -28,9 +28,8 @@
 //! It serves a debugger of whole numbers with one thread: the capabilities, the thread `main`, the refusals and the faults
 //! of a program are those of this repository's adapter. For another language it is a pattern.
 //!
-//! The one contract: [`read`] returns exactly the request that a content is, or `None` where it is
-//! none; which value a content has is said by `serde_json`'s own definition of reading. [`read_counting_from`] does the same
-//! by the first `seq` that the client may use. [`write`]
+//! The one contract: [`read`] returns exactly the request that a content is, by the first `seq` that the client may use,
+//! or `None` where it is none; which value a content has is said by `serde_json`'s own definition of reading. [`write`]
 //! appends exactly the defined text of a message.
 //!
 //! Each command has its arguments in `src/requests` and the body of its answer in `src/answers.rt`, both defined in one
@@ -69,7 +68,7 @@ pub use outgoing::{
     StackFrame, StopReason, Variable,
 };
 pub use question::{Question, QuestionKind, Shown};
-pub use reading::{read, read_counting_from};
+pub use reading::read;
 pub use request::{FirstSeq, Request};
 pub use requests::evaluate::EvaluateArguments;
 pub use requests::initialize::InitializeArguments;

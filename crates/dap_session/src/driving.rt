@@ -18,8 +18,9 @@ use dbg_runner::Order;
 use std::alloc::Global;
 use std::sync::Wait;
 
-/// Takes events until the session is closed or gives up, and returns what closed it. Where the session wants a file, the
-/// loader is asked for it before the next event is taken. It blocks while the inbox or the loader does.
+/// Takes events until the session is closed or gives up, and returns what closed it. The client may count its requests
+/// from `first`. Where the session wants a file, the loader is asked for it before the next event is taken. It blocks
+/// while the inbox or the loader does.
 ///
 /// # Errors
 ///
@@ -27,32 +28,6 @@ use std::sync::Wait;
 /// what the events cause. Either way one order to quit is tried then. `NoMemory` is returned only at an event that needs
 /// memory.
 pub fn drive<I: Inbox, L: Loader, O: Out, D: Orders>(
-    rt: &impl Wait,
-    alloc: Global,
-    inbox: &mut I,
-    loader: &mut L,
-    out: &mut O,
-    orders: &mut D,
-) -> Result<Closed, SessionFault>
-    ensures driven { Driven FirstSeq.One result (I.given inbox.old) (I.given inbox.new)
-        (L.loaded loader.old) (L.loaded loader.new) (ports (O.seen out.old) (D.seen orders.old))
-        (ports (O.seen out.new) (D.seen orders.new)) }
-    ensures inbox { I.origin inbox.new ≡ I.origin inbox.old }
-    // Where no frame was kept before, none is once the session is closed. The input may end at any time, so none is
-    // kept while the session waits for an event either.
-    ensures passed { O.keeps_none out.old → OnOk result (O.keeps_none out.new) }
-    ensures out { O.origin out.new ≡ O.origin out.old }
-    ensures orders { D.origin orders.new ≡ D.origin orders.old }
-{
-    drive_counting_from(rt, alloc, FirstSeq::One, inbox, loader, out, orders)
-}
-
-/// Does the same as [`drive`], by the first number that the client may use.
-///
-/// # Errors
-///
-/// As [`drive`].
-pub fn drive_counting_from<I: Inbox, L: Loader, O: Out, D: Orders>(
     rt: &impl Wait,
     alloc: Global,
     first: FirstSeq,
@@ -65,11 +40,13 @@ pub fn drive_counting_from<I: Inbox, L: Loader, O: Out, D: Orders>(
         (L.loaded loader.old) (L.loaded loader.new) (ports (O.seen out.old) (D.seen orders.old))
         (ports (O.seen out.new) (D.seen orders.new)) }
     ensures inbox { I.origin inbox.new ≡ I.origin inbox.old }
+    // Where no frame was kept before, none is once the session is closed. The input may end at any time, so none is
+    // kept while the session waits for an event either.
     ensures passed { O.keeps_none out.old → OnOk result (O.keeps_none out.new) }
     ensures out { O.origin out.new ≡ O.origin out.old }
     ensures orders { D.origin orders.new ≡ D.origin orders.old }
 {
-    let mut session = Session::counting_from(alloc, first);
+    let mut session = Session::new(alloc, first);
     take_all(rt, &mut session, inbox, loader, out, orders)
 }
 

@@ -19,7 +19,7 @@ mod want;
 pub use dap_history::{Closed, Ending, LoadFault, SessionFault};
 pub use dap_msg::FirstSeq;
 pub use dbg_runner::{Order, Report};
-pub use driving::{drive, drive_counting_from};
+pub use driving::drive;
 pub use laws::session_laws;
 pub use load_log::LoadLog;
 pub use ports::{Event, Inbox, Loader, OrderFault, Orders, Out};

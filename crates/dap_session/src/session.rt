@@ -63,15 +63,8 @@ impl Session {
     ghost use Rattle.dap_session.specs.Taking.{TakesEvent};
     ghost use Rattle.dap_session.specs.Handling.{IsWell, HandlesEvent};
 
-    /// Returns a session that has taken no event, for a client whose numbers begin with 1. It takes no memory.
-    pub fn new(alloc: Global) -> Session
-        ensures { Represents FirstSeq.One result [] [] }
-    {
-        Session::counting_from(alloc, FirstSeq::One)
-    }
-
     /// Returns a session that has taken no event, by the first number that the client may use. It takes no memory.
-    pub fn counting_from(alloc: Global, first: FirstSeq) -> Session
+    pub fn new(alloc: Global, first: FirstSeq) -> Session
         ensures { Represents first result [] [] }
     {
         Session {

@@ -1,7 +1,7 @@
 //! A session over ports in memory.
 
 use crate::session_ports::{Events, Frames, Incoming, Noted, Pushed, Shared};
-use dap_session::{Closed, Loader, SessionFault, drive};
+use dap_session::{Closed, FirstSeq, Loader, SessionFault, drive};
 use std::alloc::{AllocError, Global};
 use std::sync::Wait;
 
@@ -54,7 +54,16 @@ pub fn run_session<R: Wait, E: Events + Drop, L: Loader>(
     let mut inbox = Incoming::new(events);
     let mut frames = Frames::new(alloc, shared, room.frames);
     let mut orders = Pushed::new(alloc, shared, room.orders);
-    let end = drive(rt, alloc, &mut inbox, loader, &mut frames, &mut orders);
+    let first = FirstSeq::One;
+    let end = drive(
+        rt,
+        alloc,
+        first,
+        &mut inbox,
+        loader,
+        &mut frames,
+        &mut orders,
+    );
     Outcome {
         end,
         frames: frames.noted,

@@ -4,7 +4,7 @@ use super::Session;
 use crate::ports::{Orders, Out};
 use dap_frame::Front;
 use dap_history::{SessionFault, reading_laws};
-use dap_msg::{Request, message_laws, read_counting_from};
+use dap_msg::{Request, message_laws, read};
 use dap_phase::Phase;
 use dap_replies::phase_laws;
 
@@ -95,7 +95,7 @@ impl Session {
         ensures rest { self.new ≡ record self.old { stream = record self.old.stream { rest = self.new.stream.rest } } }
     {
         message_laws();
-        let read = read_counting_from(self.alloc, self.first, self.decoder.content(front));
+        let read = read(self.alloc, self.first, self.decoder.content(front));
         self.decoder.pass(front);
         let Ok(request) = read else {
             return Err(SessionFault::NoMemory);

@@ -2,8 +2,8 @@ use Rattle.adapter.proofs.program.serve_client.Goals as goal
 
 pub returns-clause-served : goal.returns-clause-served
 returns-clause-served g c = record {
-  outcome = c.serve_counting_from-served.result;
+  outcome = c.serve-served.result;
   passed = _;
-  served = rw c.new.ensures at c.serve_counting_from-served.ensures.served;
+  served = rw c.new.ensures at c.serve-served.ensures.served;
   reason_is = c.end_of_serve.ensures;
 }

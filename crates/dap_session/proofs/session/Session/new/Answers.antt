@@ -1,6 +1,6 @@
 use Rattle.std.proofs.Common.{[], refl, ap, rules}
 use Rattle.dap_history.specs.Events.{only_bytes}
-use Rattle.dap_session.proofs.session.Session.counting_from.Goals as goal
+use Rattle.dap_session.proofs.session.Session.new.Goals as goal
 
 pub returns : goal.returns
 returns c = record {
