@@ -260,13 +260,13 @@ module _ (laws : HistoryLaws) (f : FirstSeq) (events given : List Incoming) (loa
       rest = parts.between.bytes;
       unfinished = (laws.unread f such.front parts.mid parts.between parts.before way.0).0 none_waits;
       answers = record {
-      contents = told.0;
-      frames = told.1;
-      read = subst (AreReadAs f told.0) (ap (λ o. requests ++ waiting o) none_waits ∙ append-nil requests) told.2;
-      answers = laws.answered f events past rest history
-          ∙ ap (λ h. filter_map request_of_item (items_of h)) past_is
-          ∙ none_asked parts.mid step (ap request_of_item way.1.item_is ∙ closing.unasked)
-          ∙ sym (asked_are (items_of parts.mid));
+        contents = told.0;
+        frames = told.1;
+        read = subst (AreReadAs f told.0) (ap (λ o. requests ++ waiting o) none_waits ∙ append-nil requests) told.2;
+        answers = laws.answered f events past rest history
+            ∙ ap (λ h. filter_map request_of_item (items_of h)) past_is
+            ∙ none_asked parts.mid step (ap request_of_item way.1.item_is ∙ closing.unasked)
+            ∙ sym (asked_are (items_of parts.mid));
       };
     };
   }

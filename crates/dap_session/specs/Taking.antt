@@ -43,14 +43,14 @@ file_of (Err load_fault.NoMemory) = None
 -- the launch was made with its file, and some contents after it were taken
 pub record LoadsToward (first : FirstSeq) (past : History) (rest : Rest) (answer : Result (List ℕ) LoadFault)
     (new : History) : Type 0 where
-    pub launch : Launch
-    pub waits : rest.launch ≡ Some launch
-    pub file : Option (List ℕ)
-    pub file_is : file_of answer ≡ Some file
-    pub mid : History
-    pub loaded : IsAfter past (Loaded launch file) mid
-    pub left : List ℕ
-    pub taken : TakesSome first mid rest.bytes new left
+  pub launch : Launch
+  pub waits : rest.launch ≡ Some launch
+  pub file : Option (List ℕ)
+  pub file_is : file_of answer ≡ Some file
+  pub mid : History
+  pub loaded : IsAfter past (Loaded launch file) mid
+  pub left : List ℕ
+  pub taken : TakesSome first mid rest.bytes new left
 
 -- From the history `past`, items of the event were taken in order, perhaps not all of them, which led to `new`.
 abbrev pub Toward : FirstSeq → History → Rest → Incoming → History → Type 0

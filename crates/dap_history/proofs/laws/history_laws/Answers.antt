@@ -98,8 +98,11 @@ returns-clause-not_held c = retreats_not_held
 
 pub returns-clause-closed_by : goal.returns-clause-closed_by
 returns-clause-closed_by c =
-    λ f events past rest history. (closed_by_end f events past rest history, closed_by_failure f events past rest
-    history)
+    λ f events past rest history. (
+      closed_by_end f events past rest history,
+      closed_by_failure f events past rest
+          history,
+    )
 
 pub returns-clause-quits_last : goal.returns-clause-quits_last
 returns-clause-quits_last c = quit_is_last
