@@ -1,6 +1,6 @@
 -- Each run ends once.
 use Rattle.std.specs.Prelude.{slice_get, codes}
-use Rattle.std.proofs.Common.{◌≡◌, ◌+◌, ℕ, true, false, List, [], ◌∷◌, ◌++◌, ◌∙◌, refl, sym, ap, subst, map, arith, Option, None, Some, inl, inr}
+use Rattle.std.proofs.Common.{◌≡◌, ◌+◌, ℕ, true, false, List, [], ◌∷◌, ◌++◌, ◌∙◌, refl, ap, map, arith, Option, None, Some, inl, inr}
 use Rattle.serde_json.specs.Data.{Data}
 use Rattle.dap_server.specs.Messages.{PlainEvent, PlainReply}
 use Rattle.debuggee.specs.Plain.{PlainEvaluated, Value, NoValue, PlainHalt, AtBreakpoint, AtStep, AtEnd, AtFault, PlainOutput, Printed, Logged}
@@ -18,7 +18,7 @@ use Rattle.dap_debug.specs.declared.state.Phase.TheVariants as phase
 use Rattle.dap_debug.specs.Arguments.{text_at}
 use Rattle.dap_debug.specs.Inspecting.{ShowsScope, ShowsVariables, Evaluates, Shows, ShowsFrom, frame_of_reference, frame_to_evaluate, index_of_reference, reference_asked, reply_of}
 use Rattle.dap_debug.specs.Shown.{PlainFrame, PlainScope}
-use Rattle.dap_debug.specs.Replies.{Known, IsQuiet, LoadsFrom, Replies}
+use Rattle.dap_debug.specs.Replies.{Known, LoadsFrom, Replies}
 use Rattle.dap_debug.specs.Running.{GoesFrom, WorksOn, StartsFrom, ResumesFrom, PausesFrom, IsRefused, ended, mode_of, phase_after}
 use Rattle.dap_debug.specs.Standings.{Standing}
 use Rattle.dap_debug.specs.Telling.{output, told_end, told_of}

@@ -1,8 +1,8 @@
 -- Frames, scopes, variables and breakpoints, one after another.
-use Rattle.std.proofs.Common.{◌≡◌, ◌<◌, ◌≤◌, ◌+◌, ℕ, List, [], ◌∷◌, ◌++◌, ◌∙◌, refl, sym, ap, subst, take, get_or, add-one, length, append_assoc, append-nil, arith}
-use Rattle.std.specs.Prelude.{map, Option}
+use Rattle.std.proofs.Common.{◌≡◌, ◌<◌, ◌+◌, ℕ, List, [], ◌∷◌, ◌++◌, ◌∙◌, refl, sym, ap, subst, take, get_or, add-one, length, arith}
+use Rattle.std.specs.Prelude.{map}
 use Rattle.std.proofs.Math.Seq.{take-suc}
-use Rattle.std.proofs.lemmas.List.{map-append}
+use Rattle.std.proofs.lemmas.List.{length_push, map-append}
 use Rattle.serde_json.specs.Data.{Data}
 use Rattle.serde_json.specs.View.{view, items_of}
 use Rattle.serde_json.specs.declared.value.Value.{Value}
@@ -27,14 +27,10 @@ pub one_frame : {S : Type 0} (frame_of : S → ℕ → PlainFrame → Type 0) (p
     → ShowFrames frame_of path a first (map view new) × (length (map view new) + first ≡ index + 1)
 one_frame frame_of path a first index values new value grown are at is =
     let all = ap (map view) grown ∙ map-append view values (value ∷ []) in
-    let long = ap length all ∙ length_more (map view values) (view value) in (
+    let long = ap length all ∙ length_push (map view values) (view value) in (
       subst (ShowFrames frame_of path a first) (sym all) (shows_more frame_of path a first index _ _ are at is),
       omega (arith, long, at),
     )
-  where
-    length_more : (xs : List Data) (x : Data) → length (xs ++ x ∷ []) ≡ length xs + 1
-    length_more [] x = refl
-    length_more (y ∷ xs) x = let more = length_more xs x in omega (arith, more)
 
 -- ---- scopes and variables
 

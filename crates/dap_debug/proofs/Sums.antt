@@ -3,14 +3,13 @@ use Rattle.std.proofs.Common.{◌≡◌, ◌+◌, ℕ, Bool, true, false, List, 
 use Rattle.std.specs.Prelude.{codes, if◌then◌else◌}
 use Rattle.std.proofs.lemmas.Slice.Eq.{bytes_eq-Decides}
 use Rattle.serde_json.specs.Data.{Data}
-use Rattle.dap_server.specs.Messages.{PlainEvent, PlainReply, events_after, leaves}
+use Rattle.dap_server.specs.Messages.{PlainReply, events_after, leaves}
 use Rattle.dap_server.specs.Requests.{Request}
 use Rattle.dap_server.specs.Conversation.{State, Handles, Conversation}
 use Rattle.dap_server.specs.Inbox.{PlainItem, Bytes, Event, End, Failed, NoMemory, Gives, TakesOne}
 use Rattle.dap_server.specs.Working.{Polls, Course, begins, takes, works_on}
-use Rattle.dap_debug.specs.declared.command.Command.TheVariants as command
 use Rattle.dap_debug.specs.Commands.{command_of}
-use Rattle.dap_debug.specs.Laws.{asks, ends_told, owed}
+use Rattle.dap_debug.specs.Laws.{ends_told, owed}
 use Rattle.dap_debug.specs.Replies.{Known, Replies}
 use Rattle.dap_debug.specs.Serving.{replied_by, worked_by, runs_in}
 use Rattle.dap_debug.specs.Standings.{Standing}

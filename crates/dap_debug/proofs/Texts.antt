@@ -3,7 +3,7 @@ use Rattle.std.proofs.Common.{◌≡◌, ◌≢◌, ◌<◌, ◌++◌, ℕ, List
 use Rattle.std.proofs.lemmas.List.{get_or_default}
 use Rattle.debuggee.specs.Plain.{PlainPart, Text, Expression}
 use Rattle.dap_debug.specs.Breakpoints.{Lacks, HasExpression, AreParts}
-use Rattle.std.specs.Prelude.{decimal, Result, Ok}
+use Rattle.std.specs.Prelude.{decimal, Ok}
 use Rattle.std.specs.Str.Parse.{AllDigits, digits_value, ParsesUnsigned}
 use Rattle.std.proofs.lemmas.Str.Parse.{IsNumeralModel, numerals_by_value, tells_digits, parse_plain}
 use Rattle.std.proofs.lemmas.Fmt.{decimal-digits_value}

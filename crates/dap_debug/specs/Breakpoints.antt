@@ -1,15 +1,12 @@
 -- Defines which breakpoints are set, and what is answered.
-use Rattle.std.specs.Prelude.{◌≡◌, ◌≢◌, ◌⊎◌, ℕ, true, false, All, List, [], ◌∷◌, ◌++◌, codes, decimal, Option, None, Some, unwrap_or, Ok}
-use Rattle.serde_json.specs.Data.{Data, boolean, number, unsigned, string, array, Items, no_items, item, object, no_members, member}
+use Rattle.std.specs.Prelude.{◌≡◌, ◌≢◌, ◌⊎◌, ℕ, false, All, List, [], ◌∷◌, ◌++◌, codes, decimal, Option, None, Some, unwrap_or}
+use Rattle.serde_json.specs.Data.{Data, boolean, string, array, Items, no_items, item, object, no_members, member}
 use Rattle.dap_server.specs.Messages.{PlainReply}
-use Rattle.debuggee.specs.Plain.{PlainPart, Text, Expression, PlainBreakpoint}
+use Rattle.debuggee.specs.Plain.{PlainPart, Text, Expression}
 use Rattle.debuggee.specs.declared.breakpoint.Rule.{Rule}
 use Rattle.debuggee.specs.declared.breakpoint.Rule.TheVariants.{From, Exactly, Every}
-use Rattle.dap_debug.specs.declared.language.Location.{Location}
-use Rattle.dap_debug.specs.declared.state.Phase.{Phase}
-use Rattle.dap_debug.specs.declared.state.Phase.TheVariants as phase
-use Rattle.dap_debug.specs.Arguments.{list_at, member_at, text_at, whole_at}
-use Rattle.dap_debug.specs.Running.{success, IsRefused}
+use Rattle.dap_debug.specs.Arguments.{member_at, text_at, whole_at}
+use Rattle.dap_debug.specs.Running.{success}
 use Rattle.dap_debug.specs.Standings.{Standing}
 
 -- ---- texts

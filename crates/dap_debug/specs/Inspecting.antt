@@ -1,5 +1,5 @@
 -- Defines what questions show of a program where it stands.
-use Rattle.std.specs.Prelude.{◌≡◌, ◌+◌, ◌-◌, ◌*◌, ◌/◌, ◌%◌, ◌^◌, ◌&&◌, ℕ, false, min, nat_eq, nat_le, nat_lt, List, [], ◌∷◌, map, length, take, slice_get, codes, if◌then◌else◌, Option, None, Some, option_and_then, unwrap_or, Ok, Err}
+use Rattle.std.specs.Prelude.{◌≡◌, ◌+◌, ◌-◌, ◌*◌, ◌/◌, ◌%◌, ◌^◌, ◌&&◌, ℕ, false, min, nat_eq, nat_le, List, [], ◌∷◌, map, length, slice_get, codes, if◌then◌else◌, Option, None, Some, option_and_then, unwrap_or, Err}
 use Rattle.serde_json.specs.Data.{Data, boolean, number, unsigned, string, array, object, no_members, member}
 use Rattle.serde_json.specs.View.{items_of}
 use Rattle.dap_server.specs.Messages.{PlainReply}
@@ -10,7 +10,7 @@ use Rattle.dap_debug.specs.declared.command.Question.TheVariants as question
 use Rattle.dap_debug.specs.declared.state.Phase.{Phase}
 use Rattle.dap_debug.specs.declared.state.Phase.TheVariants as phase
 use Rattle.dap_debug.specs.Arguments.{text_at, whole_at}
-use Rattle.dap_debug.specs.Running.{success, IsRefused}
+use Rattle.dap_debug.specs.Running.{success}
 use Rattle.dap_debug.specs.Shown.{PlainFrame, PlainVariable, PlainScope}
 use Rattle.dap_debug.specs.Standings.{Standing}
 

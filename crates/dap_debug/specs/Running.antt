@@ -1,5 +1,5 @@
 -- Defines how a program is started, goes on, is paused and ended, by the steps that its language takes.
-use Rattle.std.specs.Prelude.{◌≡◌, ℕ, Bool, true, false, List, [], ◌∷◌, ◌++◌, codes, Option, None, Some, Result, Ok, Err}
+use Rattle.std.specs.Prelude.{◌≡◌, ℕ, true, false, List, [], ◌∷◌, ◌++◌, codes, Option, None, Some, Ok, Err}
 use Rattle.serde_json.specs.Data.{Data, boolean, object, no_members, member}
 use Rattle.dap_server.specs.Messages.{PlainEvent, PlainReply}
 use Rattle.debuggee.specs.Plain.{PlainBreakpoint, PlainHalt, AtEnd, PlainOutput}

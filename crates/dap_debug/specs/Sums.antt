@@ -1,12 +1,11 @@
 -- States what holds of a whole conversation: each request that lets the program go on, or ends it, is followed by one
 -- event that tells that it has stopped or is gone, and no other event tells that.
 use Rattle.std.specs.Prelude.{◌≡◌, ◌+◌, ℕ, List, [], ◌∷◌, Option, None, Some}
-use Rattle.serde_json.specs.Data.{Data}
-use Rattle.dap_server.specs.Messages.{PlainEvent, PlainReply, events_after}
+use Rattle.dap_server.specs.Messages.{events_after}
 use Rattle.dap_server.specs.Requests.{Request}
-use Rattle.dap_server.specs.Conversation.{State, Replies as Promise, Handles, Conversation}
-use Rattle.dap_server.specs.Inbox.{PlainItem, Bytes, Event, End, Failed, NoMemory, Gives, TakesOne}
-use Rattle.dap_server.specs.Working.{Works, Polls, Course, begins, takes, works_on}
+use Rattle.dap_server.specs.Conversation.{State, Handles, Conversation}
+use Rattle.dap_server.specs.Inbox.{PlainItem, Bytes, Gives, TakesOne}
+use Rattle.dap_server.specs.Working.{Polls, Course, begins, takes, works_on}
 use Rattle.dap_debug.specs.Commands.{command_of}
 use Rattle.dap_debug.specs.Laws.{asks, ends_told, owed}
 use Rattle.dap_debug.specs.Replies.{Known}
