@@ -15,6 +15,7 @@ use dap_server::{Event, Reply, Responder, Worker};
 use serde_json::{Value, json};
 use std::alloc::{AllocError, Global};
 use std::fs;
+use std::io::{self, ErrorKind};
 use std::rt::{Clock, Files};
 use std::sync::Wait;
 
@@ -140,13 +141,13 @@ impl<'a, R: Wait + Files + Clock, L: Language> Session<'a, R, L> {
     }
 }
 
-/// Reads a file's text; `None` where it can't be read, is too long, or isn't UTF-8.
+/// Reads a regular file's text; `None` where it can't be read, is too long, or isn't UTF-8.
 fn read_text<R: Wait + Files + Clock>(
     rt: &R,
     alloc: Global,
     path: &str,
 ) -> Result<Option<String>, AllocError> {
-    let Ok(file) = fs::open(rt, path) else {
+    let Ok(file) = open_regular(rt, path) else {
         return Ok(None);
     };
     match read_beginning(rt, alloc, &mut Reading::new(rt, file)) {
@@ -156,6 +157,20 @@ fn read_text<R: Wait + Files + Clock>(
         },
         Ok(_) | Err(ReadFault::CannotRead) => Ok(None),
         Err(ReadFault::NoMemory) => Err(AllocError),
+    }
+}
+
+/// Opens a regular file. It looks at the kind of the file first, since opening a named pipe waits for whoever writes to it:
+/// so does one that takes the file's place in between.
+///
+/// # Errors
+///
+/// `InvalidInput` where the path leads to what isn't a regular file, and else as `fs::open`.
+fn open_regular<R: Files>(rt: &R, path: &str) -> io::Result<R::File> {
+    if fs::metadata(rt, path)?.is_file() {
+        fs::open(rt, path)
+    } else {
+        Err(ErrorKind::InvalidInput.into())
     }
 }
 
