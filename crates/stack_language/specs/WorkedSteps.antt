@@ -1,14 +1,14 @@
 -- States worked examples: what each instruction does, which fail, and the steps of a program. Each was computed from
 -- the definitions.
-use Rattle.std.specs.Prelude.{◌≡◌, ℕ, ◌-◌, ◌^◌, ℤ, pos, negsuc, List, [], ◌∷◌, ◌++◌, map, replicate, codes}
-use Rattle.debuggee.specs.Plain.{PlainStep, Goes, Prints, Ends, Fails}
+use Rattle.std.specs.Prelude.{◌≡◌, ℕ, ◌-◌, ◌^◌, ℤ, pos, negsuc, List, [], ◌∷◌, map, replicate, codes}
+use Rattle.debuggee.specs.Plain.{Goes, Ends, Fails}
 use Rattle.stack_language.specs.declared.program.Instruction.{Instruction}
 use Rattle.stack_language.specs.declared.program.Instruction.TheVariants.{Nothing, Push, Load, Store, Calculate, Print, Jump, JumpZero, Call, Return}
 use Rattle.stack_language.specs.declared.program.Operator.TheVariants.{Add, Sub, Mul, Div}
 use Rattle.stack_language.specs.declared.state.Outcome.{Outcome}
 use Rattle.stack_language.specs.declared.state.Outcome.TheVariants.{Went, Printed, Ended, Failed}
 use Rattle.stack_language.specs.declared.state.Fault.TheVariants.{Overflow, DivisionByZero, TooFew, TooMany}
-use Rattle.stack_language.specs.Language.{PlainState, Done, done, next_of, most, step_of}
+use Rattle.stack_language.specs.Language.{PlainState, Done, done, next_of, step_of}
 
 abbrev pub state : ℕ → List ℤ → List ℕ → List ℤ → PlainState
 state line numbers returns variables =

@@ -1,4 +1,4 @@
-use Rattle.std.proofs.Common.{◌≡◌, ◌∙◌, ◌∷◌, [], ◌++◌, ◌-◌, ◌<◌, ◌≤◌, ℤ, pos, List, Some, ap, length, drop, slice_set, slice_index_or, arith, to_z, of_z, w64}
+use Rattle.std.proofs.Common.{◌≡◌, ◌∙◌, ◌∷◌, [], ◌++◌, ◌-◌, ◌≤◌, ℤ, pos, List, Some, ap, length, slice_set, slice_index_or, arith, to_z, of_z, w64}
 use Rattle.std.specs.Prelude.{reverse}
 use Rattle.std.specs.Option.{option_to_list}
 use Rattle.std.proofs.lemmas.Int.{to_z-of_z}
