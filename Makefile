@@ -77,7 +77,7 @@ say-what-is-built:
 
 # Worked inputs, whole, a byte at a time and cut at many places, with what must come out; a session that is large in
 # everything; the demo's sessions, one of which stands in docs/PROTOCOL.md; that the examples are those whose listings the gate
-# compares; and pauses of a program of the stack language that runs for ever.
+# compares; and pauses of a program of the stack language that runs for ever, and a named pipe in a program's place.
 rows: $(PROGRAM) $(FROM_ZERO) $(PL0) $(STACK)
 	python3 checks/rows.py $(PROGRAM) $(FROM_ZERO)
 	python3 checks/largest.py $(PROGRAM)
@@ -106,9 +106,10 @@ streams: $(PROGRAM)
 	python3 checks/leave.py $(PROGRAM) 500
 	python3 checks/hindered.py $(PROGRAM) 5
 
-# Random sessions, each message compared with what a plain model of the adapter says.
-sessions: $(PROGRAM)
+# Random sessions, each message compared with what a plain model of the adapter says; and the same of the example stack_adapter.
+sessions: $(PROGRAM) $(STACK)
 	python3 checks/sessions.py $(PROGRAM) $(SESSIONS)
+	python3 checks/stack_sessions.py $(STACK) $(SESSIONS)
 
 # Random sessions whose bytes and status are compared with what the session puts over memory, in one thread, and how it ends.
 beside: $(PROGRAM) $(SPEED)

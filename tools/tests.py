@@ -92,6 +92,7 @@ PARTS = [
     tests("runner_tests"),
     tests("session_tests"),
     program("pl0"),
+    program("stack_adapter"),
     tests("message_tests"),
     tests("mistake_tests"),
     script("sessions", "pl0dap", "60"),
@@ -99,6 +100,8 @@ PARTS = [
     script("pl0_pages", "pl0"),
     script("hostile", "pl0dap", "--stack", "1024"),
     script("nonblocking", "pl0dap"),
+    script("stack_sessions", "stack_adapter", "40"),
+    script("stack_pause", "stack_adapter"),
     Part("pages", "", ("make", "--no-print-directory", "pages")),
 ]
 

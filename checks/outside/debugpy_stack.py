@@ -46,7 +46,7 @@ def look(session: Session) -> Iterator[str]:
     """What is asked at the breakpoint, and after a step out of the call."""
     session.ask("continue", threadId=1)
     yield from waited(session, "stopped")
-    yield from differs("threads", session.names(session.ask("threads"), "threads"), ["stack"])
+    yield from differs("threads", session.names(session.ask("threads"), "threads"), ["main"])
     yield from differs("frames", lines(session), [9, 6])
     yield from differs("scopes", session.names(session.ask("scopes", frameId=1), "scopes"), ["variables"])
     values = {one["name"]: one["value"] for one in session.ask("variables", variablesReference=1)("variables", ARRAY)}

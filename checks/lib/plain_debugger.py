@@ -1,0 +1,466 @@
+"""A session of the example `stack_adapter`, written apart from it: which messages may leave, after what came.
+
+While a program runs nobody sees how far it has come. So this keeps every way in which a session can stand, a world each,
+and a message is lawful where one of them lets it leave; the others are given up then. Where nothing is sent in a run
+there is one world, and each message is exactly the one that must leave.
+"""
+from __future__ import annotations
+
+import collections
+import json
+import os
+import re
+from collections.abc import Iterable
+from typing import NamedTuple
+
+from lib.plain_stack import VARIABLES, Mistake, State, read, step
+
+RESUMING = ("continue", "next", "stepIn", "stepOut")
+INSPECTING = ("stackTrace", "scopes", "variables", "evaluate")
+SCOPES = 16  # of a frame, at most
+MOST_ARRIVALS = 10**6  # which no breakpoint has in a session
+DECIMAL = re.compile(r"[1-9][0-9]*\Z", re.ASCII)
+BRACES = re.compile(r"([^{]*)\{([^}]*)\}")
+
+
+class Breakpoint(NamedTuple):
+    """A rule is its sign and its number; a message is its texts and, marked, its expressions."""
+
+    place: int
+    condition: str | None = None
+    rule: tuple[str, int] | None = None
+    arrivals: int = 0
+    message: tuple[tuple[bool, str], ...] | None = None
+
+    def arrived(self) -> Breakpoint:
+        """The same after one arrival more; numbers that a rule treats alike are one, so that a loop comes round."""
+        if self.rule is None or self.rule[1] > MOST_ARRIVALS:
+            return self
+        sign, number = self.rule
+        more = self.arrivals + 1
+        alike = {"": min(more, number), "=": min(more, number + 1), "%": more % max(number, 1)}[sign]
+        return self._replace(arrivals=alike)
+
+    def accepts(self) -> bool:
+        """Whether the next arrival is accepted."""
+        if self.rule is None:
+            return True
+        sign, number = self.rule
+        more = self.arrivals + 1
+        return {"": more >= number, "=": more == number, "%": number > 0 and more % number == 0}[sign]
+
+
+class Program(tuple):
+    """The instructions of a program by their lines, which aren't looked through to find a world."""
+
+    def __hash__(self) -> int:
+        return id(self)
+
+
+NOTHING = Program()
+
+class World(NamedTuple):
+    """How a session may stand. What must leave next is in `pending`, as texts without their number."""
+
+    phase: str = "none"
+    entry: bool = False
+    path: str = ""
+    program: Program = NOTHING
+    state: State = State()
+    mode: tuple[str, int] = ("continue", 0)
+    breakpoints: tuple[Breakpoint, ...] = ()
+    pending: tuple[str, ...] = ()
+
+    def having(self, **changes: object) -> World:
+        return self._replace(**changes)
+
+    def place(self) -> int | None:
+        line = self.state.line
+        return line if line < len(self.program) and self.program[line] is not None else None
+
+    def depth(self) -> int:
+        return len(self.state.returns) + 1
+
+
+# ---- messages
+
+def text_of(message: dict) -> str:
+    """A message without its number."""
+    return json.dumps({key: value for key, value in message.items() if key != "seq"}, sort_keys=True)
+
+
+def event(name: str, body: dict | None = None) -> dict:
+    return {"type": "event", "event": name} | ({} if body is None else {"body": body})
+
+
+def output(category: str, text: str) -> dict:
+    return event("output", {"category": category, "output": text})
+
+
+def stopped(reason: str, text: str | None = None) -> dict:
+    body = {"allThreadsStopped": True, "reason": reason, "threadId": 1}
+    return event("stopped", body | ({} if text is None else {"text": text}))
+
+
+ENDED = [event("exited", {"exitCode": 0}), event("terminated")]
+
+
+# ---- a run
+
+def value(world: World, expression: str) -> int | None:
+    named = len(expression) == 1 and expression in VARIABLES
+    return world.state.values[VARIABLES.index(expression)] if named else None
+
+
+def shown(world: World, expression: str) -> str:
+    found = value(world, expression)
+    return NO_VARIABLE if found is None else str(found)
+
+
+def is_at(world: World, breakpoint: Breakpoint) -> bool:
+    return world.place() == breakpoint.place and (
+        breakpoint.condition is None or value(world, breakpoint.condition) != 0)
+
+
+def asks(world: World) -> bool:
+    kind, depth = world.mode
+    return world.place() is not None and {
+        "continue": False, "in": True, "over": world.depth() <= depth, "out": world.depth() < depth}[kind]
+
+
+def arrive(world: World) -> tuple[list[dict], World]:
+    """What is told where a program comes to, which may stop there."""
+    hits = [one for one in world.breakpoints if is_at(world, one) and one.accepts()]
+    told = [output("console", "".join(shown(world, part) if given else part for given, part in one.message))
+            for one in hits if one.message is not None]
+    after = world.having(breakpoints=tuple(one.arrived() if is_at(world, one) else one for one in world.breakpoints))
+    if any(one.message is None for one in hits):
+        return [*told, stopped("breakpoint")], after.having(phase="stopped")
+    if asks(world):
+        return [*told, stopped("step")], after.having(phase="stopped")
+    return told, after
+
+
+def advance(world: World) -> tuple[list[dict], World]:
+    """A step of a program that runs."""
+    told, state = step(world.program, world.state)
+    if told.ends:
+        return ENDED, gone(world)
+    if told.fault is not None:
+        return [stopped("exception", told.fault)], world.having(phase="stopped")
+    events = [] if told.printed is None else [output("stdout", told.printed)]
+    more, after = arrive(world.having(state=state))
+    return events + more, after
+
+
+def gone(world: World) -> World:
+    """The same with no program."""
+    return world.having(phase="none", entry=False, program=NOTHING, state=State(), mode=("continue", 0))
+
+
+def silent(worlds: Iterable[World]) -> set[World]:
+    """Where programs may have come without a message."""
+    seen: set[World] = set()
+    for world in worlds:
+        while world not in seen:
+            seen.add(world)
+            if world.phase != "running":
+                break
+            told, after = advance(world)
+            if told:
+                break
+            world = after
+    return seen
+
+
+def next_told(world: World, known: dict[World, World | None]) -> World | None:
+    """The same where the program next tells something, which is pending; None where it never does.
+
+    What is found is known from then on of each world on the way.
+    """
+    path = []
+    while world not in known:
+        known[world] = None  # as long as nothing is found
+        path.append(world)
+        told, after = advance(world)
+        if told:
+            known[world] = with_pending(after, told)
+        else:
+            world = after
+    known |= dict.fromkeys(path, known[world])
+    return known[world]
+
+
+def with_pending(world: World, told: list[dict]) -> World:
+    return world.having(pending=world.pending + tuple(map(text_of, told)))
+
+
+# ---- requests
+
+NO_VARIABLE = "no variable has this name"
+
+
+class Request(NamedTuple):
+    seq: int
+    command: str
+    arguments: str | None = None  # as JSON
+
+    def given(self) -> dict:
+        found = None if self.arguments is None else json.loads(self.arguments)
+        return found if isinstance(found, dict) else {}
+
+
+class Refused(Exception):
+    """A request is refused, with this message."""
+
+
+def answer(world: World, request: Request, folder: str) -> World:
+    """The same after a request, whose response and events are pending."""
+    head = {"type": "response", "request_seq": request.seq, "command": request.command}
+    try:
+        body, told, after = grant(world, request, folder)
+    except Refused as refused:
+        return with_pending(world, [head | {"success": False, "message": str(refused), "body": {}}])
+    return with_pending(after, [head | {"success": True} | ({} if body is None else {"body": body}), *told])
+
+
+def grant(world: World, request: Request, folder: str) -> tuple[dict | None, list[dict], World]:
+    command, given = request.command, request.given()
+    if command in RESUMING:
+        return resume(world, command)
+    if command in INSPECTING:
+        if world.phase != "stopped":
+            raise Refused("the program isn't stopped")
+        return INSPECTIONS[command](world, given), [], world
+    return GRANTS.get(command, unsupported)(world, given, folder)
+
+
+def unsupported(world: World, given: dict, folder: str) -> tuple[dict | None, list[dict], World]:
+    raise Refused("unsupported")
+
+
+def initialize(world: World, given: dict, folder: str) -> tuple[dict | None, list[dict], World]:
+    return CAPABILITIES, [], world
+
+
+CAPABILITIES = {
+    "supportsConditionalBreakpoints": True,
+    "supportsConfigurationDoneRequest": True,
+    "supportsEvaluateForHovers": True,
+    "supportsHitConditionalBreakpoints": True,
+    "supportsLogPoints": True,
+    "supportsTerminateRequest": True,
+}
+
+
+def text_at(given: dict, key: str) -> str | None:
+    found = given.get(key)
+    return found if isinstance(found, str) else None
+
+
+def whole_at(given: dict, key: str) -> int | None:
+    found = given.get(key)
+    return found if isinstance(found, int) and not isinstance(found, bool) and 0 <= found < 2**64 else None
+
+
+def launch(world: World, given: dict, folder: str) -> tuple[dict | None, list[dict], World]:
+    if world.phase == "running":
+        raise Refused("a program runs")
+    path = text_at(given, "program")
+    if path is None:
+        raise Refused("`program` is missing")
+    try:
+        with open(os.path.join(folder, path), encoding="utf-8", newline="") as file:
+            program = Program(read(file.read()))
+    except OSError:
+        raise Refused("the program can't be read") from None
+    except Mistake as mistake:
+        raise Refused(f"line {mistake} is no instruction") from None
+    loaded = World("configuring", given.get("stopOnEntry") is True, path, program)
+    return None, [event("initialized")], loaded
+
+
+def set_breakpoints(world: World, given: dict, folder: str) -> tuple[dict | None, list[dict], World]:
+    if world.phase == "none":
+        raise Refused("no program is loaded")
+    asked = given.get("breakpoints")
+    asked = asked if isinstance(asked, list) else []
+    source = given.get("source")
+    if not isinstance(source, dict) or source.get("path") != world.path:
+        return {"breakpoints": [unset("this isn't the program's source")] * len(asked)}, [], world
+    answers, kept = [], []
+    for one in asked:
+        told, found = set_one(world, one if isinstance(one, dict) else {})
+        answers.append(told)
+        kept += [] if found is None else [found]
+    return {"breakpoints": answers}, [], world.having(breakpoints=tuple(kept))
+
+
+def unset(why: str) -> dict:
+    return {"message": why, "verified": False}
+
+
+def set_one(world: World, asked: dict) -> tuple[dict, Breakpoint | None]:
+    """What is told of a breakpoint, and where it is set, if it is."""
+    line = max((whole_at(asked, "line") or 0) - 1, 0)
+    place = next((at for at in range(line, len(world.program)) if world.program[at] is not None), None)
+    if place is None:
+        return unset("no place is at this line or after it"), None
+    try:
+        rule = rule_of(text_at(asked, "hitCondition") or "")
+    except ValueError:
+        return unset("a hit condition is N, =N or %N"), None
+    message = text_at(asked, "logMessage")
+    parts = parts_of(message) if message else None
+    return ({"line": place + 1, "verified": True},
+            Breakpoint(place, text_at(asked, "condition") or None, rule, 0, parts))
+
+
+def rule_of(text: str) -> tuple[str, int] | None:
+    if not text:
+        return None
+    sign = text[0] if text[0] in "=%" else ""
+    digits = text[len(sign):]
+    if not DECIMAL.match(digits) or int(digits) >= 2**64:
+        raise ValueError
+    return sign, int(digits)
+
+
+def parts_of(message: str) -> tuple[tuple[bool, str], ...]:
+    """The parts of a message, which ends its line: expressions stand in braces."""
+    parts: list[tuple[bool, str]] = []
+    while found := BRACES.match(message):
+        parts += [(False, found[1]), (True, found[2])]
+        message = message[found.end():]
+    return (*parts, (False, message), (False, "\n"))
+
+
+def start(world: World, given: dict, folder: str) -> tuple[dict | None, list[dict], World]:
+    if world.phase != "configuring":
+        raise Refused("no program waits to be started")
+    if world.entry:
+        return None, [stopped("entry")], world.having(phase="stopped")
+    told, after = arrive(world.having(phase="running", mode=("continue", 0)))
+    return None, told, after
+
+
+def resume(world: World, command: str) -> tuple[dict | None, list[dict], World]:
+    if world.phase != "stopped":
+        raise Refused("the program isn't stopped")
+    mode = {"continue": "continue", "next": "over", "stepIn": "in", "stepOut": "out"}[command]
+    body = {"allThreadsContinued": True} if command == "continue" else None
+    told, after = advance(world.having(phase="running", mode=(mode, world.depth())))
+    return body, told, after
+
+
+def pause(world: World, given: dict, folder: str) -> tuple[dict | None, list[dict], World]:
+    if world.phase != "running":
+        raise Refused("the program doesn't run")
+    return None, [stopped("pause")], world.having(phase="stopped")
+
+
+def terminate(world: World, given: dict, folder: str) -> tuple[dict | None, list[dict], World]:
+    if world.phase == "none":
+        return None, [], world
+    return None, ENDED, gone(world)
+
+
+def threads(world: World, given: dict, folder: str) -> tuple[dict | None, list[dict], World]:
+    return {"threads": [{"id": 1, "name": "main"}]}, [], world
+
+
+def disconnect(world: World, given: dict, folder: str) -> tuple[dict | None, list[dict], World]:
+    return None, [], world.having(phase="left")
+
+
+GRANTS = {
+    "initialize": initialize, "launch": launch, "setBreakpoints": set_breakpoints, "configurationDone": start,
+    "pause": pause, "terminate": terminate, "threads": threads, "disconnect": disconnect,
+}
+
+
+def stack_trace(world: World, given: dict) -> dict:
+    first, levels = whole_at(given, "startFrame") or 0, whole_at(given, "levels") or world.depth()
+    frames = [{"column": 1, "id": index + 1, "line": line + 1, "name": "call" if index < world.depth() - 1 else "main",
+               "source": {"path": world.path}} for index, line in enumerate(world.state.lines())]
+    return {"stackFrames": frames[first:first + levels], "totalFrames": world.depth()}
+
+
+def scopes(world: World, given: dict) -> dict:
+    frame = alive(world, whole_at(given, "frameId"))
+    return {"scopes": [{"expensive": False, "name": "variables", "variablesReference": (frame - 1) * SCOPES + 1}]}
+
+
+def alive(world: World, frame: int | None) -> int:
+    """The number of a frame that is alive, of which the newest is 1."""
+    if frame is None or not 1 <= frame <= world.depth():
+        raise Refused("no such frame is alive")
+    return frame
+
+
+def variables(world: World, given: dict) -> dict:
+    reference = whole_at(given, "variablesReference") or 0
+    if reference % SCOPES != 1 or reference // SCOPES >= world.depth():
+        raise Refused("no variables have this reference")
+    return {"variables": [{"name": name, "value": str(number), "variablesReference": 0}
+                          for name, number in zip(VARIABLES, world.state.values)]}
+
+
+def evaluate(world: World, given: dict) -> dict:
+    expression = text_at(given, "expression")
+    if expression is None:
+        raise Refused("`expression` is missing")
+    frame = whole_at(given, "frameId")
+    alive(world, 1 if frame is None else frame)
+    if value(world, expression) is None:
+        raise Refused(NO_VARIABLE)
+    return {"result": shown(world, expression), "variablesReference": 0}
+
+
+INSPECTIONS = {"stackTrace": stack_trace, "scopes": scopes, "variables": variables, "evaluate": evaluate}
+
+
+# ---- a session
+
+class Session:
+    """What came and what left, so far."""
+
+    def __init__(self, folder: str):
+        self.folder = folder
+        self.worlds = {World()}
+        self.asked: collections.deque[Request] = collections.deque()
+        self.sent = 0
+
+    def phases(self) -> set[str]:
+        return {world.phase for world in self.worlds}
+
+    def is_waiting(self) -> bool:
+        """Whether a message must still leave before something is asked."""
+        return bool(self.asked) or any(world.pending for world in self.worlds)
+
+    def runs(self) -> bool:
+        return self.is_waiting() or "running" in self.phases()
+
+    def take(self, message: dict) -> str | None:
+        """Takes a message that left, and says what is wrong with it, if anything is."""
+        self.sent += 1
+        if message.get("seq") != self.sent:
+            return f"number {self.sent} must leave, and not {message}"
+        expected = self.expected(message.get("type") == "response")
+        found = text_of(message)
+        self.worlds = {world.having(pending=world.pending[1:]) for world in expected if world.pending[0] == found}
+        if not self.worlds:
+            return f"{found} leaves, and not {' or '.join(sorted({world.pending[0] for world in expected})) or 'nothing'}"
+        if message.get("type") == "response":
+            self.asked.popleft()
+        return None
+
+    def expected(self, is_response: bool) -> list[World]:
+        """The worlds in which a response, or an event, is the next to leave."""
+        pending = [world for world in self.worlds if world.pending]
+        others = [world for world in self.worlds if not world.pending]
+        if is_response:
+            return pending + ([answer(one, self.asked[0], self.folder) for one in silent(others)] if self.asked else [])
+        known: dict[World, World | None] = {}
+        told = [next_told(world, known) for world in others if world.phase == "running"]
+        return pending + [world for world in told if world is not None]
