@@ -88,6 +88,11 @@ pub record ServedWorker {S I : Type 0} (replies : Replies S) (works : Works S) (
 
 -- ---- for private contracts
 
+-- what a look finds that waits until an item is there
+abbrev pub Awaits : {I : Type 0} → Gives I → Polls I
+Awaits gives before None after = ⊥
+Awaits gives before (Some item) after = gives before item after
+
 -- what comes next: an item, or nothing yet, which is seen only where the adapter is busy
 abbrev pub ComesNext : {I : Type 0} → Bool → Gives I → Polls I → I → Option Item → I → Type 0
 ComesNext busy gives polls before None after = (busy ≡ true) × polls before None after

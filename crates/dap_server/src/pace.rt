@@ -18,7 +18,7 @@ pub(crate) trait Pace<R, I> {
     /// What a part of the adapter's work does.
     ghost works: { Works R };
 
-    /// Whether the adapter has work to do.
+    /// Whether the session looks into the inbox, and works where nothing is there; else it waits for an item.
     ghost busy: { R → Bool };
 
     /// Which item is waited for.
@@ -27,7 +27,7 @@ pub(crate) trait Pace<R, I> {
     /// What a look into the inbox finds.
     ghost polls: { Polls I };
 
-    /// Returns the next item, or `None` where there is none yet and the adapter has work to do.
+    /// Returns the next item, or `None` where there is none yet and the session is to work.
     fn next_item(rt: &impl Wait, alloc: Global, responder: &R, inbox: &mut I) -> Option<Item>
         ensures { ComesNext (busy responder.now) gives polls inbox.old result inbox.new };
 
@@ -37,26 +37,28 @@ pub(crate) trait Pace<R, I> {
         ensures { IfOk result (λ events. works responder.old (map plain_event events.items) responder.new) };
 }
 
-/// The session waits: the adapter has no work to do.
+/// The session looks into the inbox until an item is there, so that it never works.
 pub(crate) struct Waiting;
 
 impl<R: Responder, I: Inbox> Pace<R, I> for Waiting {
-    ghost use Rattle.std.specs.Prelude.{false};
+    ghost use Rattle.std.specs.Prelude.{true};
+    ghost use Rattle.dap_server.specs.Working.{Awaits};
 
     ghost works = { λ _ _ _. ⊥ };
 
-    ghost busy = { λ _. false };
+    ghost busy = { λ _. true };
 
     ghost gives = { I.gives };
 
-    ghost polls = { λ _ _ _. ⊥ };
+    ghost polls = { Awaits I.gives };
 
     fn next_item(rt: &impl Wait, alloc: Global, _responder: &R, inbox: &mut I) -> Option<Item> {
         Some(inbox.next(rt, alloc))
     }
 
+    // Nobody calls it: `next_item` always gives an item.
     fn work(_alloc: Global, _responder: &mut R) -> Result<Vec<Event>, AllocError> {
-        unreachable!()
+        Err(AllocError)
     }
 }
 
