@@ -1,11 +1,13 @@
--- Defines what is promised of a conversation over a language: `Debugged` is the contract of `serve_language_inbox`.
-use Rattle.std.specs.Prelude.{Bool, Result}
+-- Defines what is promised of a conversation over a language: `Debugged` is the contract of `serve_language_inbox`,
+-- and `DebuggedByReader` that of `serve_language`.
+use Rattle.std.specs.Prelude.{◌≡◌, ◌⊎◌, Bool, Result, Err}
 use Rattle.byte_streams.specs.Streams.{StreamLog}
 use Rattle.dap_server.specs.Conversation.{Replies as Promise}
 use Rattle.dap_server.specs.Inbox.{Gives}
 use Rattle.dap_server.specs.Working.{Works, Polls, ServedWorker}
 use Rattle.dap_server.specs.declared.ending.Ending.{Ending}
 use Rattle.dap_server.specs.declared.ending.ServeFault.{ServeFault}
+use Rattle.dap_server.specs.declared.ending.ServeFault.TheVariants as fault
 use Rattle.dap_debug.specs.Commands.{command_of}
 use Rattle.dap_debug.specs.Replies.{Known, Replies}
 use Rattle.dap_debug.specs.Running.{WorksOn}
@@ -30,3 +32,10 @@ pub record Debugged {S I : Type 0} (known : Known S) (gives : Gives I) (polls : 
   pub last : Standing S
   pub served :
       ServedWorker (replied_by known) (worked_by known) runs_in gives polls unused last inbox left written later result
+
+-- The thread that reads couldn't be started, and nothing is written; or a client was served over an inbox.
+abbrev pub DebuggedByReader : {S I : Type 0} → Known S → Gives I → Polls I → StreamLog → StreamLog
+    → Result Ending ServeFault → Type 0
+DebuggedByReader {S} {I} known gives polls written later result =
+    ((result ≡ Err fault.NoMemory) × (later ≡ written))
+    ⊎ ((inbox : I) × (left : I) × Debugged known gives polls inbox left written later result)

@@ -1,9 +1,23 @@
 //! A debug adapter for any language: what a language gives is [`Language`], and all else is here.
 //!
-//! [`serve_language_inbox`] serves a client. The program has no thread of its own: it runs in slices, one with the reply
+//! [`serve_language`] serves a client, here on the process's own streams:
+//!
+//! ```
+//! use byte_streams::Writing;
+//! use dap_debug::serve_language;
+//! use std::process::ExitCode;
+//!
+//! fn main(rt: HostRuntime) -> ExitCode {
+//!     let mut output = Writing::new(&rt, rt.stdout());
+//!     let ended = serve_language::<Mine, _, _, _>(&rt, rt.alloc(), rt.stdin(), &mut output);
+//!     ExitCode::from(if ended.is_ok() { 0 } else { 1 })
+//! }
+//! ```
+//!
+//! [`serve_language_inbox`] does over an inbox of your own. The program has no thread of its own: it runs in slices, one with the reply
 //! that lets it go on, and one more each time that nothing has come from the client. So `pause` stops it in its own reply.
 //!
-//! The contract is `Debugged` in `specs/Serving.antt`: each request is answered once, in order, with what `Replies` in
+//! The contract is `Debugged` in `specs/Serving.antt`, over what the inbox gave: each request is answered once, in order, with what `Replies` in
 //! `specs/Replies.antt` says, and each slice is told as `WorksOn` in `specs/Running.antt` says, by the language's own steps.
 //! By `conversation_laws` each run ends once: with a `stopped`, or with `exited` and `terminated`.
 //!
@@ -25,4 +39,4 @@ mod telling;
 
 pub use language::{Frame, Language, Location, Scope, Variable};
 pub use laws::{conversation_laws, debug_laws};
-pub use serving::serve_language_inbox;
+pub use serving::{serve_language, serve_language_inbox};

@@ -1,15 +1,52 @@
 //! Serving a client.
 
 ghost use Rattle.dap_server.specs.ServingInbox.{OutputFailures};
-ghost use Rattle.dap_debug.specs.Serving.{Debugged};
+ghost use Rattle.dap_debug.specs.Serving.{Debugged, DebuggedByReader};
 
 use crate::language::Language;
 use crate::session::Session;
 use byte_streams::Sink;
-use dap_server::{Ending, Polled, ServeFault, serve_worker};
+use dap_reader::{Arrivals, start_reader};
+use dap_server::{Ending, Inbox, Polled, ServeFault, serve_worker};
 use std::alloc::Global;
+use std::io::Read;
 use std::rt::{Clock, Files};
 use std::sync::Wait;
+use std::thread::Threads;
+
+/// Serves a client that debugs programs of a language. A thread of its own reads the input; it ends with the input, or is cut
+/// off when `main` returns.
+///
+/// # Errors
+///
+/// As [`serve_worker`]. `NoMemory`, with nothing written, also where the thread can't be started.
+pub fn serve_language<L, R, I, O>(
+    rt: &R,
+    alloc: Global,
+    input: I,
+    output: &mut O,
+) -> Result<Ending, ServeFault>
+where
+    L: Language,
+    R: Threads + Wait + Files + Clock + Copy + Send + Drop + 'static,
+    I: Read + Send + Drop + 'static,
+    O: Sink,
+    ensures served { DebuggedByReader (record {
+      takes = L.takes;
+      sees = L.sees;
+      begins = L.begins;
+      first_place = L.first_place;
+      frame_of = L.frame_of;
+      variables_of = L.variables_of;
+    }) ⟦<Arrivals as Inbox>⟧.gives ⟦<Arrivals as Polled>⟧.polls
+        (O.output output.old).written (O.output output.new).written result }
+    ensures failures { OutputFailures result (O.output output.old).failures (O.output output.new).failures }
+{
+    match start_reader(rt, alloc, input) {
+        Ok(mut inbox) => serve_language_inbox::<L, R, Arrivals, O>(rt, alloc, &mut inbox, output),
+        Err(_) => Err(ServeFault::NoMemory),
+    }
+}
 
 /// Serves a client that debugs programs of a language, over an inbox that gives what the client sends.
 ///
