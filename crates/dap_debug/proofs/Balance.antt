@@ -1,9 +1,9 @@
 -- Each run ends once.
-use Rattle.std.specs.Prelude.{slice_get, codes}
+use Rattle.std.specs.Prelude.{min, slice_get, codes}
 use Rattle.std.proofs.Common.{◌≡◌, ◌+◌, ℕ, true, false, List, [], ◌∷◌, ◌++◌, ◌∙◌, refl, ap, map, arith, Option, None, Some, inl, inr}
 use Rattle.serde_json.specs.Data.{Data}
 use Rattle.dap_server.specs.Messages.{PlainEvent, PlainReply}
-use Rattle.debuggee.specs.Plain.{PlainEvaluated, Value, NoValue, PlainHalt, AtBreakpoint, AtStep, AtEnd, AtFault, PlainOutput, Printed, Logged}
+use Rattle.debuggee.specs.Plain.{PlainBreakpoint, PlainEvaluated, Value, NoValue, PlainHalt, AtBreakpoint, AtStep, AtEnd, AtFault, PlainOutput, Printed, Logged}
 use Rattle.debuggee.specs.Due.{Sight}
 use Rattle.debuggee.specs.Runs.{Meaning}
 use Rattle.debuggee.specs.declared.mode.Mode.{Mode}
@@ -13,10 +13,12 @@ use Rattle.dap_debug.specs.declared.command.Command.TheVariants as command
 use Rattle.dap_debug.specs.declared.command.Resume.{Resume}
 use Rattle.dap_debug.specs.declared.command.Question.{Question}
 use Rattle.dap_debug.specs.declared.command.Question.TheVariants as question
+use Rattle.dap_debug.specs.declared.language.Location.{Location}
 use Rattle.dap_debug.specs.declared.state.Phase.{Phase}
 use Rattle.dap_debug.specs.declared.state.Phase.TheVariants as phase
+use Rattle.dap_debug.specs.Breakpoints.{SetsIn, Own, Other, SetsOnly, SetsFrom}
 use Rattle.dap_debug.specs.Arguments.{text_at}
-use Rattle.dap_debug.specs.Inspecting.{ShowsScope, ShowsVariables, Evaluates, Shows, ShowsFrom, frame_of_reference, frame_to_evaluate, index_of_reference, reference_asked, reply_of}
+use Rattle.dap_debug.specs.Inspecting.{ShowsScopes, ShowsScope, ShowsVariables, Evaluates, Shows, ShowsFrom, frame_asked, frame_limit, frame_of_reference, frame_to_evaluate, index_of_reference, reference_asked, reply_of}
 use Rattle.dap_debug.specs.Shown.{PlainFrame, PlainScope}
 use Rattle.dap_debug.specs.Replies.{Known, LoadsFrom, Replies}
 use Rattle.dap_debug.specs.Running.{GoesFrom, WorksOn, StartsFrom, ResumesFrom, PausesFrom, IsRefused, ended, mode_of, phase_after}
@@ -159,10 +161,42 @@ loaded begins phase.NoProgram arguments stood stands reply at (inl is) =
     replied stands _ reply _ 0 is.reply_is is.phase_is refl
 loaded begins phase.NoProgram arguments stood stands reply at (inr is) = refused stood stands reply _ is at
 
+set_in : {S : Type 0} (first_place : S → ℕ → Option Location → Type 0) (a : S) (arguments : Option Data)
+    (path : List ℕ) (old new : List PlainBreakpoint) (reply : PlainReply)
+    → SetsIn first_place arguments a path old reply new → ends_told reply.events ≡ 0
+set_in first_place a arguments path old new reply (Own source answers are is) =
+    ap (λ (r : PlainReply). ends_told r.events) is
+set_in first_place a arguments path old new reply (Other source answers are is same) =
+    ap (λ (r : PlainReply). ends_told r.events) is
+
+set_only : {S : Type 0} (first_place : S → ℕ → Option Location → Type 0) (p : Phase S) (a : S)
+    (arguments : Option Data) (stood stands : Standing S) (reply : PlainReply) → stood.phase ≡ p
+    → SetsOnly first_place arguments a stood reply stands → owed stands.phase + ends_told reply.events ≡ owed p
+set_only first_place p a arguments stood stands reply at is =
+    let told = set_in first_place a arguments _ _ _ reply is.0 in
+    let owes = ap (λ (s : Standing _). owed s.phase) is.1 ∙ ap owed at in
+    omega (arith, told, owes)
+
+sets : {S : Type 0} (first_place : S → ℕ → Option Location → Type 0) (p : Phase S) (arguments : Option Data)
+    (stood stands : Standing S) (reply : PlainReply) → stood.phase ≡ p
+    → SetsFrom first_place p arguments stood reply stands → owed stands.phase + ends_told reply.events ≡ owed p
+sets first_place (phase.Running a how) arguments stood stands reply at is =
+    set_only first_place _ a arguments stood stands reply at is
+sets first_place (phase.Configuring a stop_on_entry) arguments stood stands reply at is =
+    set_only first_place _ a arguments stood stands reply at is
+sets first_place (phase.Stopped a) arguments stood stands reply at is =
+    set_only first_place _ a arguments stood stands reply at is
+sets first_place phase.NoProgram arguments stood stands reply at is = refused stood stands reply _ is at
+
 -- ---- questions
 
 no_events : (reply says : PlainReply) → reply ≡ says → says.events ≡ [] → reply.events ≡ []
 no_events reply says is none = ap (λ (r : PlainReply). r.events) is ∙ none
+
+scopes_quiet : {S : Type 0} (variables_of : S → ℕ → List PlainScope → Type 0) (frame : Option ℕ) (a : S)
+    (reply : PlainReply) → ShowsScopes variables_of frame a reply → reply.events ≡ []
+scopes_quiet variables_of None a reply is = no_events reply _ is.1 refl
+scopes_quiet variables_of (Some frame) a reply is = no_events reply _ is.2 refl
 
 scope_quiet : (scope : Option PlainScope) (reply : PlainReply) → ShowsScope scope reply → reply.events ≡ []
 scope_quiet None reply is = no_events reply _ is.1 refl
@@ -188,7 +222,8 @@ shows_quiet : {S : Type 0} (sees : Sight S) (frame_of : S → ℕ → PlainFrame
     (a : S) (reply : PlainReply) → Shows sees frame_of variables_of asked arguments path a reply → reply.events ≡ []
 shows_quiet sees frame_of variables_of question.StackTrace arguments path a reply is =
     no_events reply _ is.reply_is refl
-shows_quiet sees frame_of variables_of question.Scopes arguments path a reply is = is
+shows_quiet sees frame_of variables_of question.Scopes arguments path a reply is =
+    scopes_quiet variables_of (frame_asked (min (sees.depth_of a) frame_limit) arguments) a reply is
 shows_quiet sees frame_of variables_of question.Variables arguments path a reply is =
     variables_quiet variables_of (frame_of_reference (sees.depth_of a) (reference_asked arguments))
     (index_of_reference (reference_asked arguments)) a reply is
@@ -218,7 +253,7 @@ replies_balanced known command.Initialize arguments stood stands reply is =
 replies_balanced known command.Launch arguments stood stands reply is =
     let so = loaded known.begins stood.phase arguments stood stands reply refl is in omega (arith, so)
 replies_balanced known command.SetBreakpoints arguments stood stands reply is =
-    let told = ap ends_told is.0 in let owes = ap owed is.1 in omega (arith, told, owes)
+    let so = sets known.first_place stood.phase arguments stood stands reply refl is in omega (arith, so)
 replies_balanced known command.ConfigurationDone arguments stood stands reply is =
     started known.takes known.sees stood.phase stood stands reply refl is
 replies_balanced known command.Threads arguments stood stands reply is =

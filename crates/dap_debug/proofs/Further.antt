@@ -1,14 +1,22 @@
 -- Frames, scopes, variables and breakpoints, one after another.
-use Rattle.std.proofs.Common.{◌≡◌, ◌<◌, ◌+◌, ℕ, List, [], ◌∷◌, ◌++◌, ◌∙◌, refl, sym, ap, subst, take, get_or, add-one, length, arith}
-use Rattle.std.specs.Prelude.{map}
+use Rattle.std.proofs.Common.{◌≡◌, ◌<◌, ◌+◌, ℕ, List, [], ◌∷◌, ◌++◌, ◌∙◌, refl, sym, ap, subst, take, get_or, add-one, length, append_assoc, append-nil, arith}
+use Rattle.std.specs.Prelude.{◌≢◌, map, codes, Option, Some, Result, Ok, Err, IfOk}
+use Rattle.std.specs.Option.{option_to_list}
 use Rattle.std.proofs.Math.Seq.{take-suc}
-use Rattle.std.proofs.lemmas.List.{length_push, map-append}
-use Rattle.serde_json.specs.Data.{Data}
+use Rattle.std.proofs.lemmas.List.{length_push, length-map, length-take-le, map-append}
+use Rattle.serde_json.specs.Data.{Data, Items}
 use Rattle.serde_json.specs.View.{view, items_of}
 use Rattle.serde_json.specs.declared.value.Value.{Value}
-use Rattle.dap_debug.specs.Shown.{PlainFrame}
-use Rattle.dap_debug.specs.Inspecting.{ShowsFrame, ShowFrames}
-use Rattle.dap_debug.specs.Breakpoints.{AreUnset, answer_unset}
+use Rattle.dap_server.specs.Messages.{PlainReply}
+use Rattle.debuggee.specs.Plain.{PlainBreakpoint}
+use Rattle.dap_debug.specs.declared.language.Location.{Location}
+use Rattle.dap_debug.specs.declared.language.Scope.{Scope}
+use Rattle.dap_debug.specs.declared.state.Phase.{Phase}
+use Rattle.dap_debug.specs.Standings.{Standing}
+use Rattle.dap_debug.specs.Arguments.{list_at}
+use Rattle.dap_debug.specs.Shown.{PlainFrame, PlainScope, plain_scope}
+use Rattle.dap_debug.specs.Inspecting.{ShowsFrame, ShowFrames, shown_scope, shown_scopes}
+use Rattle.dap_debug.specs.Breakpoints.{IsSet, AreSet, AreUnset, SetsIn, Own, Other, SetsOnly, SetsFrom, Sets, answer_unset, answers_reply, source_asked}
 
 -- ---- frames
 
@@ -34,6 +42,42 @@ one_frame frame_of path a first index values new value grown are at is =
 
 -- ---- scopes and variables
 
+scopes_more : (frame index : ℕ) (scopes : List PlainScope) (one : PlainScope)
+    → shown_scopes frame index (scopes ++ one ∷ [])
+    ≡ shown_scopes frame index scopes ++ shown_scope frame (index + length scopes) one ∷ []
+scopes_more frame index [] one =
+    let e : index ≡ index + 0 = omega arith in ap (λ n. shown_scope frame n one ∷ []) e
+scopes_more frame index (x ∷ scopes) one =
+    let e : (index + 1) + length scopes ≡ index + length (x ∷ scopes) = omega arith in
+    ap (λ l. shown_scope frame index x ∷ l)
+    (scopes_more frame (index + 1) scopes one
+    ∙ ap (λ n. shown_scopes frame (index + 1) scopes ++ shown_scope frame n one ∷ []) e)
+
+-- one scope more
+pub one_scope : (frame : ℕ) (scopes : List Scope) (i : ℕ) (one : Scope) (values new : List Value) (value : Value)
+    → i < length scopes → one ≡ get_or scopes i one → new ≡ values ++ value ∷ []
+    → map view values ≡ shown_scopes frame 0 (map plain_scope (take i scopes))
+    → view value ≡ shown_scope frame i (plain_scope one)
+    → map view new ≡ shown_scopes frame 0 (map plain_scope (take (i + 1) scopes))
+one_scope frame scopes i one values new value within here grown are is =
+    ap (map view) grown ∙ map-append view values (value ∷ []) ∙ ap (λ l. l ++ view value ∷ []) are
+    ∙ ap (λ d. shown_scopes frame 0 (map plain_scope (take i scopes)) ++ d ∷ []) (is ∙ ap (λ n. shown_scope frame n
+    (plain_scope one)) (sym many))
+    ∙ sym (scopes_more frame 0 (map plain_scope (take i scopes)) (plain_scope one))
+    ∙ ap (shown_scopes frame 0) (sym all)
+  where
+    many : 0 + length (map plain_scope (take i scopes)) ≡ i
+    many =
+        let short = length-take-le i scopes (omega (arith, within)) in
+        let same = length-map (take i scopes) plain_scope in
+        omega (arith, short, same)
+
+    all : map plain_scope (take (i + 1) scopes) ≡ map plain_scope (take i scopes) ++ plain_scope one ∷ []
+    all =
+        ap (λ k. map plain_scope (take k scopes)) (add-one i) ∙ ap (map plain_scope) (take-suc scopes i one within)
+        ∙ map-append plain_scope (take i scopes) (get_or scopes i one ∷ [])
+        ∙ ap (λ x. map plain_scope (take i scopes) ++ plain_scope x ∷ []) (sym here)
+
 -- one more of those that are shown
 pub one_more : {A B : Type 0} (plain : A → B) (f : B → Data) (xs : List A) (i : ℕ) (one : A) (values new : List Value)
     (value : Value) → i < length xs → one ≡ get_or xs i one → new ≡ values ++ value ∷ []
@@ -55,6 +99,57 @@ one_more plain f xs i one values new value within here grown are is =
 
 -- ---- breakpoints
 
+-- what holds of a value, if there is one
+pub on_ok : {A E : Type 0} (P Q : A → Type 0) (r : Result A E) → IfOk r P → ((a : A) → P a → Q a) → IfOk r Q
+on_ok P Q (Ok a) is so = so a is
+on_ok P Q (Err e) is so = tt
+
+pub set_own : {S : Type 0} (first_place : S → ℕ → Option Location → Type 0) (arguments : Option Data) (program : S)
+    (path : List ℕ) (old new : List PlainBreakpoint) (reply : PlainReply) (asked answers : Items)
+    → asked ≡ list_at (codes "breakpoints") arguments → source_asked arguments ≡ Some path
+    → AreSet first_place program asked answers new → reply ≡ answers_reply answers
+    → SetsIn first_place arguments program path old reply new
+set_own first_place arguments program path old new reply asked answers at own are is =
+    Own own answers (subst (λ l. AreSet first_place program l answers new) at are) is
+
+pub refuse_other : {S : Type 0} (first_place : S → ℕ → Option Location → Type 0) (arguments : Option Data)
+    (program : S) (path : List ℕ) (old : List PlainBreakpoint) (reply : PlainReply) (asked answers : Items)
+    → asked ≡ list_at (codes "breakpoints") arguments → source_asked arguments ≢ Some path → AreUnset asked answers
+    → reply ≡ answers_reply answers → SetsIn first_place arguments program path old reply old
+refuse_other first_place arguments program path old reply asked answers at other are is =
+    Other other answers (subst (λ l. AreUnset l answers) at are) is refl
+
+pub set_within : {S : Type 0} (first_place : S → ℕ → Option Location → Type 0) (arguments : Option Data) (program : S)
+    (path : List ℕ) (stood stands : Standing S) (reply : PlainReply) → path ≡ stood.path
+    → stands ≡ record stood { breakpoints = stands.breakpoints }
+    → SetsIn first_place arguments program path stood.breakpoints reply stands.breakpoints
+    → SetsOnly first_place arguments program stood reply stands
+set_within first_place arguments program path stood stands reply at only is =
+    (subst (λ p. SetsIn first_place arguments program p stood.breakpoints reply stands.breakpoints) at is, only)
+
+pub sets_from : {S : Type 0} (first_place : S → ℕ → Option Location → Type 0) (arguments : Option Data) (p : Phase S)
+    (stood stands : Standing S) (reply : PlainReply) → stood.phase ≡ p
+    → SetsFrom first_place p arguments stood reply stands → Sets first_place arguments stood reply stands
+sets_from first_place arguments p stood stands reply at is =
+    subst (λ q. SetsFrom first_place q arguments stood reply stands) (sym at) is
+
+set_more : {S : Type 0} (first_place : S → ℕ → Option Location → Type 0) (a : S) (asked answers : List Data)
+    (set : List PlainBreakpoint) (more : Option PlainBreakpoint) (one answer : Data)
+    → AreSet first_place a (items_of asked) (items_of answers) set → IsSet first_place a one answer more
+    → AreSet first_place a (items_of (asked ++ one ∷ [])) (items_of (answers ++ answer ∷ []))
+    (set ++ option_to_list more)
+set_more first_place a [] [] set more one answer are is =
+    (more, [], ap (λ l. l ++ option_to_list more) are ∙ sym (append-nil (option_to_list more)), is, refl)
+set_more first_place a [] (x ∷ answers) set more one answer are is = absurd are
+set_more first_place a (x ∷ asked) [] set more one answer are is = absurd are
+set_more first_place a (x ∷ asked) (y ∷ answers) set more one answer are is = (
+  are.0,
+  are.1 ++ option_to_list more,
+  ap (λ l. l ++ option_to_list more) are.2 ∙ append_assoc (option_to_list are.0) are.1 (option_to_list more),
+  are.3,
+  set_more first_place a asked answers are.1 more one answer are.4 is,
+)
+
 unset_more : (asked answers : List Data) (one answer : Data) → AreUnset (items_of asked) (items_of answers)
     → ((why : List ℕ) × (answer ≡ answer_unset why))
     → AreUnset (items_of (asked ++ one ∷ [])) (items_of (answers ++ answer ∷ []))
@@ -74,6 +169,21 @@ taken asked i one within here =
 grown_to : (values new : List Value) (value : Value) → new ≡ values ++ value ∷ []
     → map view new ≡ map view values ++ view value ∷ []
 grown_to values new value grown = ap (map view) grown ∙ map-append view values (value ∷ [])
+
+pub one_set : {S : Type 0} (first_place : S → ℕ → Option Location → Type 0) (a : S) (asked : List Value) (i : ℕ)
+    (one : Value) (answers new : List Value) (answer : Value) (set all : List PlainBreakpoint)
+    (more : Option PlainBreakpoint) → i < length asked
+    → one ≡ get_or asked i one → new ≡ answers ++ answer ∷ [] → all ≡ set ++ option_to_list more
+    → AreSet first_place a (items_of (map view (take i asked))) (items_of (map view answers)) set
+    → IsSet first_place a (view one) (view answer) more
+    → AreSet first_place a (items_of (map view (take (i + 1) asked))) (items_of (map view new)) all
+one_set first_place a asked i one answers new answer set all more within here grown kept are is =
+    subst (λ l. AreSet first_place a (items_of l) (items_of (map view new)) all) (sym (taken asked i one within here))
+    (subst (λ l. AreSet first_place a (items_of (map view (take i asked) ++ view one ∷ [])) (items_of l) all)
+    (sym (grown_to answers new answer grown))
+    (subst (AreSet first_place a (items_of (map view (take i asked) ++ view one ∷ []))
+    (items_of (map view answers ++ view answer ∷ []))) (sym kept)
+    (set_more first_place a (map view (take i asked)) (map view answers) set more (view one) (view answer) are is)))
 
 pub one_unset : (asked : List Value) (i : ℕ) (one : Value) (answers new : List Value) (answer : Value) (why : List ℕ)
     → i < length asked → one ≡ get_or asked i one → new ≡ answers ++ answer ∷ []

@@ -1,12 +1,16 @@
 -- Defines which breakpoints are set, and what is answered.
-use Rattle.std.specs.Prelude.{◌≡◌, ◌≢◌, ◌⊎◌, ℕ, false, All, List, [], ◌∷◌, ◌++◌, codes, decimal, Option, None, Some, unwrap_or}
-use Rattle.serde_json.specs.Data.{Data, boolean, string, array, Items, no_items, item, object, no_members, member}
+use Rattle.std.specs.Prelude.{◌≡◌, ◌≢◌, ◌⊎◌, ◌<◌, ◌^◌, ℕ, true, false, All, List, [], ◌∷◌, ◌++◌, codes, decimal, Option, None, Some, unwrap_or}
+use Rattle.std.specs.Option.{option_to_list}
+use Rattle.serde_json.specs.Data.{Data, boolean, number, unsigned, string, array, Items, no_items, item, object, no_members, member}
 use Rattle.dap_server.specs.Messages.{PlainReply}
-use Rattle.debuggee.specs.Plain.{PlainPart, Text, Expression}
+use Rattle.debuggee.specs.Plain.{PlainPart, Text, Expression, PlainBreakpoint}
 use Rattle.debuggee.specs.declared.breakpoint.Rule.{Rule}
 use Rattle.debuggee.specs.declared.breakpoint.Rule.TheVariants.{From, Exactly, Every}
-use Rattle.dap_debug.specs.Arguments.{member_at, text_at, whole_at}
-use Rattle.dap_debug.specs.Running.{success}
+use Rattle.dap_debug.specs.declared.language.Location.{Location}
+use Rattle.dap_debug.specs.declared.state.Phase.{Phase}
+use Rattle.dap_debug.specs.declared.state.Phase.TheVariants as phase
+use Rattle.dap_debug.specs.Arguments.{list_at, member_at, text_at, whole_at}
+use Rattle.dap_debug.specs.Running.{success, IsRefused}
 use Rattle.dap_debug.specs.Standings.{Standing}
 
 -- ---- texts
@@ -20,13 +24,17 @@ abbrev pub unless_empty : List ℕ → Option (List ℕ)
 unless_empty [] = None
 unless_empty (byte ∷ bytes) = Some (byte ∷ bytes)
 
+-- the number of an arrival, of which the first is 1
+abbrev pub IsCount : ℕ → Type 0
+IsCount n = (0 < n) × (n < 2 ^ 64)
+
 -- The rule that a hit condition is: `n` accepts the nth arrival and those after it, `=n` that one alone, and `%n` each
 -- whose number n divides. An empty one accepts each.
 abbrev pub IsRule : List ℕ → Option Rule → Type 0
 IsRule text None = text ≡ []
-IsRule text (Some (From n)) = text ≡ decimal n
-IsRule text (Some (Exactly n)) = text ≡ codes "=" ++ decimal n
-IsRule text (Some (Every n)) = text ≡ codes "%" ++ decimal n
+IsRule text (Some (From n)) = (text ≡ decimal n) × IsCount n
+IsRule text (Some (Exactly n)) = (text ≡ codes "=" ++ decimal n) × IsCount n
+IsRule text (Some (Every n)) = (text ≡ codes "%" ++ decimal n) × IsCount n
 
 -- the byte doesn't stand in the text
 abbrev pub Lacks : ℕ → List ℕ → Type 0
@@ -65,10 +73,48 @@ IsMessage text (Some parts) = (text ≢ []) × AreParts text parts
 abbrev pub line_of : Data → ℕ
 line_of asked = unwrap_or (whole_at (codes "line") (Some asked)) 0
 
--- the answer that a breakpoint isn't set, and why
+-- the answer: the line where the breakpoint is set, or why it isn't
+abbrev pub answer_set : ℕ → Data
+answer_set line =
+    object (member (codes "line") (number (unsigned line)) (member (codes "verified") (boolean true) no_members))
+
 abbrev pub answer_unset : List ℕ → Data
 answer_unset why =
     object (member (codes "message") (string why) (member (codes "verified") (boolean false) no_members))
+
+-- the breakpoint is set at this place with the condition, the rule and the message that are asked for, and no arrival
+pub record IsBreakpoint (asked : Data) (place : ℕ) (set : PlainBreakpoint) : Type 0 where
+  pub place_is : set.place ≡ place
+  pub condition : set.condition ≡ unless_empty (text_of (codes "condition") asked)
+  pub rule : IsRule (text_of (codes "hitCondition") asked) set.rule
+  pub message : IsMessage (text_of (codes "logMessage") asked) set.message
+  pub none_yet : set.arrivals ≡ 0
+
+-- What is answered where the first place for the line is this one: a breakpoint is set there, and it is told at which
+-- line; or none is, and why. Where there is a place, none is only where the hit condition is no rule.
+abbrev pub IsAnswered : Data → Option Location → Data → Option PlainBreakpoint → Type 0
+IsAnswered asked None answer None = (why : List ℕ) × (answer ≡ answer_unset why)
+IsAnswered asked None answer (Some set) = ⊥
+IsAnswered asked (Some location) answer None =
+    ((why : List ℕ) × (answer ≡ answer_unset why))
+    × ((rule : Option Rule) → ¬ IsRule (text_of (codes "hitCondition") asked) rule)
+IsAnswered asked (Some location) answer (Some set) =
+    (answer ≡ answer_set location.line) × IsBreakpoint asked location.place set
+
+-- the same, where the first place is as the language says
+abbrev pub IsSet : {S : Type 0} → (S → ℕ → Option Location → Type 0) → S → Data → Data → Option PlainBreakpoint
+    → Type 0
+IsSet first_place program asked answer set =
+    (first : Option Location) × first_place program (line_of asked) first × IsAnswered asked first answer set
+
+-- each is answered, in order, and what is set is just those that are
+abbrev pub AreSet : {S : Type 0} → (S → ℕ → Option Location → Type 0) → S → Items → Items → List PlainBreakpoint
+    → Type 0
+AreSet first_place program no_items no_items set = set ≡ []
+AreSet first_place program (item asked more) (item answer others) set =
+    (one : Option PlainBreakpoint) × (rest : List PlainBreakpoint) × (set ≡ option_to_list one ++ rest)
+    × IsSet first_place program asked answer one × AreSet first_place program more others rest
+AreSet first_place program _ _ set = ⊥
 
 -- ---- replies
 
@@ -87,6 +133,35 @@ AreUnset _ _ = ⊥
 abbrev pub answers_reply : Items → PlainReply
 answers_reply answers = success (Some (object (member (codes "breakpoints") (array answers) no_members))) []
 
--- breakpoints are set, or that is refused: no event follows, and the program stands as before
-abbrev pub Sets : {S : Type 0} → Standing S → PlainReply → Standing S → Type 0
-Sets stood reply stands = (reply.events ≡ []) × (stands.phase ≡ stood.phase) × (stands.path ≡ stood.path)
+-- In the program's own source each is set or not, as it is answered, and no other is left. In another source none is
+-- set, and those of the program are left.
+pub data SetsIn {S : Type 0} (first_place : S → ℕ → Option Location → Type 0) (arguments : Option Data) (program : S)
+    (path : List ℕ) (old : List PlainBreakpoint) (reply : PlainReply) (new : List PlainBreakpoint) : Type 0 where
+  Own : source_asked arguments ≡ Some path → (answers : Items)
+      → AreSet first_place program (list_at (codes "breakpoints") arguments) answers new
+      → reply ≡ answers_reply answers → SetsIn first_place arguments program path old reply new
+  Other : source_asked arguments ≢ Some path → (answers : Items)
+      → AreUnset (list_at (codes "breakpoints") arguments) answers → reply ≡ answers_reply answers → new ≡ old
+      → SetsIn first_place arguments program path old reply new
+
+-- nothing but the breakpoints changes
+abbrev pub SetsOnly : {S : Type 0} → (S → ℕ → Option Location → Type 0) → Option Data → S → Standing S → PlainReply
+    → Standing S → Type 0
+SetsOnly first_place arguments program stood reply stands =
+    SetsIn first_place arguments program stood.path stood.breakpoints reply stands.breakpoints
+    × (stands ≡ record stood { breakpoints = stands.breakpoints })
+
+-- breakpoints are set in a program that there is, also while it runs
+abbrev pub SetsFrom : {S : Type 0} → (S → ℕ → Option Location → Type 0) → Phase S → Option Data → Standing S
+    → PlainReply → Standing S → Type 0
+SetsFrom first_place phase.NoProgram arguments stood reply stands = IsRefused stood reply stands
+SetsFrom first_place (phase.Configuring program stop_on_entry) arguments stood reply stands =
+    SetsOnly first_place arguments program stood reply stands
+SetsFrom first_place (phase.Running program how) arguments stood reply stands =
+    SetsOnly first_place arguments program stood reply stands
+SetsFrom first_place (phase.Stopped program) arguments stood reply stands =
+    SetsOnly first_place arguments program stood reply stands
+
+abbrev pub Sets : {S : Type 0} → (S → ℕ → Option Location → Type 0) → Option Data → Standing S → PlainReply
+    → Standing S → Type 0
+Sets first_place arguments stood reply stands = SetsFrom first_place stood.phase arguments stood reply stands

@@ -1,5 +1,5 @@
 -- Defines what questions show of a program where it stands.
-use Rattle.std.specs.Prelude.{◌≡◌, ◌+◌, ◌-◌, ◌*◌, ◌/◌, ◌%◌, ◌^◌, ◌&&◌, ℕ, false, min, nat_eq, nat_le, List, [], ◌∷◌, map, length, slice_get, codes, if◌then◌else◌, Option, None, Some, option_and_then, unwrap_or, Err}
+use Rattle.std.specs.Prelude.{◌≡◌, ◌+◌, ◌-◌, ◌*◌, ◌/◌, ◌%◌, ◌^◌, ◌&&◌, ℕ, false, min, nat_eq, nat_le, List, [], ◌∷◌, map, length, take, slice_get, codes, if◌then◌else◌, Option, None, Some, option_and_then, unwrap_or, Err}
 use Rattle.serde_json.specs.Data.{Data, boolean, number, unsigned, string, array, object, no_members, member}
 use Rattle.serde_json.specs.View.{items_of}
 use Rattle.dap_server.specs.Messages.{PlainReply}
@@ -78,15 +78,27 @@ frame_with many id = if nat_le 1 id && nat_le id many then Some (id - 1) else No
 abbrev pub frame_asked : ℕ → Option Data → Option ℕ
 frame_asked many arguments = option_and_then (frame_with many) (whole_at (codes "frameId") arguments)
 
--- what is shown of a scope
+-- what is shown of scopes, of which the first has this index
 abbrev pub shown_scope : ℕ → ℕ → PlainScope → Data
 shown_scope frame index scope =
     object (member (codes "expensive") (boolean false) (member (codes "name") (string scope.name)
     (member (codes "variablesReference") (number (unsigned (frame * scope_limit + index + 1))) no_members)))
 
--- scopes are shown, or that is refused
-abbrev pub ShowsScopes : PlainReply → Type 0
-ShowsScopes reply = reply.events ≡ []
+abbrev pub shown_scopes : ℕ → ℕ → List PlainScope → List Data
+shown_scopes frame index [] = []
+shown_scopes frame index (scope ∷ scopes) = shown_scope frame index scope ∷ shown_scopes frame (index + 1) scopes
+
+-- the reply that shows the scopes of a frame
+abbrev pub scopes_reply : ℕ → List PlainScope → PlainReply
+scopes_reply frame scopes =
+    success (Some (object (member (codes "scopes")
+    (array (items_of (shown_scopes frame 0 (take scope_limit scopes)))) no_members))) []
+
+-- the scopes of a frame are shown; where it isn't alive, or too far down, that is refused
+abbrev pub ShowsScopes : {S : Type 0} → (S → ℕ → List PlainScope → Type 0) → Option ℕ → S → PlainReply → Type 0
+ShowsScopes variables_of None program reply = Refuses reply
+ShowsScopes variables_of (Some frame) program reply =
+    (scopes : List PlainScope) × variables_of program frame scopes × (reply ≡ scopes_reply frame scopes)
 
 -- what is shown of a variable
 abbrev pub shown_variable : PlainVariable → Data
@@ -147,7 +159,7 @@ abbrev pub Shows : {S : Type 0} → Sight S → (S → ℕ → PlainFrame → Ty
 Shows sees frame_of variables_of question.StackTrace arguments path program reply =
     ShowsStack sees frame_of path arguments program reply
 Shows sees frame_of variables_of question.Scopes arguments path program reply =
-    ShowsScopes reply
+    ShowsScopes variables_of (frame_asked (min (sees.depth_of program) frame_limit) arguments) program reply
 Shows sees frame_of variables_of question.Variables arguments path program reply =
     ShowsVariables variables_of (frame_of_reference (sees.depth_of program) (reference_asked arguments))
     (index_of_reference (reference_asked arguments)) program reply

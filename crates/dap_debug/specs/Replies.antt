@@ -76,7 +76,7 @@ Replies known command.Initialize arguments stood reply stands =
     IsQuiet (success (Some capabilities) []) stood reply stands
 Replies known command.Launch arguments stood reply stands = Loads known.begins arguments stood reply stands
 Replies known command.SetBreakpoints arguments stood reply stands =
-    Sets stood reply stands
+    Sets known.first_place arguments stood reply stands
 Replies known command.ConfigurationDone arguments stood reply stands =
     Starts known.takes known.sees stood reply stands
 Replies known command.Threads arguments stood reply stands = IsQuiet (success (Some threads) []) stood reply stands

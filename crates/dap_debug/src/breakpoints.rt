@@ -1,6 +1,6 @@
 //! Setting breakpoints.
 
-ghost use Rattle.std.specs.Prelude.{◌≡◌, ◌++◌, ◌∷◌, [], codes, decimal, None, Some, IfNone, IfOk, IfSome, OnOk, map, option_map, string_bytes};
+ghost use Rattle.std.specs.Prelude.{◌≡◌, ◌≢◌, ℕ, Option, ◌++◌, ◌∷◌, [], codes, decimal, None, Some, IfNone, IfOk, IfSome, OnOk, map, option_map, string_bytes};
 ghost use Rattle.std.specs.Bool.{Decides};
 ghost use Rattle.std.specs.Option.{option_to_list};
 ghost use Rattle.serde_json.specs.View.{items_view, view};
@@ -8,10 +8,10 @@ ghost use Rattle.dap_server.specs.Messages.{plain_reply};
 ghost use Rattle.debuggee.specs.Plain.{Text, Expression, plain_breakpoint, plain_part};
 ghost use Rattle.dap_debug.specs.Arguments.{list_at};
 ghost use Rattle.dap_debug.specs.Standings.{standing};
-ghost use Rattle.dap_debug.specs.Breakpoints.{AreParts, AreUnset, HasExpression, IsMessage, IsUnclosed, IsRule, Sets, answer_unset, answers_reply, line_of, source_asked, text_of, unless_empty};
+ghost use Rattle.dap_debug.specs.Breakpoints.{AreParts, AreSet, AreUnset, HasExpression, IsAnswered, IsBreakpoint, IsCount, IsMessage, IsUnclosed, IsRule, IsSet, Sets, SetsIn, answer_unset, answers_reply, line_of, source_asked, text_of, unless_empty};
 
 use crate::arguments::{list, member, text, whole};
-use crate::language::Language;
+use crate::language::{Language, Location};
 use crate::state::{Phase, State};
 use dap_server::Reply;
 use debuggee::{Breakpoint, Part, Rule};
@@ -39,21 +39,45 @@ impl<L: Language> State<L> {
         alloc: Global,
         arguments: Option<&Value>,
     ) -> Result<Reply, AllocError>
-        ensures { IfOk result (λ reply. Sets (standing self.old) (plain_reply reply) (standing self.new)) }
+        ensures { IfOk result (λ reply. Sets L.first_place (option_map (λ v. view v.now) arguments.entry)
+            (standing self.old) (plain_reply reply) (standing self.new)) }
     {
-        let program = match &self.phase {
-            Phase::NoProgram => return Reply::refused(alloc, "no program is loaded"),
-            Phase::Configuring(program, _) | Phase::Running(program, _) | Phase::Stopped(program) =>
-                program,
-        };
-        let asked = list(arguments, "breakpoints");
-        if !is_source(arguments, self.path.as_str()) {
-            let answers = refuse_all(alloc, asked)?;
-            return reply_with(alloc, answers);
+        let path = self.path.as_str();
+        match &self.phase {
+            Phase::NoProgram => Reply::refused(alloc, "no program is loaded"),
+            Phase::Configuring(program, _) => {
+                set_in(alloc, program, path, arguments, &mut self.breakpoints)
+            }
+            Phase::Running(program, _) => {
+                set_in(alloc, program, path, arguments, &mut self.breakpoints)
+            }
+            Phase::Stopped(program) => {
+                set_in(alloc, program, path, arguments, &mut self.breakpoints)
+            }
         }
+    }
+}
+
+/// Sets the breakpoints of a program with this path, if they are those that are asked for.
+fn set_in<L: Language>(
+    alloc: Global,
+    program: &L,
+    path: &str,
+    arguments: Option<&Value>,
+    breakpoints: &mut Vec<Breakpoint>,
+) -> Result<Reply, AllocError>
+    ensures { IfOk result (λ reply. SetsIn L.first_place (option_map (λ v. view v.now) arguments.entry) program.now
+        path.now (map plain_breakpoint breakpoints.old.items) (plain_reply reply)
+        (map plain_breakpoint breakpoints.new.items)) }
+{
+    let asked = list(arguments, "breakpoints");
+    if is_source(arguments, path) {
         let set = set_all(alloc, program, asked)?;
-        self.breakpoints = set.breakpoints;
+        *breakpoints = set.breakpoints;
         reply_with(alloc, set.answers)
+    } else {
+        let answers = refuse_all(alloc, asked)?;
+        reply_with(alloc, answers)
     }
 }
 
@@ -93,7 +117,10 @@ fn set_all<L: Language>(
     alloc: Global,
     program: &L,
     asked: &[Value],
-) -> Result<AllAnswered, AllocError> {
+) -> Result<AllAnswered, AllocError>
+    ensures { IfOk result (λ set. AreSet L.first_place program.now (items_view asked.now)
+        (items_view set.answers.items) (map plain_breakpoint set.breakpoints.items)) }
+{
     let mut breakpoints = Vec::new(alloc);
     let mut answers = Vec::new(alloc);
     for one in asked {
@@ -110,7 +137,7 @@ fn set_all<L: Language>(
 /// Adds a breakpoint, if there is one.
 fn keep(breakpoints: &mut Vec<Breakpoint>, breakpoint: Option<Breakpoint>) -> Result<(), AllocError>
     ensures { OnOk result (map plain_breakpoint breakpoints.new.items ≡
-        map plain_breakpoint breakpoints.old.items ++ map plain_breakpoint (option_to_list breakpoint)) }
+        map plain_breakpoint breakpoints.old.items ++ option_to_list (option_map plain_breakpoint breakpoint)) }
 {
     match breakpoint {
         Some(breakpoint) => breakpoints.push(breakpoint)?,
@@ -120,24 +147,63 @@ fn keep(breakpoints: &mut Vec<Breakpoint>, breakpoint: Option<Breakpoint>) -> Re
 }
 
 /// Sets a breakpoint.
-fn set_one<L: Language>(alloc: Global, program: &L, asked: &Value) -> Result<Answered, AllocError> {
-    let Some(location) = program.place_for(line_of(asked)) else {
-        return refuse(alloc, "no place is at this line or after it");
-    };
-    let Some(rule) = rule_of(text_of(asked, "hitCondition")) else {
-        return refuse(alloc, "a hit condition is N, =N or %N");
-    };
-    let breakpoint = Breakpoint {
-        place: location.place,
-        condition: unless_empty(alloc, text_of(asked, "condition"))?,
-        rule,
-        arrivals: 0,
-        message: message_of(alloc, text_of(asked, "logMessage"))?,
-    };
+fn set_one<L: Language>(alloc: Global, program: &L, asked: &Value) -> Result<Answered, AllocError>
+    ensures { IfOk result (λ set. IsSet L.first_place program.now (view asked.now) (view set.answer)
+        (option_map plain_breakpoint set.breakpoint)) }
+{
+    let first = program.place_for(line_of(asked));
+    set_at(alloc, asked, first)
+}
+
+/// Sets a breakpoint where the first place for its line is this one.
+fn set_at(alloc: Global, asked: &Value, first: Option<Location>) -> Result<Answered, AllocError>
+    ensures { IfOk result (λ set. IsAnswered (view asked.now) first (view set.answer)
+        (option_map plain_breakpoint set.breakpoint)) }
+{
+    match first {
+        Some(location) => match rule_of(text_of(asked, "hitCondition")) {
+            Some(rule) => set_with(alloc, asked, location, rule),
+            None => refuse(alloc, "a hit condition is N, =N or %N"),
+        },
+        None => refuse(alloc, "no place is at this line or after it"),
+    }
+}
+
+/// Sets a breakpoint with this rule.
+fn set_with(
+    alloc: Global,
+    asked: &Value,
+    location: Location,
+    rule: Option<Rule>,
+) -> Result<Answered, AllocError>
+    requires { IsRule (text_of (codes "hitCondition") (view asked.now)) rule }
+    ensures { IfOk result (λ set. IsAnswered (view asked.now) (Some location) (view set.answer)
+        (option_map plain_breakpoint set.breakpoint)) }
+{
+    let breakpoint = breakpoint_at(alloc, asked, location.place, rule)?;
     let line = location.line;
     Ok(Answered {
         breakpoint: Some(breakpoint),
         answer: json!(in alloc; {"line": line, "verified": true})?,
+    })
+}
+
+/// Returns the breakpoint that is asked for.
+fn breakpoint_at(
+    alloc: Global,
+    asked: &Value,
+    place: usize,
+    rule: Option<Rule>,
+) -> Result<Breakpoint, AllocError>
+    requires { IsRule (text_of (codes "hitCondition") (view asked.now)) rule }
+    ensures { IfOk result (λ breakpoint. IsBreakpoint (view asked.now) place (plain_breakpoint breakpoint)) }
+{
+    Ok(Breakpoint {
+        place,
+        condition: unless_empty(alloc, text_of(asked, "condition"))?,
+        rule,
+        arrivals: 0,
+        message: message_of(alloc, text_of(asked, "logMessage"))?,
     })
 }
 
@@ -185,23 +251,34 @@ fn unless_empty(alloc: Global, text: &str) -> Result<Option<String>, AllocError>
 
 /// Returns the rule that a hit condition is; `None` where it is none.
 fn rule_of(text: &str) -> Option<Option<Rule>>
-    ensures { IfSome result (IsRule text.now) }
+    ensures rule { IfSome result (IsRule text.now) }
+    ensures none { IfNone result ((rule : Option Rule) → ¬ IsRule text.now rule) }
 {
     if text.is_empty() {
         return Some(None);
     }
-    if let Some(divisor) = text.strip_prefix('%') {
-        return Some(Some(Rule::Every(number(divisor)?)));
+    match text.strip_prefix('%') {
+        Some(divisor) => match number(divisor) {
+            Some(divisor) => Some(Some(Rule::Every(divisor))),
+            None => None,
+        },
+        None => match text.strip_prefix('=') {
+            Some(only) => match number(only) {
+                Some(only) => Some(Some(Rule::Exactly(only))),
+                None => None,
+            },
+            None => match number(text) {
+                Some(least) => Some(Some(Rule::From(least))),
+                None => None,
+            },
+        },
     }
-    if let Some(only) = text.strip_prefix('=') {
-        return Some(Some(Rule::Exactly(number(only)?)));
-    }
-    Some(Some(Rule::From(number(text)?)))
 }
 
-/// Returns the number that a text is in decimal, without a sign or a leading zero.
+/// Returns the number, but 0, that a text is in decimal, without a sign or a leading zero.
 fn number(text: &str) -> Option<u64>
-    ensures { IfSome result (λ n. text.now ≡ decimal n) }
+    ensures number { IfSome result (λ n. (text.now ≡ decimal n) × IsCount n) }
+    ensures none { IfNone result ((n : ℕ) → IsCount n → text.now ≢ decimal n) }
 {
     // `parse` takes these too.
     if text.starts_with('0') || text.starts_with('+') {

@@ -1,12 +1,12 @@
 //! Questions about the program where it stands.
 
-ghost use Rattle.std.specs.Prelude.{◌≡◌, ◌<◌, ◌≤◌, ◌^◌, ◌-◌, codes, Some, IfOk, map, option_map};
+ghost use Rattle.std.specs.Prelude.{◌≡◌, ◌<◌, ◌≤◌, ◌^◌, ◌-◌, codes, length, take, Some, IfOk, map, option_map};
 ghost use Rattle.serde_json.specs.View.{view};
 ghost use Rattle.dap_server.specs.Messages.{plain_reply};
 ghost use Rattle.dap_debug.specs.Arguments.{text_at};
 ghost use Rattle.dap_debug.specs.Shown.{plain_frame, plain_scope, plain_variable};
 ghost use Rattle.dap_debug.specs.Standings.{standing};
-ghost use Rattle.dap_debug.specs.Inspecting.{Inspects, Shows, ShowsFrame, ShowsScope, ShowsScopes, ShowsStack, ShowsVariables, Evaluates, frame_asked, frame_count, frame_limit, frame_of_reference, frame_to_evaluate, frame_with, first_frame, index_of_reference, reference_asked, shown_scope, shown_variable};
+ghost use Rattle.dap_debug.specs.Inspecting.{Inspects, Shows, ShowsFrame, ShowsScope, ShowsScopes, ShowsStack, ShowsVariables, Evaluates, frame_asked, frame_count, frame_limit, frame_of_reference, frame_to_evaluate, frame_with, first_frame, index_of_reference, reference_asked, scope_limit, scopes_reply, shown_scope, shown_scopes, shown_variable};
 
 use crate::arguments::{text, whole};
 use crate::command::Question;
@@ -158,17 +158,47 @@ fn frame_asked(many: usize, arguments: Option<&Value>) -> Option<usize>
 fn scopes<L: Language>(alloc: Global, program: &L, frame: usize) -> Result<Reply, AllocError>
     requires alive { frame < L.sees.depth_of program.now }
     requires near { frame < frame_limit }
-    ensures { IfOk result (λ reply. ShowsScopes (plain_reply reply)) }
+    ensures { IfOk result (λ reply. ShowsScopes L.variables_of (Some frame) program.now (plain_reply reply)) }
 {
-    let mut scopes = program.scopes(alloc, frame)?;
-    scopes.truncate(SCOPE_LIMIT);
-    let mut shown = Vec::new(alloc);
-    for index in 0..scopes.len() {
-        shown.push(scope(alloc, frame, index, &scopes[index])?)?;
-    }
-    let shown = Value::Array(shown);
+    let scopes = program.scopes(alloc, frame)?;
+    reply_with_scopes(alloc, frame, scopes)
+}
+
+/// Returns the reply that shows these scopes of a frame.
+fn reply_with_scopes(alloc: Global, frame: usize, scopes: Vec<Scope>) -> Result<Reply, AllocError>
+    requires near { frame < frame_limit }
+    ensures { IfOk result (λ reply. plain_reply reply ≡ scopes_reply frame (map plain_scope scopes.items)) }
+{
+    let shown = Value::Array(first_scopes(alloc, frame, scopes)?);
     let body = json!(in alloc; {"scopes": shown})?;
     Ok(Reply::with_body(alloc, body))
+}
+
+/// Shows as many scopes as are shown at most.
+fn first_scopes(alloc: Global, frame: usize, scopes: Vec<Scope>) -> Result<Vec<Value>, AllocError>
+    requires near { frame < frame_limit }
+    ensures { IfOk result (λ shown. map view shown.items ≡
+        shown_scopes frame 0 (take scope_limit (map plain_scope scopes.items))) }
+{
+    let mut first = scopes;
+    first.truncate(SCOPE_LIMIT);
+    let shown = all_scopes(alloc, frame, first.as_slice())?;
+    Ok(shown)
+}
+
+/// Shows scopes.
+fn all_scopes(alloc: Global, frame: usize, scopes: &[Scope]) -> Result<Vec<Value>, AllocError>
+    requires near { frame < frame_limit }
+    requires few { length scopes.now ≤ 16 }
+    ensures { IfOk result (λ shown. map view shown.items ≡ shown_scopes frame 0 (map plain_scope scopes.now)) }
+{
+    let mut shown = Vec::new(alloc);
+    let mut index = 0;
+    for one in scopes {
+        shown.push(scope(alloc, frame, index, one)?)?;
+        index += 1;
+    }
+    Ok(shown)
 }
 
 /// Shows a scope.

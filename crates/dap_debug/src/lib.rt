@@ -14,12 +14,14 @@
 //! }
 //! ```
 //!
-//! [`serve_language_inbox`] does over an inbox of your own. The program has no thread of its own: it runs in slices, one with the reply
-//! that lets it go on, and one more each time that nothing has come from the client. So `pause` stops it in its own reply.
+//! [`serve_language_inbox`] serves one over an inbox of your own. The program has no thread of its own: it runs in slices, one
+//! with the reply that lets it go on, and one more each time that nothing has come from the client. So `pause` stops it in
+//! its own reply.
 //!
-//! The contract is `Debugged` in `specs/Serving.antt`, over what the inbox gave: each request is answered once, in order, with what `Replies` in
-//! `specs/Replies.antt` says, and each slice is told as `WorksOn` in `specs/Running.antt` says, by the language's own steps.
-//! By `conversation_laws` each run ends once: with a `stopped`, or with `exited` and `terminated`.
+//! The contract is `Debugged` in `specs/Serving.antt`: each request that the inbox gave is answered once, in order, with what
+//! `Replies` in `specs/Replies.antt` says, and each slice is told as `WorksOn` in `specs/Running.antt` says, by the language's
+//! own steps. By `conversation_laws` each run ends once: with a `stopped`, or with `exited` and `terminated`. No contract says
+//! which items the thread of `serve_language` gives: what is promised is of those that were taken.
 //!
 //! What the language means is the language's to say, by its ghost members. Where its `takes` allows any step, nothing is
 //! promised of the states between two stops, or of what is printed.

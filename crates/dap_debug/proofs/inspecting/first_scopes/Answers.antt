@@ -1,0 +1,10 @@
+use Rattle.std.proofs.Common.{◌∙◌, ap, map, sym}
+use Rattle.std.proofs.lemmas.List.{take-map}
+use Rattle.dap_debug.specs.Inspecting.{shown_scopes}
+use Rattle.dap_debug.specs.Shown.{plain_scope}
+use Rattle.dap_debug.proofs.inspecting.first_scopes.Goals as goal
+
+pub returns : goal.returns
+returns c =
+    c.in_ok-shown.ensures ∙ ap (shown_scopes c.args.frame 0) (ap (map plain_scope) (c.as_slice.ensures.value
+    ∙ c.truncate.ensures.items) ∙ sym (take-map plain_scope 16 c.args.scopes.items))
