@@ -349,7 +349,9 @@ def resume(world: World, command: str) -> tuple[dict | None, list[dict], World]:
         raise Refused("the program isn't stopped")
     mode = {"continue": "continue", "next": "over", "stepIn": "in", "stepOut": "out"}[command]
     body = {"allThreadsContinued": True} if command == "continue" else None
-    told, after = advance(world.having(phase="running", mode=(mode, world.depth())))
+    # Only these look at where the run began: the others are one world wherever it did.
+    depth = world.depth() if mode in ("over", "out") else 0
+    told, after = advance(world.having(phase="running", mode=(mode, depth)))
     return body, told, after
 
 
