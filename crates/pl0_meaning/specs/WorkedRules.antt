@@ -209,6 +209,7 @@ left_first : map (truth failing [] 0)
 left_first = refl
 
 sides_first : map (value failing [] 0)
-    (Binary Divide too_large (Number (pos 0)) ∷ Binary Divide (Number (pos 0)) by_zero ∷ Negate too_large ∷ [])
-    ≡ Err Overflow ∷ Err DivideByZero ∷ Err Overflow ∷ []
+    (Binary Add by_zero too_large ∷ Binary Add too_large by_zero ∷ Binary Divide too_large (Number (pos 0))
+    ∷ Binary Divide (Number (pos 0)) by_zero ∷ Negate too_large ∷ [])
+    ≡ Err DivideByZero ∷ Err Overflow ∷ Err Overflow ∷ Err DivideByZero ∷ Err Overflow ∷ []
 sides_first = refl
