@@ -61,7 +61,7 @@ mod working;
 
 pub use ending::{Ending, ServeFault};
 pub use inbox::{Inbox, Item};
-pub use laws::{message_laws, request_laws};
+pub use laws::{message_laws, request_laws, worked_messages};
 pub use polled::Polled;
 pub use reply::{Event, Reply};
 pub use responder::Responder;
