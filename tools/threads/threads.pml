@@ -53,7 +53,7 @@ mtype = { PIECE, END };                 /* @ dap_session/src/ports.rt: Event, Ev
 mtype = { QUIET, TELLS, LAST, HELD };   /* @ dbg_runner/src/report.rt: Report. QUIET and TELLS: the run goes on */
 mtype = { GO, HOLD, QUIT };             /* @ dbg_runner/src/order.rt: Order, Order::Go, Order::Hold, Order::Quit */
 mtype = { FRAMES, MARK };               /* @ dap_wires/src/writer_message.rt: WriterMessage. MARK: WriterMessage::End */
-mtype = { READY, CONFIGURING, RUNNING, STOPPED, ENDED };    /* @ dap_phase/src/phase.rt: Phase. STOPPED: Faulted too */
+mtype = { READY, CONFIGURING, RUNNING, STOPPED, ENDED };    /* @ dap_replies/src/phase.rt: Phase. STOPPED: Faulted too */
 
 /* Events, or reports: which, the number of their run, how many they are, and how many outputs are in them. */
 chan inbox = [INBOX] of { mtype, byte, byte, byte };
@@ -358,13 +358,13 @@ over:
  * Only those frames count that may find no room among the frames that are kept.
  */
 
-/* @ dap_phase/src/run.rt: Run::begin */
+/* @ dap_replies/src/run.rt: Run::begin */
 inline begin(goes_back) {
     assert(!pauses);
     phase = RUNNING; order = GO; current = (current + 1) % NUMBERS; backward = goes_back; held = false
 }
 
-/* @ dap_phase/src/run.rt: Run::hold */
+/* @ dap_replies/src/run.rt: Run::hold */
 inline hold() {
     if
     :: !held && !backward -> held = true; order = HOLD
@@ -406,7 +406,7 @@ inline take_request() {
 }
 
 /* @ dap_session/src/session/reports.rt: Session::take_report, Session::accept
- * @ dap_phase/src/run.rt: Run::expects
+ * @ dap_replies/src/run.rt: Run::expects
  * @ dap_replies/src/reporting.rt: report
  * No report is ignored, and a run's last report is the last that is taken of it.
  */

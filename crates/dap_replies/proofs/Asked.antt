@@ -15,10 +15,10 @@ use Rattle.dap_history.specs.Inspection.{RepliesFrom, RepliesAt, subject_in}
 use Rattle.dap_history.specs.Reactions.{Reaction, Answer, Refuse, InspectsAs, Inspects, Reacts}
 use Rattle.dap_history.specs.Replies.{OfProgram}
 use Rattle.dap_inspection.specs.Questions.{subject_of}
-use Rattle.dap_phase.specs.declared.phase.Target.{Target}
-use Rattle.dap_phase.specs.declared.phase.Phase.{Phase}
-use Rattle.dap_phase.specs.declared.phase.Phase.TheVariants as phase
-use Rattle.dap_phase.specs.Phases.{IsPhase, IsTarget, IsDebuggee, situation_of}
+use Rattle.dap_replies.specs.declared.phase.Target.{Target}
+use Rattle.dap_replies.specs.declared.phase.Phase.{Phase}
+use Rattle.dap_replies.specs.declared.phase.Phase.TheVariants as phase
+use Rattle.dap_replies.specs.Phases.{IsPhase, IsTarget, IsDebuggee, situation_of}
 use Rattle.dap_replies.specs.declared.choosing.Reaction.TheVariants as chosen
 use Rattle.dap_replies.specs.Choosing.{Chooses}
 

@@ -11,10 +11,10 @@ use Rattle.dap_history.specs.declared.situation.Situation.TheVariants.{Running}
 use Rattle.dap_history.specs.History.{Step, History, messages}
 use Rattle.dap_history.specs.Readings.{step_mark, order_mark, message_mark, situation, settings_by, settings, launched, go, last_run, runs, numbers_told, waiting_plan, is_pause, waiting_pause, hold_mark, is_held}
 use Rattle.dap_history.specs.ReadingLaws.{ReadingsGoOn}
-use Rattle.dap_phase.specs.declared.phase.Phase.TheVariants as phase
-use Rattle.dap_phase.specs.declared.phase.Target.{Target}
-use Rattle.dap_phase.specs.Runs.{begun_run}
-use Rattle.dap_phase.specs.Phases.{IsTarget, IsDebuggee, IsPhase}
+use Rattle.dap_replies.specs.declared.phase.Phase.TheVariants as phase
+use Rattle.dap_replies.specs.declared.phase.Target.{Target}
+use Rattle.dap_replies.specs.Runs.{begun_run}
+use Rattle.dap_replies.specs.Phases.{IsTarget, IsDebuggee, IsPhase}
 
 -- The step orders the next run, which is one of this debuggee in this mode. It launches nothing, and takes no settings.
 pub record OrdersRun (t : Target) (d : Debugged) (m : Mode) (step : Step) : Type 0 where

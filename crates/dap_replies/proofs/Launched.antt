@@ -17,8 +17,8 @@ use Rattle.dap_history.specs.Plans.{Plan}
 use Rattle.dap_history.specs.ReadingLaws.{ReadingsGoOn}
 use Rattle.dap_history.specs.Replies.{Reply, refused, causing}
 use Rattle.dap_history.specs.Launching.{Launches, launches}
-use Rattle.dap_phase.specs.declared.phase.Phase.TheVariants as phase
-use Rattle.dap_phase.specs.Phases.{IsPhase, IsUnlaunched, IsTarget, IsDebuggee}
+use Rattle.dap_replies.specs.declared.phase.Phase.TheVariants as phase
+use Rattle.dap_replies.specs.Phases.{IsPhase, IsUnlaunched, IsTarget, IsDebuggee}
 use Rattle.dap_replies.specs.declared.effect.Reply.{Reply as Given}
 use Rattle.dap_replies.specs.Answering.{without_events}
 use Rattle.dap_replies.specs.Launched.{HasBegun, target_of, unstarted}

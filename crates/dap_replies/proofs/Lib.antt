@@ -1,3 +1,5 @@
+-- A plan that was made for one unit of a text fits each other unit of it; for `Run::take_back`.
+pub mod Units
 -- A step that changes nothing that a phase keeps leaves it a phase of the longer history; for `phase_laws` and
 -- `refuse`, and through other lemmas for more.
 pub mod Stays

@@ -9,10 +9,10 @@ use Rattle.dap_history.specs.History.{History}
 use Rattle.dap_history.specs.ReadingLaws.{ReadingsGoOn}
 use Rattle.dap_history.specs.Readings.{go, runs, is_back, is_held, waiting_pause}
 use Rattle.dap_history.specs.Reactions.{Interrupt, reply_of}
-use Rattle.dap_phase.specs.declared.phase.Phase.TheVariants as phase
-use Rattle.dap_phase.specs.declared.phase.Target.{Target}
-use Rattle.dap_phase.specs.Runs.{OrderedRun, heading_in, ordered_to_hold}
-use Rattle.dap_phase.specs.Phases.{IsRun, IsPhase}
+use Rattle.dap_replies.specs.declared.phase.Phase.TheVariants as phase
+use Rattle.dap_replies.specs.declared.phase.Target.{Target}
+use Rattle.dap_replies.specs.Runs.{OrderedRun, heading_in, ordered_to_hold}
+use Rattle.dap_replies.specs.Phases.{IsRun, IsPhase}
 use Rattle.dap_replies.specs.declared.effect.Reply.{Reply as Given}
 use Rattle.dap_replies.specs.Replied.{request_step}
 use Rattle.dap_replies.specs.declared.choosing.Reaction.TheVariants as chosen

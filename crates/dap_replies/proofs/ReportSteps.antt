@@ -26,11 +26,11 @@ use Rattle.dap_history.specs.Reports.{outputs, from_next, put_in_at, put_in_by, 
 use Rattle.dap_history.specs.declared.situation.Situation.TheVariants.{Ended}
 use Rattle.dap_history.proofs.Told.{numbers_in}
 use Rattle.dap_history.proofs.Outputs.{told_numbers, outputs_numbers, outputs_mark}
-use Rattle.dap_phase.specs.declared.phase.Phase.TheVariants as phase
-use Rattle.dap_phase.specs.declared.phase.Target.{Target}
-use Rattle.dap_phase.specs.Runs.{OrderedRun, begun_run, heading_in, with_waiting}
-use Rattle.dap_phase.specs.Phases.{IsTarget, IsDebuggee, IsRun, IsPhase}
-use Rattle.dap_phase.proofs.Units.{one_program}
+use Rattle.dap_replies.specs.declared.phase.Phase.TheVariants as phase
+use Rattle.dap_replies.specs.declared.phase.Target.{Target}
+use Rattle.dap_replies.specs.Runs.{OrderedRun, begun_run, heading_in, with_waiting}
+use Rattle.dap_replies.specs.Phases.{IsTarget, IsDebuggee, IsRun, IsPhase}
+use Rattle.dap_replies.proofs.Units.{one_program}
 use Rattle.dap_replies.specs.Replied.{report_step}
 use Rattle.dap_replies.specs.Reporting.{fresh, outputs_after, with_told, ContinuesRun, standing}
 use Rattle.dap_replies.proofs.Stays.{situation_stays, settings_stay, launched_stays, last_run_stays, runs_stay, plan_stays, waiting_plan_stays, waiting_pause_stays, held_stays}

@@ -29,10 +29,10 @@ use Rattle.dap_history.specs.Running.{goes, resumes, first_mode, first_logs, ent
 use Rattle.dap_history.specs.Reactions.{Start, Resume, End, Retreat}
 use Rattle.dap_history.proofs.Told.{numbers_in, numbers_of_logs, mark_of_logs, stop_marks}
 use Rattle.dap_history.specs.Emission.{RepliesIn}
-use Rattle.dap_phase.specs.declared.phase.Phase.{Phase}
-use Rattle.dap_phase.specs.declared.phase.Phase.TheVariants as phase
-use Rattle.dap_phase.specs.declared.phase.Target.{Target}
-use Rattle.dap_phase.specs.Phases.{IsTarget, IsDebuggee, IsPhase}
+use Rattle.dap_replies.specs.declared.phase.Phase.{Phase}
+use Rattle.dap_replies.specs.declared.phase.Phase.TheVariants as phase
+use Rattle.dap_replies.specs.declared.phase.Target.{Target}
+use Rattle.dap_replies.specs.Phases.{IsTarget, IsDebuggee, IsPhase}
 use Rattle.dap_replies.specs.declared.effect.Reply.{Reply as Given}
 use Rattle.dap_msg.specs.declared.requests.resume.ResumeKind.{ResumeKind}
 use Rattle.dap_msg.specs.declared.requests.resume.RetreatKind.{RetreatKind}

@@ -12,10 +12,10 @@ use Rattle.dap_history.specs.History.{Launched}
 use Rattle.dap_history.specs.Readings.{launched}
 use Rattle.dap_history.specs.Replies.{OfProgram}
 use Rattle.dap_history.specs.Reactions.{Reaction, Refuse, Answer, Start, Resume, End, Retreat, Interrupt, for_thread}
-use Rattle.dap_phase.specs.declared.phase.Phase.{Phase}
-use Rattle.dap_phase.specs.declared.phase.Phase.TheVariants as phase
-use Rattle.dap_phase.specs.declared.phase.Target.{Target}
-use Rattle.dap_phase.specs.Runs.{OrderedRun}
+use Rattle.dap_replies.specs.declared.phase.Phase.{Phase}
+use Rattle.dap_replies.specs.declared.phase.Phase.TheVariants as phase
+use Rattle.dap_replies.specs.declared.phase.Target.{Target}
+use Rattle.dap_replies.specs.Runs.{OrderedRun}
 use Rattle.dap_replies.specs.declared.choosing.Reaction.{Reaction as Chosen}
 use Rattle.dap_replies.specs.declared.choosing.Reaction.TheVariants as chosen
 use Rattle.dap_replies.specs.Choosing.{Chooses, launched_as}

@@ -28,11 +28,11 @@ use Rattle.dap_history.specs.Replies.{Reply, nothing, causing, OfProgram}
 use Rattle.dap_history.specs.Breakpoints.{offset, IsResolved, answer_to_line, effect_in, is_same_path}
 use Rattle.dap_history.specs.Reactions.{Reaction, Answer, SetBreakpoints, other_source, SetsOf, Sets, Reacts}
 use Rattle.dap_history.specs.Emission.{RepliesIn}
-use Rattle.dap_phase.specs.declared.phase.Phase.{Phase}
-use Rattle.dap_phase.specs.declared.phase.Phase.TheVariants as phase
-use Rattle.dap_phase.specs.declared.phase.Target.{Target}
-use Rattle.dap_phase.specs.Runs.{OrderedRun, heading_in, ordered_to_hold}
-use Rattle.dap_phase.specs.Phases.{situation_of, IsTarget, IsDebuggee, IsRun, IsPhase}
+use Rattle.dap_replies.specs.declared.phase.Phase.{Phase}
+use Rattle.dap_replies.specs.declared.phase.Phase.TheVariants as phase
+use Rattle.dap_replies.specs.declared.phase.Target.{Target}
+use Rattle.dap_replies.specs.Runs.{OrderedRun, heading_in, ordered_to_hold}
+use Rattle.dap_replies.specs.Phases.{situation_of, IsTarget, IsDebuggee, IsRun, IsPhase}
 use Rattle.dap_replies.specs.Replied.{HasReplied, request_step}
 use Rattle.dap_replies.specs.Answering.{without_events}
 use Rattle.dap_replies.specs.Lines.{AreAnswered, program_in}

@@ -7,10 +7,10 @@ use Rattle.dap_history.specs.Replies.{Reply}
 use Rattle.dap_history.specs.Reactions.{Reaction, reply_of, Reacts}
 use Rattle.dap_history.specs.Emission.{RepliesIn}
 use Rattle.dbg_plan.specs.Debugged.{Debugged}
-use Rattle.dap_phase.specs.declared.phase.Phase.{Phase}
-use Rattle.dap_phase.specs.declared.phase.Phase.TheVariants as phase
-use Rattle.dap_phase.specs.declared.phase.Target.{Target}
-use Rattle.dap_phase.specs.Phases.{IsPhase, situation_of}
+use Rattle.dap_replies.specs.declared.phase.Phase.{Phase}
+use Rattle.dap_replies.specs.declared.phase.Phase.TheVariants as phase
+use Rattle.dap_replies.specs.declared.phase.Target.{Target}
+use Rattle.dap_replies.specs.Phases.{IsPhase, situation_of}
 
 -- the situation of the history is that of the phase
 pub replies_there : (p : Phase) (past : History) → IsPhase p past → (command : Command) (reply : Reply)

@@ -18,11 +18,11 @@ use Rattle.dap_history.specs.History.{Effect, Step, History, messages}
 use Rattle.dap_history.specs.ReadingLaws.{ReadingsGoOn}
 use Rattle.dap_history.specs.Readings.{step_mark, situation, settings_by, settings, launched, go, last_run, runs, end_of, position, numbers, numbers_told, plan, waiting_plan, is_pause, waiting_pause, hold_mark, is_held}
 use Rattle.dap_history.specs.Replies.{nothing, refused}
-use Rattle.dap_phase.specs.declared.phase.Phase.{Phase}
-use Rattle.dap_phase.specs.declared.phase.Phase.TheVariants as phase
-use Rattle.dap_phase.specs.declared.phase.Target.{Target}
-use Rattle.dap_phase.specs.Runs.{OrderedRun, heading_in}
-use Rattle.dap_phase.specs.Phases.{IsUnlaunched, IsTarget, IsDebuggee, IsRun, IsPhase, Keeps}
+use Rattle.dap_replies.specs.declared.phase.Phase.{Phase}
+use Rattle.dap_replies.specs.declared.phase.Phase.TheVariants as phase
+use Rattle.dap_replies.specs.declared.phase.Target.{Target}
+use Rattle.dap_replies.specs.Runs.{OrderedRun, heading_in}
+use Rattle.dap_replies.specs.Phases.{IsUnlaunched, IsTarget, IsDebuggee, IsRun, IsPhase, Keeps}
 use Rattle.dap_replies.specs.Replied.{request_step}
 
 -- ---- readings that stay

@@ -12,9 +12,9 @@ use Rattle.dap_history.specs.ReadingLaws.{ReadingsGoOn}
 use Rattle.dap_history.specs.Readings.{answer_mark, settings_of, is_pause}
 use Rattle.dap_history.specs.Replies.{Reply, nothing, answered}
 use Rattle.dap_history.specs.Emission.{RepliesIn}
-use Rattle.dap_phase.specs.declared.phase.Phase.{Phase}
-use Rattle.dap_phase.specs.declared.phase.Phase.TheVariants as phase
-use Rattle.dap_phase.specs.Phases.{IsPhase, situation_of}
+use Rattle.dap_replies.specs.declared.phase.Phase.{Phase}
+use Rattle.dap_replies.specs.declared.phase.Phase.TheVariants as phase
+use Rattle.dap_replies.specs.Phases.{IsPhase, situation_of}
 use Rattle.dap_replies.specs.Replied.{HasReplied, request_step}
 use Rattle.dap_replies.specs.Going.{IsAtStop}
 use Rattle.dap_replies.specs.Answering.{Leaves, without_events}

@@ -5,7 +5,7 @@ use Rattle.dap_msg.specs.declared.command.Command.TheVariants as command
 use Rattle.dap_msg.specs.declared.outgoing.Body.{Body}
 use Rattle.dap_msg.specs.declared.outgoing.Refusal.{Refusal}
 use Rattle.dbg_runner.specs.declared.order.Order.{Order}
-use Rattle.dap_phase.specs.declared.phase.Phase.{Phase}
+use Rattle.dap_replies.specs.declared.phase.Phase.{Phase}
 use Rattle.dap_replies.specs.declared.effect.Reply.{Reply as Given}
 use Rattle.dap_replies.specs.Going.{IsAtStop}
 

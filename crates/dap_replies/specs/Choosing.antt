@@ -11,10 +11,10 @@ use Rattle.dbg_runner.specs.Reported.{text_of}
 use Rattle.dap_history.specs.History.{Launched, History}
 use Rattle.dap_history.specs.Readings.{settings_of}
 use Rattle.dap_history.specs.Reactions.{Reaction, Refuse, Answer, SetBreakpoints, Start, Resume, End, Retreat, Interrupt, Close, Reacts}
-use Rattle.dap_phase.specs.declared.phase.Phase.{Phase}
-use Rattle.dap_phase.specs.declared.phase.Phase.TheVariants as phase
-use Rattle.dap_phase.specs.declared.phase.Target.{Target}
-use Rattle.dap_phase.specs.Phases.{IsPhase, situation_of}
+use Rattle.dap_replies.specs.declared.phase.Phase.{Phase}
+use Rattle.dap_replies.specs.declared.phase.Phase.TheVariants as phase
+use Rattle.dap_replies.specs.declared.phase.Target.{Target}
+use Rattle.dap_replies.specs.Phases.{IsPhase, situation_of}
 use Rattle.dap_replies.specs.declared.choosing.Reaction.{Reaction as Chosen}
 use Rattle.dap_replies.specs.declared.choosing.Reaction.TheVariants as chosen
 use Rattle.dap_replies.specs.declared.effect.Reply.{Reply as Given}

@@ -12,10 +12,10 @@ use Rattle.dbg_runner.specs.Orders.{plain_order}
 use Rattle.dbg_runner.specs.Plain.{Go, Hold, goes_back}
 use Rattle.dbg_runner.specs.Reported.{heading}
 use Rattle.dap_history.specs.Replies.{exited_events, stop_of, stopped_events}
-use Rattle.dap_phase.specs.Runs.{OrderedRun, begun_run, ordered_to_hold}
-use Rattle.dap_phase.specs.declared.phase.Phase.{Phase}
-use Rattle.dap_phase.specs.declared.phase.Phase.TheVariants as phase
-use Rattle.dap_phase.specs.declared.phase.Target.{Target}
+use Rattle.dap_replies.specs.Runs.{OrderedRun, begun_run, ordered_to_hold}
+use Rattle.dap_replies.specs.declared.phase.Phase.{Phase}
+use Rattle.dap_replies.specs.declared.phase.Phase.TheVariants as phase
+use Rattle.dap_replies.specs.declared.phase.Target.{Target}
 use Rattle.dap_replies.specs.declared.effect.Reply.{Reply}
 
 -- after these events the debuggee goes on in a further run

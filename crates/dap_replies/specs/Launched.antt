@@ -8,8 +8,8 @@ use Rattle.pl0_tree.specs.declared.program.Tree.{Tree}
 use Rattle.pl0_unit.specs.declared.unit.Unit.{Unit as Compiled}
 use Rattle.dbg_plan.specs.Trail.{new_trail}
 use Rattle.dbg_plan.specs.Debugged.{Debugged}
-use Rattle.dap_phase.specs.declared.phase.Phase.TheVariants as phase
-use Rattle.dap_phase.specs.declared.phase.Target.{Target}
+use Rattle.dap_replies.specs.declared.phase.Phase.TheVariants as phase
+use Rattle.dap_replies.specs.declared.phase.Target.{Target}
 use Rattle.dap_replies.specs.declared.effect.Reply.{Reply as Given}
 
 -- the target of a launched program, before any run was ordered

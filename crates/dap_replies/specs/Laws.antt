@@ -4,8 +4,8 @@ use Rattle.dbg_runner.specs.Plain.{PlainReport}
 use Rattle.dbg_runner.specs.declared.outcome.SliceOutcome.TheVariants as slice
 use Rattle.dap_history.specs.History.{Content, Step, History}
 use Rattle.dap_history.specs.Replies.{nothing}
-use Rattle.dap_phase.specs.declared.phase.Phase.{Phase}
-use Rattle.dap_phase.specs.Phases.{IsPhase}
+use Rattle.dap_replies.specs.declared.phase.Phase.{Phase}
+use Rattle.dap_replies.specs.Phases.{IsPhase}
 use Rattle.dap_replies.specs.Replied.{step_of, IsQuiet}
 
 -- the step of a content that is no request

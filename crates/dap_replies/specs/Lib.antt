@@ -1,9 +1,15 @@
--- Public contracts cite the first two modules.
+-- Public contracts cite the first four modules.
+-- the run that the runner has
+pub mod Runs
+-- which histories a phase represents
+pub mod Phases
 -- the contract of the functions that handle an item
 pub mod Replied
 -- the laws of phases and of quiet reports
 pub mod Laws
 -- Only private contracts cite the others.
+-- what the fields of a run mean
+pub mod RunFields
 -- what a reaction is in a phase, and what it is to carry it out
 pub mod Choosing
 -- replies after which the phase is as before

@@ -9,9 +9,9 @@ use Rattle.dbg_plan.specs.declared.resolving.Resolution.{Resolution}
 use Rattle.dbg_plan.specs.declared.resolving.Resolution.TheVariants.{At}
 use Rattle.dap_history.specs.Breakpoints.{IsResolved, answer_to_line}
 use Rattle.pl0_unit.specs.declared.unit.Unit.{Unit as Compiled}
-use Rattle.dap_phase.specs.declared.phase.Phase.{Phase}
-use Rattle.dap_phase.specs.declared.phase.Phase.TheVariants as phase
-use Rattle.dap_phase.specs.declared.phase.Target.{Target}
+use Rattle.dap_replies.specs.declared.phase.Phase.{Phase}
+use Rattle.dap_replies.specs.declared.phase.Phase.TheVariants as phase
+use Rattle.dap_replies.specs.declared.phase.Target.{Target}
 
 -- Lines of the program's source have these answers and these breakpoints.
 pub record AreAnswered (main : Block) (less : ℕ) (lines : List SourceBreakpoint) (answers : List BreakpointAnswer)

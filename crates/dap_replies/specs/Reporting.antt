@@ -11,11 +11,11 @@ use Rattle.dbg_runner.specs.declared.outcome.SliceOutcome.TheVariants as slice
 use Rattle.dbg_runner.specs.Reported.{Reported, plain_report}
 use Rattle.dap_history.specs.History.{History, Effect}
 use Rattle.dap_history.specs.Replies.{log_events}
-use Rattle.dap_phase.specs.declared.phase.Target.{Target}
-use Rattle.dap_phase.specs.declared.phase.Phase.{Phase}
-use Rattle.dap_phase.specs.declared.phase.Phase.TheVariants as phase
-use Rattle.dap_phase.specs.Runs.{OrderedRun, heading_in}
-use Rattle.dap_phase.specs.Phases.{IsPhase}
+use Rattle.dap_replies.specs.declared.phase.Target.{Target}
+use Rattle.dap_replies.specs.declared.phase.Phase.{Phase}
+use Rattle.dap_replies.specs.declared.phase.Phase.TheVariants as phase
+use Rattle.dap_replies.specs.Runs.{OrderedRun, heading_in}
+use Rattle.dap_replies.specs.Phases.{IsPhase}
 use Rattle.dap_replies.specs.declared.effect.Effect.{Effect as Done}
 use Rattle.dap_replies.specs.Replied.{DoesEffect, report_step}
 

@@ -9,17 +9,17 @@ ghost use Rattle.pl0_machine.specs.Machine.{program_of};
 ghost use Rattle.dbg_plan.specs.Breakpoints.{plain_breakpoints};
 ghost use Rattle.dbg_plan.specs.Plans.{IsPlanOf};
 ghost use Rattle.dap_history.specs.Breakpoints.{offset, IsAskedAs, AreAskedAs, answer_to_line, is_same_path};
-ghost use Rattle.dap_phase.specs.declared.phase.Phase.{Phase};
+ghost use Rattle.dap_replies.specs.declared.phase.Phase.{Phase};
 ghost use Rattle.dap_replies.specs.Choosing.{Chooses, MakesNothing};
 ghost use Rattle.dap_replies.specs.Lines.{AreAnswered, IsAtStep, program_in};
 ghost use Rattle.dap_replies.specs.Replied.{HasNoProgram};
 
 use crate::choosing::Reaction;
+use crate::phase::{Phase, Target};
 use dap_msg::{
     Body, BreakpointAnswer, BreakpointRefusal, InitializeArguments, Items, Refusal,
     SetBreakpointsArguments, SourceBreakpoint, Text,
 };
-use dap_phase::{Phase, Target};
 use dbg_plan::{Plan, Resolution, SourceBreakpoint as AskedLine, resolve};
 use pl0_unit::Unit;
 use std::alloc::{AllocError, Global};

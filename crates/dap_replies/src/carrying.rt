@@ -1,19 +1,19 @@
 //! Carries out the reaction to a command: the debuggee, the run and the orders are touched here, not where it is chosen.
 
 ghost use Rattle.std.specs.Prelude.{IfOk, IsOk};
-ghost use Rattle.dap_phase.specs.declared.phase.Phase.TheVariants as phase_is;
+ghost use Rattle.dap_replies.specs.declared.phase.Phase.TheVariants as phase_is;
 ghost use Rattle.dap_replies.specs.declared.choosing.Reaction.TheVariants as reaction_is;
 ghost use Rattle.dap_replies.specs.Choosing.{Carries, FitsIn, MakesNothing};
 
 use crate::choosing::Reaction;
 use crate::effect::Reply;
 use crate::pausing::interrupt;
+use crate::phase::Phase;
 use crate::planning::set_plan;
 use crate::refusing::{answer, refuse, without_events};
 use crate::running::{end, resume, retreat, start};
 use dap_history::reading_laws;
 use dap_msg::{Body, InitializeArguments};
-use dap_phase::Phase;
 use dbg_runner::Order;
 use std::alloc::{AllocError, Global};
 

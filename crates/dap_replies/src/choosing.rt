@@ -9,12 +9,12 @@ ghost use Rattle.dap_replies.specs.Choosing.{Chooses, MakesNothing};
 ghost use Rattle.dap_replies.specs.Replied.{IsConfigured, NothingIsShown, NothingMoves, TakesNoMemory};
 
 use crate::breakpoints::set_breakpoints;
+use crate::phase::Phase;
 use dap_inspection::ask;
 use dap_msg::{
     Body, BreakpointAnswer, Command, InitializeArguments, Items, Question, Refusal, ResumeKind,
     RetreatKind, ThreadArguments,
 };
-use dap_phase::Phase;
 use dbg_plan::Plan;
 use std::alloc::{AllocError, Global};
 

@@ -1,7 +1,7 @@
 //! What follows a request, a file or a report.
 
+use crate::phase::Phase;
 use dap_msg::{Body, EventBody, Items, Refusal};
-use dap_phase::Phase;
 use dbg_runner::Order;
 
 /// What follows a request, a file or a report, after its answer if it has one.

@@ -3,16 +3,17 @@
 ghost use Rattle.std.specs.Prelude.{◌≡◌, None, IfOk, IsOk, option_map};
 ghost use Rattle.dap_history.specs.History.{History};
 ghost use Rattle.dap_history.specs.Launching as launching;
-ghost use Rattle.dap_phase.specs.Phases.{IsPhase};
-ghost use Rattle.dap_phase.specs.declared.phase.Phase.TheVariants as phase_is;
+ghost use Rattle.dap_replies.specs.Phases.{IsPhase};
+ghost use Rattle.dap_replies.specs.declared.phase.Phase.TheVariants as phase_is;
 ghost use Rattle.dap_replies.specs.Launched.{HasBegun};
 ghost use Rattle.dap_replies.specs.Replied.{HasLaunched};
 
 use crate::effect::{Effect, Reply};
+use crate::phase::{Phase, Target};
 use crate::refusing::refuse;
+use crate::unstarted::Unstarted;
 use dap_history::{Launch, reading_laws};
 use dap_msg::{Body, EventBody, InitializeArguments, Items, LaunchArguments, Refusal};
-use dap_phase::{Phase, Target, Unstarted};
 use pl0_code::{CodeFault, compile};
 use pl0_syntax::{FaultKind, Place, SyntaxFault, Tree, parse};
 use std::alloc::{AllocError, Global};

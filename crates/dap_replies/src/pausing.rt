@@ -5,10 +5,11 @@ ghost use Rattle.dap_replies.specs.Choosing.{Carries, FitsIn};
 ghost use Rattle.dap_replies.specs.Going.{WaitsToPause};
 
 use crate::effect::Reply;
+use crate::phase::{Phase, Target};
 use crate::refusing::without_events;
+use crate::run::Run;
 use dap_history::reading_laws;
 use dap_msg::Body;
-use dap_phase::{Phase, Run, Target};
 use std::alloc::Global;
 
 /// Interrupts the run.

@@ -6,9 +6,9 @@ ghost use Rattle.dap_replies.specs.Answering.{without_events};
 ghost use Rattle.dap_replies.specs.Choosing.{Carries};
 
 use crate::effect::{Effect, Reply};
+use crate::phase::Phase;
 use dap_history::reading_laws;
 use dap_msg::{Body, Items, Refusal};
-use dap_phase::Phase;
 use dbg_runner::Order;
 use std::alloc::Global;
 

@@ -2,14 +2,14 @@
 
 ghost use Rattle.std.specs.Prelude.{IfOk, IsOk};
 ghost use Rattle.dap_msg.specs.Laws.{IsWithin};
-ghost use Rattle.dap_phase.specs.Phases.{WantsNoFile};
+ghost use Rattle.dap_replies.specs.Phases.{WantsNoFile};
 ghost use Rattle.dap_replies.specs.Replied.{Replies, TakesNoMemory};
 
 use crate::carrying::carry_out;
 use crate::choosing::choose;
 use crate::effect::Reply;
+use crate::phase::Phase;
 use dap_msg::Command;
-use dap_phase::Phase;
 use std::alloc::{AllocError, Global};
 
 /// Replies to a command that needs no file.

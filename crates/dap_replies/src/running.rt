@@ -2,7 +2,7 @@
 
 ghost use Rattle.std.specs.Prelude.{◌≡◌, if◌then◌else◌, IfOk};
 ghost use Rattle.dbg_plan.specs.declared.mode.Mode.TheVariants as mode_is;
-ghost use Rattle.dap_phase.specs.declared.phase.Phase.TheVariants as phase_is;
+ghost use Rattle.dap_replies.specs.declared.phase.Phase.TheVariants as phase_is;
 ghost use Rattle.dap_history.specs.Replies.{log_events};
 ghost use Rattle.dap_history.specs.Running.{body_of, mode_of, retreat_mode};
 ghost use Rattle.dap_replies.specs.declared.choosing.Reaction.TheVariants as reaction_is;
@@ -11,10 +11,12 @@ ghost use Rattle.dap_replies.specs.Going.{HasGone, HasStopped, HasEnded};
 
 use crate::effect::{Effect, Reply};
 use crate::logging::push_logs;
+use crate::phase::{Phase, Target};
 use crate::reporting::stop_reason;
+use crate::run::Run;
+use crate::unstarted::Unstarted;
 use dap_history::reading_laws;
 use dap_msg::{Body, EventBody, Items, ResumeKind, RetreatKind};
-use dap_phase::{Phase, Run, Target, Unstarted};
 use dbg_plan::{Logs, Mode, Reason};
 use dbg_runner::StoppedDebuggee;
 use std::alloc::{AllocError, Global};

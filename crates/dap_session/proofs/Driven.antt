@@ -16,8 +16,8 @@ use Rattle.dap_history.specs.Events.{NoMemory as NoMemoryCame}
 use Rattle.dap_history.specs.Output.{frames_from}
 use Rattle.dap_history.specs.Reports.{Accepts}
 use Rattle.dap_history.specs.Interleaving.{Load, Awaits, AwaitsNone, Interleaves}
-use Rattle.dap_phase.specs.declared.phase.Phase.{Phase}
-use Rattle.dap_phase.specs.Phases.{launch_of}
+use Rattle.dap_replies.specs.declared.phase.Phase.{Phase}
+use Rattle.dap_replies.specs.Phases.{launch_of}
 use Rattle.dap_session.specs.declared.want.Want.{Want}
 use Rattle.dap_session.specs.declared.want.Want.TheVariants as want_is
 use Rattle.dap_session.specs.Ports.{Ports, load_of}

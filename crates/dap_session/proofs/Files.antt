@@ -11,7 +11,7 @@ use Rattle.dap_history.specs.declared.launch.Launch.{Launch}
 use Rattle.dap_history.specs.History.{Loaded, History}
 use Rattle.dap_history.specs.Emission.{IsAfter}
 use Rattle.dap_history.specs.Events.{Rest, File, IsTaking, no_content, Takes, Loads, LeadsByFile, LeadsByEvent}
-use Rattle.dap_phase.specs.Phases.{launch_of}
+use Rattle.dap_replies.specs.Phases.{launch_of}
 use Rattle.dap_session.specs.declared.ports.Event.TheVariants as event
 use Rattle.dap_session.specs.Incoming.{incoming_of}
 use Rattle.dap_session.specs.Ports.{Ports}

@@ -14,8 +14,8 @@ use Rattle.dap_history.specs.ReadingLaws.{ReadingsGoOn}
 use Rattle.dap_history.specs.Emission.{Causes}
 use Rattle.dap_history.specs.Events.{IsTaking}
 use Rattle.dap_history.proofs.Readings.{or_else-none}
-use Rattle.dap_phase.specs.declared.phase.Phase.{Phase}
-use Rattle.dap_phase.specs.Phases.{IsPhase, launch_of}
+use Rattle.dap_replies.specs.declared.phase.Phase.{Phase}
+use Rattle.dap_replies.specs.Phases.{IsPhase, launch_of}
 use Rattle.dap_replies.specs.declared.effect.Effect.{Effect as Done}
 use Rattle.dap_replies.specs.declared.effect.Reply.{Reply as Given}
 use Rattle.dap_replies.specs.Replied.{DoesEffect, GivesReply, step_of}

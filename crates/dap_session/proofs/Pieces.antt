@@ -7,7 +7,7 @@ use Rattle.dap_history.specs.declared.fault.SessionFault.TheVariants.{NoMemory}
 use Rattle.dap_history.specs.declared.launch.Launch.{Launch}
 use Rattle.dap_history.specs.History.{History}
 use Rattle.dap_history.specs.Events.{Rest, Piece, IsTaking, no_content, LeadsByPiece}
-use Rattle.dap_phase.specs.Phases.{IsPhase, launch_of}
+use Rattle.dap_replies.specs.Phases.{IsPhase, launch_of}
 use Rattle.dap_session.specs.Ports.{Ports}
 use Rattle.dap_session.specs.State.{State, GoesOn}
 use Rattle.dap_session.specs.Taking.{TowardByPiece, Toward}

@@ -11,11 +11,11 @@ use Rattle.dap_history.specs.History.{Accepted, History}
 use Rattle.dap_history.specs.Readings.{closing_report, last_run, position}
 use Rattle.dap_history.specs.Reports.{Accepts}
 use Rattle.dap_history.specs.Events.{Rest, Report, IsTaking, LeadsByEvent}
-use Rattle.dap_phase.specs.declared.phase.Phase.{Phase}
-use Rattle.dap_phase.specs.declared.phase.Phase.TheVariants as phase
-use Rattle.dap_phase.specs.declared.phase.Target.{Target}
-use Rattle.dap_phase.specs.Runs.{OrderedRun, heading_in}
-use Rattle.dap_phase.specs.Phases.{launch_of, IsPhase}
+use Rattle.dap_replies.specs.declared.phase.Phase.{Phase}
+use Rattle.dap_replies.specs.declared.phase.Phase.TheVariants as phase
+use Rattle.dap_replies.specs.declared.phase.Target.{Target}
+use Rattle.dap_replies.specs.Runs.{OrderedRun, heading_in}
+use Rattle.dap_replies.specs.Phases.{launch_of, IsPhase}
 use Rattle.dap_session.specs.Ports.{Ports}
 use Rattle.dap_session.specs.State.{State, GoesOn}
 use Rattle.dap_session.specs.Taking.{Expects, Toward}

@@ -13,9 +13,9 @@ use Rattle.dap_history.specs.History.{Content, History}
 use Rattle.dap_history.specs.Readings.{situation}
 use Rattle.dap_history.specs.Launching.{wanted_by, wanted_in}
 use Rattle.dap_history.specs.Events.{IsTaking}
-use Rattle.dap_phase.specs.declared.phase.Phase.{Phase}
-use Rattle.dap_phase.specs.declared.phase.Phase.TheVariants as phase
-use Rattle.dap_phase.specs.Phases.{situation_of, launch_of, WantsNoFile, IsPhase}
+use Rattle.dap_replies.specs.declared.phase.Phase.{Phase}
+use Rattle.dap_replies.specs.declared.phase.Phase.TheVariants as phase
+use Rattle.dap_replies.specs.Phases.{situation_of, launch_of, WantsNoFile, IsPhase}
 use Rattle.dap_session.specs.Ports.{Ports}
 use Rattle.dap_session.specs.State.{State}
 use Rattle.dap_session.specs.Handling.{HasHistory, HandlesItem, LeadsByContent, TakesContent, HandlesContent}

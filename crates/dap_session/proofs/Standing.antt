@@ -15,8 +15,8 @@ use Rattle.dap_history.specs.Readings.{closing, ending_of}
 use Rattle.dap_history.specs.Emission.{IsAfter}
 use Rattle.dap_history.specs.Events as event
 use Rattle.dap_history.specs.Events.{Incoming, Rest, only_bytes, IsHistoryOf, IsTaking, TakesSome, no_content, one_content, Rests, closed, open_ended, faulty, waits, Takes, Loads, LeadsByPiece, LeadsByFile, LeadsByEvent, LeadsByEvents}
-use Rattle.dap_phase.specs.declared.phase.Phase.TheVariants as phase
-use Rattle.dap_phase.specs.Phases.{launch_of}
+use Rattle.dap_replies.specs.declared.phase.Phase.TheVariants as phase
+use Rattle.dap_replies.specs.Phases.{launch_of}
 use Rattle.dap_session.specs.declared.want.Want.{Want}
 use Rattle.dap_session.specs.declared.want.Want.TheVariants as want_is
 use Rattle.dap_session.specs.Ports.{Ports}

@@ -14,7 +14,7 @@ use Rattle.dap_history.specs.Readings.{situation, ending_of}
 use Rattle.dap_history.specs.Launching.{wanted_in}
 use Rattle.dap_history.specs.Emission.{IsAfter}
 use Rattle.dap_history.specs.Events.{Incoming, Rest, IsTaking, Takes, LeadsByEvent}
-use Rattle.dap_phase.specs.Phases.{launch_of}
+use Rattle.dap_replies.specs.Phases.{launch_of}
 use Rattle.dap_session.specs.Ports.{PushedOrders, Ports}
 use Rattle.dap_session.specs.Building.{IsNotPushed}
 use Rattle.dap_session.specs.Sending.{Sends, RefusesNothing, BreaksOff}

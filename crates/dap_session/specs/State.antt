@@ -10,8 +10,8 @@ use Rattle.dap_history.specs.declared.fault.SessionFault.{SessionFault}
 use Rattle.dap_history.specs.History.{History, next_seq}
 use Rattle.dap_history.specs.Readings.{ending_of}
 use Rattle.dap_history.specs.Events.{Incoming, Rest, IsTaking, IsHistoryOf}
-use Rattle.dap_phase.specs.declared.phase.Phase.{Phase}
-use Rattle.dap_phase.specs.Phases.{IsPhase, launch_of}
+use Rattle.dap_replies.specs.declared.phase.Phase.{Phase}
+use Rattle.dap_replies.specs.Phases.{IsPhase, launch_of}
 use Rattle.dap_session.specs.declared.want.Want.{Want}
 use Rattle.dap_session.specs.declared.want.Want.TheVariants as want_is
 

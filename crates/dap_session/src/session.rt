@@ -14,7 +14,7 @@ use crate::want::Want;
 use dap_frame::Decoder;
 use dap_history::{Closed, Ending, SessionFault, reading_laws};
 use dap_msg::FirstSeq;
-use dap_phase::Phase;
+use dap_replies::Phase;
 use std::alloc::{AllocError, Global};
 use std::marker::Model;
 
@@ -56,7 +56,7 @@ impl Session {
     ghost use Rattle.dap_history.specs.declared.fault.SessionFault.TheVariants.{NoMemory};
     ghost use Rattle.dap_history.specs.declared.ending.Ending.{Ending as AnEnding};
     ghost use Rattle.dap_history.specs.declared.ending.Ending.TheVariants as ending;
-    ghost use Rattle.dap_phase.specs.Phases.{launch_of};
+    ghost use Rattle.dap_replies.specs.Phases.{launch_of};
     ghost use Rattle.dap_session.specs.Incoming.{incoming_of};
     ghost use Rattle.dap_session.specs.Ports.{ports};
     ghost use Rattle.dap_session.specs.State.{Represents, IsOpenEnded, Wants, want_at_end};

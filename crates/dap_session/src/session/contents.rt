@@ -5,8 +5,7 @@ use crate::ports::{Orders, Out};
 use dap_frame::Front;
 use dap_history::{SessionFault, reading_laws};
 use dap_msg::{Request, message_laws, read};
-use dap_phase::Phase;
-use dap_replies::phase_laws;
+use dap_replies::{Phase, phase_laws};
 
 impl Session {
     ghost use Rattle.std.specs.Prelude.{◌≡◌, ◌<◌, length, Option, None, OnOk, IfOk, IfErr, IfSome, is_some};
@@ -16,7 +15,7 @@ impl Session {
     ghost use Rattle.dap_history.specs.declared.fault.SessionFault.TheVariants.{NoMemory};
     ghost use Rattle.dap_history.specs.History.{History};
     ghost use Rattle.dap_history.specs.Events.{Rest, IsTaking, IsInFront, Piece};
-    ghost use Rattle.dap_phase.specs.Phases.{launch_of};
+    ghost use Rattle.dap_replies.specs.Phases.{launch_of};
     ghost use Rattle.dap_session.specs.Ports.{ports};
     ghost use Rattle.dap_session.specs.State.{GoesOn};
     ghost use Rattle.dap_session.specs.Handling.{HasHistory, IsWell, HandlesContent, HandlesContents, Handles};

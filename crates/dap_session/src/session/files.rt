@@ -10,8 +10,7 @@ use super::Session;
 use crate::ports::{Orders, Out};
 use dap_history::{Launch, LoadFault, SessionFault, reading_laws};
 use dap_msg::{CommandName, InitializeArguments, Outgoing, Supported};
-use dap_phase::Phase;
-use dap_replies::Reply;
+use dap_replies::{Phase, Reply};
 use std::mem;
 
 impl Session {
@@ -21,8 +20,8 @@ impl Session {
     ghost use Rattle.dap_session.specs.Taking.{LacksMemory};
     ghost use Rattle.dap_history.specs.History.{Loaded, History, next_seq};
     ghost use Rattle.dap_history.specs.Events.{File, Rest, IsTaking};
-    ghost use Rattle.dap_phase.specs.declared.phase.Phase.TheVariants as phase_is;
-    ghost use Rattle.dap_phase.specs.Phases.{IsPhase, launch_of};
+    ghost use Rattle.dap_replies.specs.declared.phase.Phase.TheVariants as phase_is;
+    ghost use Rattle.dap_replies.specs.Phases.{IsPhase, launch_of};
     ghost use Rattle.dap_session.specs.Ports.{ports};
     ghost use Rattle.dap_session.specs.State.{GoesOn};
     ghost use Rattle.dap_session.specs.Handling.{IsWell, NeededNoMemory, HandlesItem, Handles};

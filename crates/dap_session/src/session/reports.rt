@@ -3,7 +3,7 @@
 use super::Session;
 use crate::ports::{Orders, Out};
 use dap_history::{SessionFault, reading_laws};
-use dap_phase::{Phase, Run, Target};
+use dap_replies::{Phase, Run, Target};
 use dbg_runner::Report;
 use std::mem;
 
@@ -14,9 +14,9 @@ impl Session {
     ghost use Rattle.dap_msg.specs.declared.request.FirstSeq.{FirstSeq};
     ghost use Rattle.dap_history.specs.History.{Accepted, History, next_seq};
     ghost use Rattle.dap_history.specs.Events.{Rest, IsTaking, Report as Reports};
-    ghost use Rattle.dap_phase.specs.Runs.{heading_in};
-    ghost use Rattle.dap_phase.specs.Phases.{IsPhase, launch_of};
-    ghost use Rattle.dap_phase.specs.declared.phase.Phase.TheVariants as phase_is;
+    ghost use Rattle.dap_replies.specs.Runs.{heading_in};
+    ghost use Rattle.dap_replies.specs.Phases.{IsPhase, launch_of};
+    ghost use Rattle.dap_replies.specs.declared.phase.Phase.TheVariants as phase_is;
     ghost use Rattle.dap_replies.specs.Replied.{IsQuiet};
     ghost use Rattle.dap_session.specs.Ports.{ports};
     ghost use Rattle.dap_session.specs.State.{GoesOn};

@@ -7,8 +7,7 @@ use super::Session;
 use crate::ports::{Orders, Out};
 use dap_history::{Closed, Ending, Launch, SessionFault, reading_laws};
 use dap_msg::{Command, Outgoing, Request};
-use dap_phase::Phase;
-use dap_replies::{Reply, reply};
+use dap_replies::{Phase, Reply, reply};
 use std::mem;
 
 impl Session {
@@ -16,7 +15,7 @@ impl Session {
     ghost use Rattle.dap_msg.specs.Laws.{IsWithin};
     ghost use Rattle.dap_history.specs.History.{Content, History, next_seq};
     ghost use Rattle.dap_history.specs.Events.{IsTaking};
-    ghost use Rattle.dap_phase.specs.Phases.{IsPhase, WantsNoFile, launch_of};
+    ghost use Rattle.dap_replies.specs.Phases.{IsPhase, WantsNoFile, launch_of};
     ghost use Rattle.dap_session.specs.Ports.{ports};
     ghost use Rattle.dap_session.specs.Handling.{HasHistory, IsWell, HandlesItem, HandlesContent};
 

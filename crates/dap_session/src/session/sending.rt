@@ -9,7 +9,7 @@ ghost use Rattle.dbg_runner.specs.Orders.{plain_order};
 ghost use Rattle.dap_history.specs.declared.fault.SessionFault.TheVariants.{NoMemory, SeqExhausted};
 ghost use Rattle.dap_history.specs.History.{History, with_answer};
 ghost use Rattle.dap_history.specs.Output.{frames_from};
-ghost use Rattle.dap_phase.specs.Phases.{IsPhase, launch_of};
+ghost use Rattle.dap_replies.specs.Phases.{IsPhase, launch_of};
 ghost use Rattle.dap_session.specs.Building.{plain_frames, Built, AddsFrames, IsNotBuilt, IsNotPushed, IsNotPut};
 
 use super::Session;
@@ -17,8 +17,7 @@ use crate::ports::{OrderFault, Orders, Out};
 use dap_frame::encode;
 use dap_history::{SessionFault, reading_laws};
 use dap_msg::{EventBody, Items, Outgoing, write};
-use dap_phase::Phase;
-use dap_replies::Effect;
+use dap_replies::{Effect, Phase};
 use dbg_runner::Order;
 use std::alloc::Global;
 use std::marker::Model;
@@ -39,7 +38,7 @@ impl Session {
     ghost use Rattle.std.specs.Prelude.{◌≡◌, ◌≢◌, [], None, Err, OnOk};
     ghost use Rattle.dap_history.specs.declared.fault.SessionFault.TheVariants.{NoMemory};
     ghost use Rattle.dap_history.specs.History.{Step, History, next_seq};
-    ghost use Rattle.dap_phase.specs.Phases.{IsPhase, launch_of};
+    ghost use Rattle.dap_replies.specs.Phases.{IsPhase, launch_of};
     ghost use Rattle.dap_session.specs.Ports.{ports};
     ghost use Rattle.dap_session.specs.Steps.{IsStepOf, IsStepWith, IsSent};
 

@@ -1,7 +1,7 @@
 use Rattle.std.proofs.Common.{refl, sym, subst}
 use Rattle.dap_msg.specs.declared.command.Command.TheVariants as command
 use Rattle.dap_msg.specs.declared.outgoing.Body.TheVariants as body
-use Rattle.dap_phase.specs.declared.phase.Phase.TheVariants as phase
+use Rattle.dap_replies.specs.declared.phase.Phase.TheVariants as phase
 use Rattle.dap_history.specs.Replies.{answered}
 use Rattle.dap_history.specs.Reactions.{Answer}
 use Rattle.dap_replies.specs.Replied.{Replies, request_step}

@@ -4,7 +4,7 @@ use Rattle.pl0_tree.specs.Faults.{IsTreeOf, IsFirstFault, FaultIs}
 use Rattle.pl0_tree.specs.Plain.{plain_block}
 use Rattle.dap_history.specs.Launching.{syntax}
 use Rattle.dap_msg.specs.declared.outgoing.Refusal.TheVariants as refusal
-use Rattle.dap_phase.specs.declared.phase.Phase.TheVariants as phase
+use Rattle.dap_replies.specs.declared.phase.Phase.TheVariants as phase
 use Rattle.dap_replies.specs.Answering.{without_events}
 use Rattle.dap_replies.specs.Replied.{HasLaunched}
 use Rattle.dap_replies.proofs.Launched.{launch_refused, launch_begun}

@@ -2,7 +2,7 @@ use Rattle.std.proofs.Common.{◌≡◌, ap, subst, sym, ◌∙◌}
 use Rattle.dbg_plan.specs.Breakpoints.{plain_breakpoints}
 use Rattle.dbg_plan.specs.Debugged.{Debugged}
 use Rattle.dbg_plan.specs.Plans.{Listed}
-use Rattle.dap_phase.specs.declared.phase.Phase.TheVariants as phase
+use Rattle.dap_replies.specs.declared.phase.Phase.TheVariants as phase
 use Rattle.dap_replies.specs.declared.choosing.Reaction.TheVariants as chosen
 use Rattle.dap_replies.specs.Choosing.{Carries}
 use Rattle.dap_replies.proofs.SetBreakpoints.{put_in_before_start}

@@ -2,8 +2,8 @@ use Rattle.std.proofs.Common.{◌||◌, Some, ap, subst, sym, ◌∙◌}
 use Rattle.dbg_plan.specs.Breakpoints.{plain_breakpoints}
 use Rattle.dbg_plan.specs.Plans.{Listed}
 use Rattle.dbg_runner.specs.Plain.{goes_back}
-use Rattle.dap_phase.specs.Runs.{OrderedRun, ordered_to_hold}
-use Rattle.dap_phase.specs.declared.phase.Phase.TheVariants as phase
+use Rattle.dap_replies.specs.Runs.{OrderedRun, ordered_to_hold}
+use Rattle.dap_replies.specs.declared.phase.Phase.TheVariants as phase
 use Rattle.dap_replies.specs.declared.choosing.Reaction.TheVariants as chosen
 use Rattle.dap_replies.specs.Choosing.{Carries}
 use Rattle.dap_replies.proofs.Situations.{Stop, Fault}

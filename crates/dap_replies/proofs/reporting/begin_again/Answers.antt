@@ -2,10 +2,10 @@ use Rattle.std.proofs.Common.{◌≡◌, ◌+◌, ◌++◌, ◌∷◌, [], subst
 use Rattle.dbg_runner.specs.Plain.{Go}
 use Rattle.dbg_runner.specs.Reported.{plain_report, heading}
 use Rattle.dap_history.specs.Reports.{continued_effect}
-use Rattle.dap_phase.specs.declared.phase.Phase.TheVariants as phase
-use Rattle.dap_phase.specs.declared.phase.Target.{Target}
-use Rattle.dap_phase.specs.Phases.{IsPhase}
-use Rattle.dap_phase.specs.Runs.{begun_run}
+use Rattle.dap_replies.specs.declared.phase.Phase.TheVariants as phase
+use Rattle.dap_replies.specs.declared.phase.Target.{Target}
+use Rattle.dap_replies.specs.Phases.{IsPhase}
+use Rattle.dap_replies.specs.Runs.{begun_run}
 use Rattle.dap_replies.specs.Replied.{report_step}
 use Rattle.dap_replies.specs.Reporting.{with_told}
 use Rattle.dap_replies.proofs.Begun.{with_next_run}

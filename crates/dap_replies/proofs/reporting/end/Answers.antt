@@ -4,8 +4,8 @@ use Rattle.dap_msg.specs.declared.outgoing.EventBody.TheVariants as event
 use Rattle.dbg_runner.specs.Reported.{plain_report}
 use Rattle.dap_history.specs.Replies.{reporting, exited_events}
 use Rattle.dap_history.specs.Reports.{outputs}
-use Rattle.dap_phase.specs.declared.phase.Phase.TheVariants as phase
-use Rattle.dap_phase.specs.Phases.{IsTarget, IsPhase}
+use Rattle.dap_replies.specs.declared.phase.Phase.TheVariants as phase
+use Rattle.dap_replies.specs.Phases.{IsTarget, IsPhase}
 use Rattle.dap_replies.specs.Replied.{report_step}
 use Rattle.dap_replies.proofs.ReportSteps.{outputs_as, report_ends}
 use Rattle.dap_replies.proofs.reporting.end.Goals as goal

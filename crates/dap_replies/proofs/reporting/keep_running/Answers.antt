@@ -2,8 +2,8 @@ use Rattle.std.proofs.Common.{◌++◌, ◌∷◌, [], subst, sym, refl, ap, ◌
 use Rattle.dbg_runner.specs.Reported.{plain_report}
 use Rattle.dap_history.specs.Replies.{reporting}
 use Rattle.dap_history.specs.Reports.{outputs}
-use Rattle.dap_phase.specs.declared.phase.Phase.TheVariants as phase
-use Rattle.dap_phase.specs.Phases.{IsPhase}
+use Rattle.dap_replies.specs.declared.phase.Phase.TheVariants as phase
+use Rattle.dap_replies.specs.Phases.{IsPhase}
 use Rattle.dap_replies.specs.Replied.{report_step}
 use Rattle.dap_replies.specs.Reporting.{with_told}
 use Rattle.dap_replies.proofs.Fresh.{quiet_outputs}

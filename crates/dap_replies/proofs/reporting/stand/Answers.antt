@@ -2,7 +2,7 @@ use Rattle.std.proofs.Common.{◌++◌, ◌∷◌, [], subst, sym, refl, ap, ◌
 use Rattle.dbg_runner.specs.Reported.{plain_report}
 use Rattle.dap_history.specs.Replies.{stopped_events}
 use Rattle.dap_history.specs.Reports.{stopped_effect}
-use Rattle.dap_phase.specs.Phases.{IsPhase}
+use Rattle.dap_replies.specs.Phases.{IsPhase}
 use Rattle.dap_replies.specs.Replied.{report_step}
 use Rattle.dap_replies.specs.Reporting.{with_told, standing}
 use Rattle.dap_replies.proofs.ReportSteps.{outputs_as, report_stands}

@@ -2,7 +2,7 @@ use Rattle.std.proofs.Common.{sym, ◌∙◌}
 use Rattle.std.proofs.lemmas.Result.{IfOk-weaker}
 use Rattle.dap_msg.specs.declared.outgoing.Body.TheVariants as body
 use Rattle.dbg_plan.specs.declared.mode.Mode.TheVariants as mode
-use Rattle.dap_phase.specs.declared.phase.Phase.TheVariants as phase
+use Rattle.dap_replies.specs.declared.phase.Phase.TheVariants as phase
 use Rattle.dap_replies.specs.declared.choosing.Reaction.TheVariants.{Start}
 use Rattle.dap_replies.specs.Choosing.{Carries}
 use Rattle.dap_replies.specs.Going.{HasGone, HasStopped}

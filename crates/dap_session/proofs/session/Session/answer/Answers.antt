@@ -1,7 +1,7 @@
 use Rattle.std.proofs.Common.{refl, sym, ◌∙◌, ap, subst, ◌++◌, ◌∷◌, []}
 use Rattle.std.proofs.lemmas.Result.{err_from_is_err_and}
 use Rattle.dap_msg.specs.Commands.{name_of}
-use Rattle.dap_phase.specs.Phases.{IsPhase, launch_of}
+use Rattle.dap_replies.specs.Phases.{IsPhase, launch_of}
 use Rattle.dap_replies.specs.Replied.{request_step}
 use Rattle.dap_session.proofs.Items.{fails_before, fails_at_step, is_answer_step, takes_item}
 use Rattle.dap_session.proofs.session.Session.answer.Goals as goal

@@ -2,7 +2,7 @@ use Rattle.std.proofs.Common.{sym, ◌∙◌, ap, subst}
 use Rattle.std.proofs.lemmas.Result.{err_from_is_err_and}
 use Rattle.std.specs.Prelude.{Vec, option_map, ℕ}
 use Rattle.std.specs.declared.alloc.Global.{Global}
-use Rattle.dap_phase.specs.Phases.{IsPhase, launch_of}
+use Rattle.dap_replies.specs.Phases.{IsPhase, launch_of}
 use Rattle.dap_session.proofs.Files.{file_lost, load_fails, file_taken, file_passed, lacking, not_lacking}
 use Rattle.dap_session.specs.Ports.{plain_file}
 use Rattle.dap_session.proofs.session.Session.take_file.Goals as goal

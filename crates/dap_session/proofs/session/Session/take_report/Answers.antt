@@ -1,6 +1,6 @@
 use Rattle.std.proofs.Common.{inl, inr, sym, ◌∙◌, ap, subst}
 use Rattle.dbg_runner.specs.Reported.{plain_report}
-use Rattle.dap_phase.specs.Phases.{IsPhase, launch_of}
+use Rattle.dap_replies.specs.Phases.{IsPhase, launch_of}
 use Rattle.dap_session.specs.Taking.{Expects}
 use Rattle.dap_session.proofs.Reports.{report_passed, report_taken}
 use Rattle.dap_session.proofs.session.Session.take_report.Goals as goal

@@ -4,8 +4,8 @@ use Rattle.std.specs.Arc.{arc_value}
 use Rattle.dbg_plan.specs.Plans.{Listed, breakpoints_of}
 use Rattle.dbg_plan.specs.Breakpoints.{plain_breakpoints}
 use Rattle.dbg_plan.specs.Counting.{MayBePlanOf}
-use Rattle.dap_phase.specs.declared.run.Run.TheInside.{Inside}
-use Rattle.dap_phase.specs.Runs.{OrderedRun}
+use Rattle.dap_replies.specs.declared.run.Run.TheInside.{Inside}
+use Rattle.dap_replies.specs.Runs.{OrderedRun}
 
 -- what contracts see of a run with these fields
 abbrev pub ordered_of : Inside → OrderedRun

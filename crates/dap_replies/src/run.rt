@@ -6,7 +6,7 @@ ghost use Rattle.dbg_plan.specs.Breakpoints.{plain_breakpoints};
 ghost use Rattle.dbg_plan.specs.Counting.{MayBePlanOf};
 ghost use Rattle.dbg_plan.specs.Debugged.{IsConsidered};
 ghost use Rattle.dbg_plan.specs.Plans.{Listed};
-ghost use Rattle.dap_phase.specs.Runs.{with_waiting};
+ghost use Rattle.dap_replies.specs.Runs.{with_waiting};
 
 use dbg_plan::{Debuggee, Mode, Plan, same_plan, share_plan};
 use dbg_runner::{Order, Report, StoppedDebuggee, goes_back};
@@ -31,7 +31,7 @@ pub struct Run {
 }
 
 impl Model for Run {
-    ghost use Rattle.dap_phase.specs.Runs.{OrderedRun};
+    ghost use Rattle.dap_replies.specs.Runs.{OrderedRun};
     ghost use Rattle.pl0_unit.specs.contracts.unit.Unit as compiled;
     ghost use Rattle.dbg_plan.specs.Breakpoints.{breakpoint_code};
     ghost use Rattle.std.specs.Coded.{codes};
@@ -40,7 +40,7 @@ impl Model for Run {
 
     ghost coded = { Prim.hlevel (codes, compiled.the_row.coded, breakpoint_code) };
 
-    ghost use Rattle.dap_phase.specs.RunFields.{ordered_of, IsFitting};
+    ghost use Rattle.dap_replies.specs.RunFields.{ordered_of, IsFitting};
 
     ghost view = { ordered_of };
 
@@ -56,7 +56,7 @@ impl Run {
     ghost use Rattle.dbg_runner.specs.Plain.{Go, Hold, heading_of, goes_back as is_backward};
     ghost use Rattle.dbg_runner.specs.Orders.{plain_order};
     ghost use Rattle.dbg_runner.specs.Reported.{heading, plain_report, text_of};
-    ghost use Rattle.dap_phase.specs.Runs.{begun_run, heading_in, ordered_to_hold, with_waiting};
+    ghost use Rattle.dap_replies.specs.Runs.{begun_run, heading_in, ordered_to_hold, with_waiting};
 
     /// Begins the run of this number, and returns it with the order to the runner. Nothing waits.
     ///

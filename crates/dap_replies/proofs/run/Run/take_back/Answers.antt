@@ -1,7 +1,7 @@
 use Rattle.std.proofs.Common.{sym, option_map}
 use Rattle.std.specs.Arc.{arc_value}
-use Rattle.dap_phase.proofs.Units.{fits_also}
-use Rattle.dap_phase.proofs.run.Run.take_back.Goals as goal
+use Rattle.dap_replies.proofs.Units.{fits_also}
+use Rattle.dap_replies.proofs.run.Run.take_back.Goals as goal
 
 pub with_plan-requires-clause-fits : goal.with_plan-requires-clause-fits
 with_plan-requires-clause-fits c =

@@ -13,10 +13,10 @@ use Rattle.dap_history.specs.declared.situation.Situation.TheVariants as situati
 use Rattle.dap_history.specs.Plans.{no_plan}
 use Rattle.dap_history.specs.History.{History}
 use Rattle.dap_history.specs.Readings.{situation, settings, launched, last_run, runs, position, numbers_told, plan, waiting_plan, waiting_pause, is_held}
-use Rattle.dap_phase.specs.declared.phase.Phase.{Phase}
-use Rattle.dap_phase.specs.declared.phase.Phase.TheVariants as phase
-use Rattle.dap_phase.specs.declared.phase.Target.{Target}
-use Rattle.dap_phase.specs.Runs.{OrderedRun, heading_in}
+use Rattle.dap_replies.specs.declared.phase.Phase.{Phase}
+use Rattle.dap_replies.specs.declared.phase.Phase.TheVariants as phase
+use Rattle.dap_replies.specs.declared.phase.Target.{Target}
+use Rattle.dap_replies.specs.Runs.{OrderedRun, heading_in}
 
 -- ---- the situation, and what waits
 
