@@ -15,7 +15,7 @@ use Rattle.dap_msg.specs.declared.question.Shown.{Shown}
 use Rattle.dap_msg.specs.declared.outgoing.Refusal.{Refusal}
 use Rattle.dap_msg.specs.declared.outgoing.Refusal.TheVariants as refusal
 use Rattle.dap_history.specs.Inspection.{EvaluatesIn, result_answer}
-use Rattle.dap_inspection.specs.Evaluating.{IsReadIn}
+use Rattle.dap_inspection.specs.Evaluate.{IsReadIn}
 use Rattle.dap_inspection.proofs.AliveFrames.{by_id}
 
 -- the next step of a frame that was shown is a step of the program

@@ -18,7 +18,7 @@ use Rattle.dap_msg.specs.declared.outgoing.Variable.{Variable}
 use Rattle.dap_msg.specs.declared.question.Shown.TheVariants as shown_as
 use Rattle.dap_history.specs.Frames.{named, names_of, variables_of as variables_of_frame}
 use Rattle.dap_history.specs.Inspection.{variables as variables_answer}
-use Rattle.dap_inspection.specs.Locals.{names_in, numbers_of}
+use Rattle.dap_inspection.specs.Variables.{names_in, numbers_of}
 use Rattle.dap_inspection.proofs.AliveFrames.{there, by_id}
 
 -- ---- their names

@@ -7,6 +7,6 @@ pub mod Showing
 -- live frames by their ids
 pub mod Alive
 -- the variables of a frame
-pub mod Locals
+pub mod Variables
 -- what a text is read as in the scope of a frame
-pub mod Evaluating
+pub mod Evaluate

@@ -6,10 +6,10 @@ ghost use Rattle.dbg_plan.specs.Debugged.{machine_of, IsConsidered};
 ghost use Rattle.dap_history.specs.Inspection.{RepliesFrom};
 ghost use Rattle.dap_inspection.specs.Questions.{subject_of, NamesNothingLive};
 
-use crate::evaluating::evaluate;
-use crate::frames::stack_trace;
-use crate::locals::variables;
-use crate::scope_chain::scopes;
+use crate::evaluate::evaluate;
+use crate::scopes::scopes;
+use crate::stack_trace::stack_trace;
+use crate::variables::variables;
 use dap_msg::{InitializeArguments, Question, Refusal, Shown, Text};
 use dbg_plan::Debuggee;
 use std::alloc::{AllocError, Global};

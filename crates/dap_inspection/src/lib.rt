@@ -7,10 +7,10 @@
 
 mod alive;
 mod asking;
-mod evaluating;
+mod evaluate;
 mod frame_name;
-mod frames;
-mod locals;
-mod scope_chain;
+mod scopes;
+mod stack_trace;
+mod variables;
 
 pub use asking::ask;

@@ -133,13 +133,15 @@ pub trait Inbox {
 pub trait Loader {
     ghost use Rattle.dap_history.specs.Interleaving.{Load};
     ghost use Rattle.dap_session.specs.Ports.{load_of, plain_file};
-    ghost use Rattle.std.specs.Prelude.{◌≡◌, ◌++◌, ◌∷◌, [], ◌≤◌, List, length, IfOk};
+    ghost use Rattle.std.specs.Prelude.{◌≡◌, ◌++◌, ◌∷◌, [], ◌≤◌, ◌+◌, List, length, IfOk};
+    ghost use Rattle.pl0_tree.specs.Faults.{limit};
 
     /// The paths asked for and the answers returned so far, the oldest first: a file, `CannotRead` or `NoMemory`.
     ghost loaded: { Self → List Load };
 
-    /// Returns the bytes of the file at a path, or the first 65,537 of them where it has more.
+    /// Returns the bytes of the file at a path, or the first 65,537 of them where it has more: one more than a program's
+    /// text may have.
     fn load(&mut self, path: &str) -> Result<Vec<u8>, LoadFault>
         ensures loaded { loaded self.new ≡ loaded self.old ++ load_of path.now (plain_file result) ∷ [] }
-        ensures short { IfOk result (λ file. length file.items ≤ 65537) };
+        ensures short { IfOk result (λ file. length file.items ≤ limit + 1) };
 }

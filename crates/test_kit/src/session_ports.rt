@@ -1,6 +1,7 @@
 //! The ports of a session, in memory.
 
-ghost use Rattle.std.specs.Prelude.{◌≤◌, length, IfOk};
+ghost use Rattle.std.specs.Prelude.{◌≤◌, ◌+◌, length, IfOk};
+ghost use Rattle.pl0_tree.specs.Faults.{limit};
 
 use crate::runner::Runner;
 use dap_session::{Event, Inbox, LoadFault, LoadLog, Loader, Order, OrderFault, Orders, Out};
@@ -266,7 +267,7 @@ impl Loader for Files<'_> {
 
 /// Returns the first 65,537 bytes of a file, or all where it has fewer.
 fn beginning(alloc: Global, file: &[u8]) -> Result<Vec<u8>, LoadFault>
-    ensures { IfOk result (λ bytes. length bytes.items ≤ 65537) }
+    ensures { IfOk result (λ bytes. length bytes.items ≤ limit + 1) }
 {
     let Ok(mut bytes) = Vec::from_slice(alloc, file) else {
         return Err(LoadFault::NoMemory);

@@ -5,8 +5,8 @@ use Rattle.pl0_tree.specs.Blocks.{AreNestings}
 use Rattle.pl0_machine.specs.Machine.{program_of, program, frame_of}
 use Rattle.dbg_plan.proofs.UnitBlocks.{unit_steps, unit_nestings}
 use Rattle.dap_inspection.proofs.FrameReadings.{next_within, read_there, not_read_there}
-use Rattle.dap_inspection.proofs.evaluating.read_in.Goals as goal
-use Rattle.dap_inspection.proofs.evaluating.read_in.Goals.{After-deref-2}
+use Rattle.dap_inspection.proofs.evaluate.read_in.Goals as goal
+use Rattle.dap_inspection.proofs.evaluate.read_in.Goals.{After-deref-2}
 
 same_unit : (c : After-deref-2) → c.deref-unit.result.now ≡ c.args.machine.now.unit
 same_unit c = c.deref-unit.ensures ∙ c.unit.ensures

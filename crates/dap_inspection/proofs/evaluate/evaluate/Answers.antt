@@ -1,11 +1,11 @@
 use Rattle.pl0_machine.specs.Machine.{program, frames, frame_of}
 use Rattle.dbg_plan.specs.Debugged.{machine_of}
 use Rattle.dap_inspection.specs.Alive.{IsAlive}
-use Rattle.dap_inspection.specs.Evaluating.{IsReadIn}
+use Rattle.dap_inspection.specs.Evaluate.{IsReadIn}
 use Rattle.dap_inspection.proofs.AliveFrames.{not_none}
 use Rattle.dap_inspection.proofs.FrameReadings.{refuses, answers}
-use Rattle.dap_inspection.proofs.evaluating.evaluate.Goals as goal
-use Rattle.dap_inspection.proofs.evaluating.evaluate.Goals.{In_ok-read}
+use Rattle.dap_inspection.proofs.evaluate.evaluate.Goals as goal
+use Rattle.dap_inspection.proofs.evaluate.evaluate.Goals.{In_ok-read}
 
 alive : (c : In_ok-read) → IsAlive (frames (machine_of c.args.debuggee.now)) c.args.asked.now.frame_id c.in-Some.frame
 alive c = rw c.machine-machine.ensures at c.in-Some.ensures

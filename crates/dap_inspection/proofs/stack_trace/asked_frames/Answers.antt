@@ -3,8 +3,8 @@ use Rattle.pl0_machine.specs.Machine.{program, frames}
 use Rattle.dap_inspection.specs.Questions.{counting_of}
 use Rattle.dap_inspection.specs.Showing.{count_shown}
 use Rattle.dap_inspection.proofs.AskedFrames.{rest_of, one_more, all_asked}
-use Rattle.dap_inspection.proofs.frames.asked_frames.Goals as goal
-use Rattle.dap_inspection.proofs.frames.asked_frames.Goals.{After-saturating_sub-left}
+use Rattle.dap_inspection.proofs.stack_trace.asked_frames.Goals as goal
+use Rattle.dap_inspection.proofs.stack_trace.asked_frames.Goals.{After-saturating_sub-left}
 
 left_is : (c : After-saturating_sub-left) → c.saturating_sub-left.result ≡ length
     (frames c.args.machine.now) - c.args.asked.start_frame

@@ -2,8 +2,8 @@ use Rattle.std.proofs.Common.{◌≡◌, map, take}
 use Rattle.pl0_tree.specs.Plain.{plain_name}
 use Rattle.pl0_machine.specs.Machine.{frame_of}
 use Rattle.dap_history.specs.Frames.{named}
-use Rattle.dap_inspection.specs.Locals.{numbers_of}
-use Rattle.dap_inspection.proofs.locals.valued.Given as goal
+use Rattle.dap_inspection.specs.Variables.{numbers_of}
+use Rattle.dap_inspection.proofs.variables.valued.Given as goal
 
 abbrev pub invariant-loop-index : goal.invariant-loop-index
 invariant-loop-index l =

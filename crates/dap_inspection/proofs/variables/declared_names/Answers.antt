@@ -4,12 +4,12 @@ use Rattle.pl0_tree.specs.Scope.{Path, block_at}
 use Rattle.pl0_tree.specs.Steps.{blocks}
 use Rattle.pl0_tree.specs.Blocks.{AreNestings}
 use Rattle.pl0_machine.specs.Machine.{program_of, program, frames, frame_of, Shows}
-use Rattle.dap_inspection.specs.Locals.{names_in}
+use Rattle.dap_inspection.specs.Variables.{names_in}
 use Rattle.dbg_plan.proofs.UnitBlocks.{unit_nestings}
 use Rattle.dap_inspection.proofs.UnitTables.{shown_block_within}
 use Rattle.dap_inspection.proofs.FrameVariables.{names_are, count_is}
-use Rattle.dap_inspection.proofs.locals.declared_names.Goals as goal
-use Rattle.dap_inspection.proofs.locals.declared_names.Goals.{After-deref-2}
+use Rattle.dap_inspection.proofs.variables.declared_names.Goals as goal
+use Rattle.dap_inspection.proofs.variables.declared_names.Goals.{After-deref-2}
 
 pub block-declaring-requires-clause-table : goal.block-declaring-requires-clause-table
 block-declaring-requires-clause-table c =

@@ -7,7 +7,7 @@ ghost use Rattle.dbg_plan.specs.Debugged.{machine_of, debugged_program, IsConsid
 ghost use Rattle.dap_history.specs.Frames.{frame_by_id, named};
 ghost use Rattle.dap_history.specs.Inspection.{Subject, RepliesFrom};
 ghost use Rattle.dap_msg.specs.declared.question.Question.TheVariants as question;
-ghost use Rattle.dap_inspection.specs.Locals.{names_in, numbers_of};
+ghost use Rattle.dap_inspection.specs.Variables.{names_in, numbers_of};
 
 use crate::alive::frame_with_id;
 use dap_msg::{Items, Refusal, Shown, Text, Variable, VariablesArguments};

@@ -4,8 +4,8 @@ use Rattle.dap_msg.specs.declared.outgoing.StackFrame.{StackFrame}
 use Rattle.dap_inspection.specs.Questions.{counting_of}
 use Rattle.dap_inspection.specs.Showing.{IsShownAs}
 use Rattle.dap_inspection.proofs.ShownFrame.{shown_within, shown_as}
-use Rattle.dap_inspection.proofs.frames.stack_frame.Goals as goal
-use Rattle.dap_inspection.proofs.frames.stack_frame.Goals.{After-frame-view}
+use Rattle.dap_inspection.proofs.stack_trace.stack_frame.Goals as goal
+use Rattle.dap_inspection.proofs.stack_trace.stack_frame.Goals.{After-frame-view}
 
 same_unit : (c : After-frame-view) → c.deref-unit.result.now ≡ c.args.machine.now.unit
 same_unit c = c.deref-unit.ensures ∙ c.unit.ensures

@@ -4,7 +4,7 @@ use Rattle.dbg_plan.specs.Debugged.{machine_of}
 use Rattle.dap_inspection.specs.Alive.{NamesFrame}
 use Rattle.dap_inspection.proofs.AliveFrames.{not_none}
 use Rattle.dap_inspection.proofs.FrameVariables.{shown}
-use Rattle.dap_inspection.proofs.locals.variables.Goals as goal
+use Rattle.dap_inspection.proofs.variables.variables.Goals as goal
 
 pub returns-clause-replies : goal.returns-clause-replies
 returns-clause-replies c of same =

@@ -1,8 +1,8 @@
 use Rattle.std.proofs.Common.{arith, ap}
 use Rattle.pl0_machine.specs.Machine.{program, frames}
 use Rattle.dap_inspection.proofs.ScopeChain.{LinksTo, leads, walked, left_of}
-use Rattle.dap_inspection.proofs.scope_chain.scope_chain.Goals as goal
-use Rattle.dap_inspection.proofs.scope_chain.scope_chain.Goals.{After-static_parent-next}
+use Rattle.dap_inspection.proofs.scopes.scope_chain.Goals as goal
+use Rattle.dap_inspection.proofs.scopes.scope_chain.Goals.{After-static_parent-next}
 
 one_link : (c : After-static_parent-next) →
     LinksTo (program c.args.machine.now) (frames c.args.machine.now) c.in-Some.frame c.in_ok-scope.field-0

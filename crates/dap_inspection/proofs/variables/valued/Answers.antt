@@ -2,7 +2,7 @@ use Rattle.std.proofs.Common.{rules, ◌∙◌, FitsSigned, w64}
 use Rattle.std.proofs.lemmas.Int.{to_z-of_z}
 use Rattle.pl0_machine.specs.Machine.{frame_of}
 use Rattle.dap_inspection.proofs.FrameVariables.{one_more}
-use Rattle.dap_inspection.proofs.locals.valued.Goals as goal
+use Rattle.dap_inspection.proofs.variables.valued.Goals as goal
 
 pub loop-index-preserved : goal.loop-index-preserved
 loop-index-preserved c =

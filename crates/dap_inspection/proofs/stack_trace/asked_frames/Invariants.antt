@@ -2,7 +2,7 @@ use Rattle.std.proofs.Common.{◌≡◌, take}
 use Rattle.pl0_machine.specs.Machine.{program, frames}
 use Rattle.dap_inspection.specs.Questions.{counting_of}
 use Rattle.dap_inspection.proofs.AskedFrames.{rest_of}
-use Rattle.dap_inspection.proofs.frames.asked_frames.Given as goal
+use Rattle.dap_inspection.proofs.stack_trace.asked_frames.Given as goal
 
 abbrev pub invariant-loop-index : goal.invariant-loop-index
 invariant-loop-index l =

@@ -4,7 +4,7 @@ use Rattle.dbg_plan.specs.Debugged.{machine_of}
 use Rattle.dap_inspection.specs.Alive.{NamesFrame}
 use Rattle.dap_inspection.proofs.AliveFrames.{not_none}
 use Rattle.dap_inspection.proofs.FrameById.{scopes_with_id}
-use Rattle.dap_inspection.proofs.scope_chain.scopes.Goals as goal
+use Rattle.dap_inspection.proofs.scopes.scopes.Goals as goal
 
 pub returns-clause-replies : goal.returns-clause-replies
 returns-clause-replies c of same =

@@ -6,7 +6,7 @@ ghost use Rattle.dbg_plan.specs.Debugged.{machine_of, debugged_program, IsConsid
 ghost use Rattle.dap_history.specs.Frames.{frame_by_id};
 ghost use Rattle.dap_history.specs.Inspection.{Subject, RepliesFrom, result_answer};
 ghost use Rattle.dap_msg.specs.declared.question.Question.TheVariants as question;
-ghost use Rattle.dap_inspection.specs.Evaluating.{IsReadIn};
+ghost use Rattle.dap_inspection.specs.Evaluate.{IsReadIn};
 
 use crate::alive::frame_with_id;
 use dap_msg::{EvaluateArguments, Refusal, Shown};

@@ -2,7 +2,7 @@ use Rattle.std.proofs.Common.{◌≡◌, ◌≤◌, ◌++◌, length}
 use Rattle.pl0_machine.specs.Machine.{program, frames}
 use Rattle.dap_history.specs.Frames.{scopes_from}
 use Rattle.dap_inspection.proofs.ScopeChain.{rest_from, left_of}
-use Rattle.dap_inspection.proofs.scope_chain.scope_chain.Given as goal
+use Rattle.dap_inspection.proofs.scopes.scope_chain.Given as goal
 
 -- what is left follows what was found, and is of a frame that is alive
 abbrev pub invariant-loop-next : goal.invariant-loop-next
