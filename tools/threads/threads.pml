@@ -535,7 +535,7 @@ inline finish() {
 }
 
 /* @ dap_session/src/driving.rt: drive, next_event, try_quit
- * @ adapter/src/jobs.rt: SessionTask::run, SessionTask::give_up
+ * @ adapter/src/thread_tasks.rt: SessionTask::run, SessionTask::give_up
  * @ adapter/src/tasks.rt: run_beside
  */
 proctype Session(bool started) {
@@ -661,7 +661,7 @@ joins:
 #ifdef TELLS_LATE
     runner_over && reader_over;
 #endif
-    /* @ adapter/src/telling.rt: Telling::see
+    /* @ adapter/src/listener.rt: ListenerWitness::see
      * @ adapter/src/reporting.rt: report
      * The reason goes to standard error before the others are joined. Such a write waits while nobody reads that.
      */

@@ -10,8 +10,8 @@ use Rattle.dap_wires.specs.contracts.event_ends.ReportSender as ReportSender
 use Rattle.dap_wires.specs.contracts.order_ends.OrderReceiver as OrderReceiver
 use Rattle.dap_wires.specs.contracts.reading.ReadEnd as ReadEnd
 use Rattle.dap_wires.proofs.Crossing.{client_sender_send, client_sender_field_send, report_sender_send, report_sender_field_send, order_receiver_send, order_receiver_field_send}
-use Rattle.adapter.specs.contracts.jobs.ReaderTask as ReaderTask
-use Rattle.adapter.specs.contracts.jobs.RunnerTask as RunnerTask
+use Rattle.adapter.specs.contracts.thread_tasks.ReaderTask as ReaderTask
+use Rattle.adapter.specs.contracts.thread_tasks.RunnerTask as RunnerTask
 
 pub runner_task_send : (α : NamedLft) (G R : RattleType) → IsSend G → IsSend R → IsSend (RunnerTask.the_row α G R)
 runner_task_send α G R g r =

@@ -35,7 +35,7 @@ use Rattle.dap_wires.specs.Senders.{from_client, reports_among}
 use Rattle.byte_streams.specs.Streams.{Supply, Output, IsOfWhole, WritesAll}
 use Rattle.dap_wires.specs.Writing.{IsWrittenUntil}
 use Rattle.dap_wires.proofs.Sending.{client_append, frames_append}
-use Rattle.adapter.specs.Jobs.{SessionLeaves}
+use Rattle.adapter.specs.ThreadTasks.{SessionLeaves}
 use Rattle.adapter.specs.Serving.{World, nothing_sent, Writes, TakenOfSent, TakenOfPushed, TasksEnd}
 
 -- ---- lists

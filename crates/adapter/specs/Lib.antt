@@ -25,4 +25,4 @@ pub mod Running
 -- What a loader of files reads.
 pub mod Loading
 -- What the session's thread leaves when it ends.
-pub mod Jobs
+pub mod ThreadTasks

@@ -15,14 +15,14 @@ mod checking;
 mod exit_reason;
 mod files;
 mod gates;
-mod jobs;
 mod laws;
+mod listener;
 mod listing;
 mod program;
 mod reporting;
 mod serving;
 mod tasks;
-mod telling;
+mod thread_tasks;
 
 pub use byte_streams::{
     ByteLog, IoFault, ReadFault, Reading, Sink, Source, Writing, read_beginning,
@@ -32,7 +32,7 @@ pub use dap_session::FirstSeq;
 pub use exit_reason::{ExitReason, end_of_check, end_of_serve};
 pub use files::FileLoader;
 pub use laws::{serving_laws, worked_exits};
+pub use listener::{EndListener, NoListener};
 pub use program::{execute, run, run_process};
 pub use reporting::say_reason;
 pub use serving::{ServeFault, Served, serve};
-pub use telling::{EndListener, NoListener};

@@ -9,8 +9,8 @@ ghost use Rattle.byte_streams.specs.Streams.{WritesOrFails};
 
 use crate::arguments::{USAGE, objection};
 use crate::exit_reason::{ExitReason, end_of_serve};
+use crate::listener::EndListener;
 use crate::serving::{ServeFault, Served};
-use crate::telling::EndListener;
 use byte_streams::{Sink, say};
 use itoa::Buffer;
 use log::sink::Console;

@@ -5,9 +5,9 @@ ghost use Rattle.std.specs.Prelude.{◌≡◌};
 ghost use Rattle.adapter.specs.Serving.{streams, world, outcome_of, IsServed};
 ghost use Rattle.dap_wires.specs.Wires.{AreUnused, AreJoined};
 
-use crate::jobs::tasks_over;
+use crate::listener::{EndListener, ListenerWitness, tell};
 use crate::tasks::run_beside;
-use crate::telling::{EndListener, ListenerWitness, tell};
+use crate::thread_tasks::tasks_over;
 use byte_streams::{Sink, Source, WriteFailed};
 use dap_session::{Closed, FirstSeq, Loader, SessionFault};
 use dap_wires::{Wires, reconcile};

@@ -11,7 +11,7 @@ use Rattle.dap_wires.specs.Outbox.{put_frames, messages_put, messages_received, 
 use Rattle.dap_wires.specs.Reading.{IsReadUntil}
 use Rattle.dap_wires.specs.Senders.{from_client, reports_among}
 use Rattle.dap_wires.specs.Writing.{IsWrittenUntil}
-use Rattle.adapter.specs.Jobs.{SessionLeaves}
+use Rattle.adapter.specs.ThreadTasks.{SessionLeaves}
 use Rattle.adapter.specs.Serving.{World, world, streams, outcome_of, nothing_sent, TasksEnd, tasks_ended}
 use Rattle.adapter.proofs.Crossing.{runner_task_send, runner_output_send, reader_task_send, reader_output_send}
 use Rattle.adapter.proofs.Gathered.{gathers, moved}

@@ -14,7 +14,7 @@ ghost use Rattle.dap_wires.specs.Orders.{pushed_orders, push_queue, taken_orders
 ghost use Rattle.byte_streams.specs.Streams.{IsOfWhole};
 ghost use Rattle.dap_wires.specs.Reading.{IsReadUntil};
 ghost use Rattle.dap_wires.specs.Writing.{IsWrittenUntil};
-ghost use Rattle.adapter.specs.Jobs.{SessionLeaves};
+ghost use Rattle.adapter.specs.ThreadTasks.{SessionLeaves};
 
 use crate::gates::{Gated, OpenGate};
 use crate::tasks::{LastTask, Task};
@@ -35,27 +35,6 @@ pub struct ReaderTask<'a, I, R: Wait + Drop> {
     alloc: Global,
     input: &'a mut I,
     inbox: ClientSender<R>,
-}
-
-impl<'a, I, R: Wait + Drop> ReaderTask<'a, I, R> {
-    /// A task that reads `input` and sends to `inbox` what it read.
-    pub fn new(
-        rt: R,
-        alloc: Global,
-        input: &'a mut I,
-        inbox: ClientSender<R>,
-    ) -> ReaderTask<'a, I, R>
-        ensures same_input { result.input.ghost_name ≡ input.entry.ghost_name }
-        ensures input { result.input.now ≡ input.old }
-        ensures inbox { result.inbox ≡ inbox }
-    {
-        ReaderTask {
-            rt,
-            alloc,
-            input,
-            inbox,
-        }
-    }
 }
 
 impl<'a, I: Source, R: Wait + Drop> Task for ReaderTask<'a, I, R> {
@@ -88,17 +67,6 @@ pub struct WriterTask<'a, O, R: Wait + Drop> {
     outbox: FrameReceiver<R>,
 }
 
-impl<'a, O, R: Wait + Drop> WriterTask<'a, O, R> {
-    /// A task that writes to `output` the frames of `outbox`.
-    pub fn new(rt: R, output: &'a mut O, outbox: FrameReceiver<R>) -> WriterTask<'a, O, R>
-        ensures same_output { result.output.ghost_name ≡ output.entry.ghost_name }
-        ensures output { result.output.now ≡ output.old }
-        ensures outbox { result.outbox ≡ outbox }
-    {
-        WriterTask { rt, output, outbox }
-    }
-}
-
 impl<'a, O: Sink, R: Wait + Drop> Task for WriterTask<'a, O, R> {
     type Output = (&'a mut O, OutboxLog, Result<(), WriteFailed>);
 
@@ -127,30 +95,6 @@ pub struct RunnerTask<'a, G, R: Wait + Drop> {
     orders: OrderReceiver<R>,
     reports: ReportSender<R>,
     gate: &'a mut G,
-}
-
-impl<'a, G, R: Wait + Drop> RunnerTask<'a, G, R> {
-    /// A task that carries out `orders` and sends `reports`, and whose slices pass `gate`.
-    pub fn new(
-        rt: R,
-        alloc: Global,
-        orders: OrderReceiver<R>,
-        reports: ReportSender<R>,
-        gate: &'a mut G,
-    ) -> RunnerTask<'a, G, R>
-        ensures orders { result.orders ≡ orders }
-        ensures reports { result.reports ≡ reports }
-        ensures same_gate { result.gate.ghost_name ≡ gate.entry.ghost_name }
-        ensures gate { result.gate.now ≡ gate.old }
-    {
-        RunnerTask {
-            rt,
-            alloc,
-            orders,
-            reports,
-            gate,
-        }
-    }
 }
 
 impl<'a, G: Gate, R: Wait + Drop> Task for RunnerTask<'a, G, R> {
@@ -191,36 +135,6 @@ pub struct SessionTask<'a, L, R: Wait + Drop> {
     inbox: EventReceiver<R>,
     outbox: FrameSender<R>,
     orders: OrderSender<R>,
-}
-
-impl<'a, L, R: Wait + Drop> SessionTask<'a, L, R> {
-    /// A task that drives a session over these ends, which loads programs with `loader`.
-    pub fn new(
-        rt: R,
-        alloc: Global,
-        first: FirstSeq,
-        loader: &'a mut L,
-        inbox: EventReceiver<R>,
-        outbox: FrameSender<R>,
-        orders: OrderSender<R>,
-    ) -> SessionTask<'a, L, R>
-        ensures first { result.first ≡ first }
-        ensures same_loader { result.loader.ghost_name ≡ loader.entry.ghost_name }
-        ensures loader { result.loader.now ≡ loader.old }
-        ensures inbox { result.inbox ≡ inbox }
-        ensures outbox { result.outbox ≡ outbox }
-        ensures orders { result.orders ≡ orders }
-    {
-        SessionTask {
-            rt,
-            alloc,
-            first,
-            loader,
-            inbox,
-            outbox,
-            orders,
-        }
-    }
 }
 
 impl<'a, L: Loader, R: Wait + Drop> Task for SessionTask<'a, L, R> {
@@ -309,19 +223,32 @@ pub fn tasks_over<'a, R: Wait + Copy + Drop, I, O, L, G>(
     ensures frames { result.3.outbox ≡ wires.frames }
     ensures pushed { result.3.orders ≡ wires.pushed }
 {
-    let Wires {
-        client,
-        taken,
-        reports,
-        events,
-        frames,
-        pushed,
-        messages,
-    } = wires;
-    (
-        WriterTask::new(rt, output, messages),
-        RunnerTask::new(rt, alloc, taken, reports, gate),
-        ReaderTask::new(rt, alloc, input, client),
-        SessionTask::new(rt, alloc, first, loader, events, frames, pushed),
-    )
+    let writer = WriterTask {
+        rt,
+        output,
+        outbox: wires.messages,
+    };
+    let runner = RunnerTask {
+        rt,
+        alloc,
+        orders: wires.taken,
+        reports: wires.reports,
+        gate,
+    };
+    let reader = ReaderTask {
+        rt,
+        alloc,
+        input,
+        inbox: wires.client,
+    };
+    let session = SessionTask {
+        rt,
+        alloc,
+        first,
+        loader,
+        inbox: wires.events,
+        outbox: wires.frames,
+        orders: wires.pushed,
+    };
+    (writer, runner, reader, session)
 }
