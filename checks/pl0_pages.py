@@ -23,7 +23,7 @@ import sys
 import threading
 
 TOP = pathlib.Path(__file__).resolve().parent.parent
-ROW = re.compile(r"^\| (\d+) \| \w+ \| .* \| (.*) \| `([^`]*)` \| `(\d+) (\d+) (\d+)` \|$")
+ROW = re.compile(r"^\| (\d+) \| \w+ \| (.*) \| `([^`]*)` \| `(\d+) (\d+) (\d+)` \|$")
 HINT = re.compile(r"^\| ([^|]*) \| `([^`]*)` \|$")
 ENDLESS = b"var n; while 0 = 0 do begin n := n + 1; ! n end.\n"
 FAULTY = b"var n; begin n := n; ! 1 / n end.\n"
