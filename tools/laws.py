@@ -5,8 +5,8 @@ usage: laws.py [--write]
 
 Prints for each law function that proofs answer each of its clauses, what that says, and the lemmas by which it is
 answered, with their files. With --write it writes instead what docs/PROMISES.md says of the laws of a session's history,
-between `<!--laws-->` and `<!--end-->`: for each function a list of its clauses, with the definition of each, and the
-comment in front of this.
+between `<!--laws-->` and `<!--end-->`: for each function a list of its clauses, with the definition of each, and the first
+sentence of the comment in front of this, or as many as SENTENCES says.
 """
 from __future__ import annotations
 
@@ -24,6 +24,12 @@ HISTORY = TOP / "crates" / "dap_history"
 # The functions of which the page has lists, and how long its lines are.
 LISTS = ("history_laws", "run_laws", "command_laws")
 COLUMNS = 122
+# The clauses of which the page has more sentences than the first, as these say what no other clause does.
+SENTENCES = {
+    "quits": 2, "counts": 2, "held": 2, "over_told": 2, "judged": 2, "launched": 2, "paused": 2, "as_asked": 3, "ends": 2,
+    "lines": 2,
+}
+SENTENCE_END = re.compile(r"(?<=\.) (?=[A-Z`])")
 # A law function with its clauses, and one of these; the answer to a goal of one, and a lemma file with what is used of
 # it; a definition with the comment in front of it.
 LAW = re.compile(r"^pub fn (\w+_laws)\(.*\)\n((?:    (?:ensures|//| ) .*\n)+)", re.MULTILINE)
@@ -64,18 +70,19 @@ def answered_laws() -> Iterator[tuple[str, str, str, str]]:
             yield function, clause or " ".join(says), said, ", ".join(lemmas)
 
 
-def comments() -> dict[str, tuple[str, str]]:
-    """The statements that the definitions of a session's history make: the file of each, and the comment before it."""
+def comments() -> dict[str, str]:
+    """The statements that the definitions of a session's history make, with the comment before each."""
     found = {}
     for file in sorted((HISTORY / "specs").glob("*.antt")):
         for lines, name in DEFINITION.findall(file.read_text(encoding="utf-8")):
-            found[name] = file.name, " ".join(line.removeprefix("--").strip() for line in lines.splitlines())
+            found[name] = " ".join(line.removeprefix("--").strip() for line in lines.splitlines())
     return found
 
 
-def item(law: Law, file: str, comment: str) -> str:
+def item(law: Law, comment: str) -> str:
     """What the page says of a clause."""
-    text = f"- `{law.clause}`: `{law.says}` (`{file}`). {comment}"
+    sentences = SENTENCE_END.split(comment)[:SENTENCES.get(law.clause, 1)]
+    text = f"- `{law.clause}` (`{law.says}`): {' '.join(sentences)}"
     return textwrap.fill(text, COLUMNS, subsequent_indent="  ", break_long_words=False, break_on_hyphens=False)
 
 
@@ -84,7 +91,7 @@ def lists() -> str:
     laws, said = laws_of(HISTORY.name), comments()
     parts = []
     for function in LISTS:
-        items = [item(law, *said[law.says]) for law in laws if law.function == function]
+        items = [item(law, said[law.says]) for law in laws if law.function == function]
         parts.append("\n".join([f"`{function}`:", "", *items]))
     return "\n\n".join(parts) + "\n"
 
