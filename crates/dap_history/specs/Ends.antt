@@ -55,8 +55,8 @@ EndsWith before zero m = HasEnded before m
 EndsWith before (suc zero) m = StandsBeforeFault before m
 EndsWith before _ m = ⊥
 
--- A program is told to have exited with the code 0 only where no frame of it is alive, after a run forward that had
--- nowhere to stop; with 1 only where it stands before a step that faults; and with no other code.
+-- A program is told to have exited with the code 0 only at its end, with 1 only before a step that faults, and with
+-- no other. At its end no frame of it is alive, after a run forward that had nowhere to stop.
 abbrev pub EachEndIsTheEnd : Type 0
 EachEndIsTheEnd = OfLawfulHistories (λ past.
     (before : History) (code m : ℕ) → ExitsAt past before code m → EndsWith before code m)

@@ -30,15 +30,15 @@ back_in _ = None
 abbrev pub back_of : Heading → Option Mode
 back_of run = if goes_back run.mode then Some run.mode else None
 
--- A run goes back only where `stepBack` or `reverseContinue` asks for it, in the mode that the command asks for. Where
--- the command is granted, a run is ordered. `EachStopIsAsAsked` says where it leads.
+-- A run goes back exactly where a granted `stepBack` or `reverseContinue` asks for it, in its mode.
+-- `EachStopIsAsAsked` says where it leads.
 abbrev pub EachGoesBackAsAsked : Type 0
 EachGoesBackAsAsked = OfLawfulSteps (λ before step.
     ((run : Heading) → Orders step run → back_of run ≡ back_in step.item)
     × ((m : Mode) (seq : ℕ) (name : CommandName) (b : Body) → back_in step.item ≡ Some m
     → step.answer ≡ Some (Answer seq name (Ok b)) → IsSome (run_in step)))
 
--- A run after one that went back counts from the position after the one where it begins.
+-- A run after one that went back counts from the position after its beginning.
 abbrev pub CountsBeginAnew : Type 0
 CountsBeginAnew = OfLawfulSteps (λ before step.
     (run : Heading)

@@ -60,8 +60,7 @@ pub record IsAsked (first : FirstSeq) (events : List Incoming) (load : Load) : T
   pub waits : rest.launch ≡ Some launch
   pub path_is : load.path ≡ launch.arguments.program
 
--- The loader is asked for nothing but the path of a launch that waits for its file, and for nothing once the session is
--- closed.
+-- The loader is asked for nothing but the path of a launch that waits, in a session that isn't closed.
 abbrev pub EachLoadIsOfALaunch : Type 0
 EachLoadIsOfALaunch =
     (first : FirstSeq) (events given : List Incoming) (loads : List Load) → Interleaves first [] events given loads
@@ -77,7 +76,7 @@ pub record IsAnswerFor (loads : List Load) (path : List ℕ) (event : Incoming) 
   pub path_is : load.path ≡ path
   pub event_is : event ≡ File load.answer
 
--- Where a launch waits for its file, the next event is what the loader answered for its path.
+-- Where a launch waits, the next event is what the loader answered for its path.
 abbrev pub EachLaunchIsLoaded : Type 0
 EachLaunchIsLoaded =
     (first : FirstSeq) (events given : List Incoming) (loads : List Load) → Interleaves first [] events given loads
@@ -92,7 +91,7 @@ AreMerged (e ∷ events) these those =
     ((more : List Incoming) × (these ≡ e ∷ more) × AreMerged events more those)
     ⊎ ((more : List Incoming) × (those ≡ e ∷ more) × AreMerged events these more)
 
--- The events are all that the inbox and the loader returned, in their order, and nothing else.
+-- The events are all that the inbox and the loader returned, in their order.
 abbrev pub EventsAreReturned : Type 0
 EventsAreReturned =
     (first : FirstSeq) (events given : List Incoming) (loads : List Load) → Interleaves first [] events given loads

@@ -38,14 +38,14 @@ use Rattle.dap_history.specs.Always.{OfHistories, OfLawfulHistories}
 
 -- ---- One history
 
--- A list of events has at most one history, and leaves one rest, by the first number that the client may use.
+-- A list of events has at most one history and one rest. The first number that the client may use is given.
 abbrev pub HistoryIsOne : Type 0
 HistoryIsOne =
     (first : FirstSeq) (events : List Incoming) (past other : History) (rest left : Rest)
     → IsHistoryOf first events past rest → IsHistoryOf first events other left
     → (past ≡ other) × (rest ≡ left)
 
--- An item leads from a history to at most one other: what it is answered with and what it causes is determined.
+-- An item leads from a history to at most one other. So what it is answered with and what it causes is determined.
 abbrev pub ItemsLeadToOne : Type 0
 ItemsLeadToOne =
     (past : History) (item : Item) (new other : History) → IsAfter past item new → IsAfter past item other → new ≡ other
@@ -77,8 +77,8 @@ abbrev pub HasStrings : ℕ → Item → Type 0
 HasStrings less (Content (Some request)) = AreStrings less request.body
 HasStrings less _ = Unit {0}
 
--- No item leads nowhere: each has an answer and an effect, a launch with its text, lines of breakpoints and an
--- expression too, whatever their texts are.
+-- No item leads nowhere, whatever its texts are. So each has an answer and an effect, a launch with its text, lines
+-- of breakpoints and an expression too.
 abbrev pub NoItemLeadsNowhere : Type 0
 NoItemLeadsNowhere = OfLawfulHistories (λ past.
     (item : Item) → HasStrings (line_offset past) item → ¬ ((new : History) → ¬ IsAfter past item new))
@@ -117,22 +117,22 @@ AreReadAs first (content ∷ contents) (request ∷ requests) =
     IsRequestFrom first content request × AreReadAs first contents requests
 AreReadAs first _ _ = ⊥
 
--- However the stream was cut into pieces, the contents taken are, in order, those of its frames.
+-- The contents taken are, in order, those of the stream's frames, however it was cut.
 abbrev pub ContentsAreOfTheStream : Type 0
 ContentsAreOfTheStream =
     (first : FirstSeq) (events : List Incoming) (past : History) (rest : Rest) → IsHistoryOf first events past rest
     → (contents : List (List ℕ)) × Frames (stream_of events) contents rest.bytes
     × AreReadAs first contents (contents_read past rest.launch)
 
--- Two pieces give what they give as one: how the stream was cut changes no message and no order.
+-- Two pieces give what they give as one. So how the stream was cut changes no message and no order.
 abbrev pub CutsChangeNothing : Type 0
 CutsChangeNothing =
     (first : FirstSeq) (a b : List ℕ) (before after : List Incoming) (past : History) (rest : Rest)
     → IsHistoryOf first (before ++ (Piece a ∷ Piece b ∷ after)) past rest
     → IsHistoryOf first (before ++ (Piece (a ++ b) ∷ after)) past rest
 
--- While a session takes items, nothing complete is left unread: neither a frame nor a framing fault stands at the front
--- of the rest, except while a launch waits for its file; and one waits only in the situation Ready.
+-- While items are taken, neither a frame nor a framing fault is left in front, except where a launch waits for its
+-- file. One waits only in the situation Ready.
 abbrev pub RestIsOpen : Type 0
 RestIsOpen =
     (first : FirstSeq) (events : List Incoming) (past : History) (rest : Rest) → IsHistoryOf first events past rest
@@ -157,7 +157,7 @@ request_of_item InputEnd = None
 request_of_item ReadFailure = None
 request_of_item MemoryFailure = None
 
--- The answers are, in order, one for each well-formed request among the items, under its own seq and command.
+-- The answers are, in order, one for each request among the items, under its own seq and command.
 abbrev pub EachIsAnsweredOnce : Type 0
 EachIsAnsweredOnce = OfHistories (λ past.
     filter_map answered_request (messages_of past) ≡ filter_map request_of_item
@@ -165,14 +165,14 @@ EachIsAnsweredOnce = OfHistories (λ past.
 
 -- ---- Numbering
 
--- The nth frame is the frame of the nth message, with the seq n.
+-- The nth frame is that of the nth message, with the seq n.
 abbrev pub SeqCountFromOne : Type 0
 SeqCountFromOne =
     (messages : List Outgoing) (n : ℕ)
     → slice_get (frames_from 1 messages) n ≡ option_map (λ message. frame_of (text_of message (n + 1)))
     (slice_get messages n)
 
--- The content of the nth frame is read as the nth message, which says that its seq is n. Seqs are numbers of 64 bits.
+-- The nth frame is read as the nth message, with the seq n. Seqs are numbers of 64 bits.
 abbrev pub FramesAreReadBack : Type 0
 FramesAreReadBack = OfHistories (λ past.
     (n : ℕ) (message : Outgoing) → slice_get (messages_of past) n ≡ Some message → n + 1 < 2 ^ 64
@@ -181,7 +181,7 @@ FramesAreReadBack = OfHistories (λ past.
 
 -- ---- Last message
 
--- A `disconnect` that is taken is the last item, and its answer under its seq is the last message.
+-- A `disconnect` is the last item, and its answer the last message.
 abbrev pub DisconnectIsLast : Type 0
 DisconnectIsLast =
     (first : FirstSeq) (events : List Incoming) (past : History) (rest : Rest) → IsHistoryOf first events past rest
@@ -196,7 +196,7 @@ DisconnectIsLast =
 abbrev pub IsAmong : Incoming → List Incoming → Type 0
 IsAmong event events = (front : List Incoming) × (back : List Incoming) × (events ≡ front ++ event ∷ back)
 
--- A session that was closed by the end of the input or a failed read has taken that event.
+-- A session that the end of the input or a failed read closed has taken that event.
 abbrev pub ClosedByItsEvent : Type 0
 ClosedByItsEvent =
     (first : FirstSeq) (events : List Incoming) (past : History) (rest : Rest) → IsHistoryOf first events past rest
@@ -213,23 +213,22 @@ abbrev pub EndsWithQuit : Option Ending → List PlainOrder → Type 0
 EndsWithQuit (Some (ending.Closed by)) orders = (front : List PlainOrder) × (orders ≡ front ++ Quit ∷ [])
 EndsWithQuit _ orders = (front back : List PlainOrder) → ¬ (orders ≡ front ++ Quit ∷ back)
 
--- A session that was closed by `disconnect`, the end of the input or a failed read ordered Quit last. One that goes on
--- or gave up ordered no Quit.
+-- `disconnect`, the end of the input and a failed read order Quit last. A session that goes on or gave up ordered no
+-- Quit.
 abbrev pub QuitCloses : Type 0
 QuitCloses = OfHistories (λ past.
     EndsWithQuit (ending_of past) (orders_of past))
 
 -- ---- Output order
 
--- The numbers reported are, in order, those that the program wrote up to the furthest position that it has reached, so
--- none is reported twice; there are none before it is launched.
+-- The numbers reported are, in order, those that the program wrote up to the furthest position reached. So none is
+-- reported twice; there are none before it is launched.
 abbrev pub NumbersAreWritten : Type 0
 NumbersAreWritten = OfLawfulHistories (λ past.
     ((l : Launched) → launched past ≡ Some l → numbers (messages_of past) ≡ written l.program 0 (reached past))
     × (launched past ≡ None → numbers (messages_of past) ≡ []))
 
--- The numbers reported before a stop are exactly those of the steps up to the furthest position
--- that the program has reached then.
+-- The numbers reported before a stop are those of the steps up to the furthest position reached then.
 abbrev pub StopsFollowNumbers : Type 0
 StopsFollowNumbers = OfLawfulHistories (λ past.
     (front : History) (step : Step) (more : History) → past ≡ front ++ step ∷ more
@@ -249,14 +248,13 @@ log_of _ = None
 abbrev pub log_texts : List Outgoing → List (List ℕ)
 log_texts messages = filter_map log_of messages
 
--- The logs reported are, in order, those of the positions considered; there are none before a program is launched.
+-- The logs reported are, in order, those of the positions considered. There are none before a program is launched.
 abbrev pub LogsAreOfPositions : Type 0
 LogsAreOfPositions = OfLawfulHistories (λ past.
     ((l : Launched) → launched past ≡ Some l → log_texts (messages_of past) ≡ logged l past)
     × (launched past ≡ None → log_texts (messages_of past) ≡ []))
 
--- The numbers reported before a log are exactly those of the steps up to the furthest position
--- that the program has reached then.
+-- What `StopsFollowNumbers` says of a stop holds of a log.
 abbrev pub LogsFollowNumbers : Type 0
 LogsFollowNumbers = OfLawfulHistories (λ past.
     (front : History) (step : Step) (more : History) → past ≡ front ++ step ∷ more
@@ -265,7 +263,7 @@ LogsFollowNumbers = OfLawfulHistories (λ past.
     ++ Event (event.Log text) ∷ after
     → numbers (messages_of front ++ before) ≡ written l.program 0 (reached (front ++ step ∷ [])))
 
--- The logs reported before a stop are exactly those of the positions considered until then.
+-- The logs reported before a stop are those of the positions considered until then.
 abbrev pub StopsFollowLogs : Type 0
 StopsFollowLogs = OfLawfulHistories (λ past.
     (front : History) (step : Step) (more : History) → past ≡ front ++ step ∷ more

@@ -65,9 +65,9 @@ GiveBreakpoints main less (line ∷ lines) (a ∷ answers) bs =
     × GivesBreakpoint main less line a mine × GiveBreakpoints main less lines answers rest
 GiveBreakpoints main less _ _ bs = ⊥
 
--- A granted `setBreakpoints` has an answer for each line, in order. At the launched path it is the line of the first
--- step at or after it, in the client's own counting, or the first reason why not; at any other path, or none, it is
--- `otherSource`.
+-- A granted `setBreakpoints` is answered line by line, with the line of a step, the first reason why not, or
+-- `otherSource`. At the launched path it is the line of the first step at or after it, in the client's own counting,
+-- or a reason; at any other path, or none, it is `otherSource`.
 abbrev pub LinesAreAnswered : Type 0
 LinesAreAnswered = OfHistories (λ past.
     (before : History) (step : Step) (after : History) (request : Request) (asked : SetBreakpointsArguments)

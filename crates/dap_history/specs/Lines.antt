@@ -54,9 +54,9 @@ HasDebuggee Stopped = Unit {0}
 HasDebuggee Faulted = Unit {0}
 HasDebuggee _ = ⊥
 
--- Where the session has the debuggee, the plan in force is the breakpoints of the lines that were set last at the
--- launched path, each at the step that its line is answered with, with its condition, hit condition and message. Before
--- the program is started it counts from position 0.
+-- Where the session has the debuggee, the plan is the breakpoints of the lines set last at the launched path. Each
+-- is at the step that its line is answered with, with its condition, hit condition and message. Before the program
+-- is started it counts from position 0.
 abbrev pub PlanIsOfLines : Type 0
 PlanIsOfLines = OfLawfulHistories (λ past.
     HasDebuggee (situation past) → (l : Launched) → launched past ≡ Some l
@@ -64,7 +64,7 @@ PlanIsOfLines = OfLawfulHistories (λ past.
     × AreOfLines l counting (lines_set l.path past) (plan past).breakpoints
     × (situation past ≡ Configuring → (plan past).counted_from ≡ 0))
 
--- Each run is under the breakpoints of the lines that were set last at the launched path.
+-- Each run is under the breakpoints of the lines set last at the launched path.
 abbrev pub EachRunHasItsLines : Type 0
 EachRunHasItsLines = OfLawfulSteps (λ before step.
     (run : Heading)
@@ -95,9 +95,9 @@ abbrev pub first_counted : History → Launched → Option Outgoing → ℕ → 
 first_counted past l answer start =
     if starts_by answer then 0 else next_counted (are_anew l.path past || is_back past) (last_run past) start
 
--- The run that starts the program counts from position 0. A later run counts from the position after its beginning if
--- lines were set since the run before it, or if that run went back; otherwise from where that run counts, or from 0 if
--- none was.
+-- The run that starts the program counts from position 0. A later run counts from the position after its beginning
+-- if lines were set since the run before it, or if that run went back; otherwise from where that run counts, or from
+-- 0 if none was.
 abbrev pub EachRunCountsFrom : Type 0
 EachRunCountsFrom = OfLawfulSteps (λ before step.
     (run : Heading)

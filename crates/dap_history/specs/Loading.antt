@@ -47,9 +47,8 @@ abbrev pub EndsLaunch : Launch → Option (List ℕ) → Step → Type 0
 EndsLaunch launch None step = RefusesLaunch launch refusal.CannotRead step
 EndsLaunch launch (Some text) step = LaunchesIts launch text step ⊎ RefusesFault launch text step
 
--- A launch launches the program of the file that came, under the path and with the options of the request, and
--- `initialized` is all that follows; or it is refused, since the file can't be read, or with its first fault. No other
--- step launches a program.
+-- A launch launches the program of its file, with its path and options, and `initialized` alone follows; or it is
+-- refused. It is refused where the file can't be read, or with its first fault. No other step launches a program.
 abbrev pub EachLaunchIsOfItsFile : Type 0
 EachLaunchIsOfItsFile = OfSteps (λ before step.
     ((launch : Launch) (file : Option (List ℕ)) → step.item ≡ Loaded launch file → EndsLaunch launch file step)

@@ -34,7 +34,7 @@ first_stop l breakpoints =
     else (if l.stop_on_entry then Some stop.Entry else None)
 
 -- A granted `configurationDone` stops the program at position 0 where a breakpoint does, or else `stopOnEntry`, and
--- lets it run where neither does.
+-- otherwise lets it run.
 abbrev pub PositionZeroIsConsidered : Type 0
 PositionZeroIsConsidered = OfLawfulSteps (λ before step.
     (request : Request)
@@ -56,8 +56,8 @@ pub record PauseWaits (past : History) : Type 0 where
   pub pause_is : request.body ≡ command.Pause asked
   pub none_since : All (λ (s : Step). run_in s ≡ None) later
 
--- Where a run was held, the program stops with the reason `pause` if a `pause` was granted since the run was ordered,
--- and otherwise another run is ordered. Nothing else stops it with that reason.
+-- The program stops with the reason `pause` exactly where its run was held and a `pause` was granted since that was
+-- ordered. Where none was, another run is ordered.
 abbrev pub PausesStop : Type 0
 PausesStop = OfSteps (λ before step.
     ((r : PlainReport) → step.item ≡ Accepted r → r.outcome ≡ slice.Held
@@ -150,9 +150,9 @@ StopsAsAsked l run asked from reason m = StopsForward l run asked from reason m
 abbrev pub IsAlive : Launched → ℕ → Type 0
 IsAlive l m = (f : Frame) × (below : Configuration) × (at l.program m ≡ Some (f ∷ below))
 
--- Each stop of a run is as the command asks by which the program goes, in positions and numbers of frames, with its
--- reason: `stepBack` leads to the position before, `reverseContinue` to where a breakpoint was met last, or to 0. No
--- stop that the command asks for is passed. A frame is alive there: where the program has ended, it doesn't stop.
+-- Each stop of a run is as its command asks, in positions and numbers of frames, with its reason, and no such stop
+-- is passed. `stepBack` leads to the position before, `reverseContinue` to where a breakpoint was met last, or to 0.
+-- A frame is alive there: where the program has ended, it doesn't stop.
 abbrev pub EachStopIsAsAsked : Type 0
 EachStopIsAsAsked = OfLawfulHistories (λ past.
     (before : History) (reason : StopReason) (m : ℕ) → StopsAt past before reason m
@@ -160,7 +160,7 @@ EachStopIsAsAsked = OfLawfulHistories (λ past.
     → (l : Launched) × (asked : Command) × (from : ℕ) × (launched before ≡ Some l) × GoesBy before asked from
     × StopsAsAsked l run asked from reason m × IsAlive l m)
 
--- While the program runs forward, it has come to no position after its run's beginning where its command asks for a
+-- While it runs forward, the program has come to no position after its run's beginning where its command asks for a
 -- stop. So none is passed where a run is held and goes on as another.
 abbrev pub NoStopIsPassed : Type 0
 NoStopIsPassed = OfLawfulHistories (λ past.

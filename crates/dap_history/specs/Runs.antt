@@ -36,7 +36,7 @@ RunsCountFromOne = OfHistories (λ past.
 
 -- ---- orders
 
--- A step orders at most one thing: that a run begins, that it is held, or that the runner quits.
+-- A step orders at most one thing. It is that a run begins, that it is held, or that the runner quits.
 abbrev pub EachStepOrdersOnce : Type 0
 EachStepOrdersOnce = OfSteps (λ before step.
     (front back : List PlainOrder) (order : PlainOrder) → step.effect.orders ≡ front ++ order ∷ back
@@ -72,8 +72,8 @@ mode_asked past main (Content (Some request)) = mode_by (depth_at main (position
 mode_asked past main (Accepted r) = held_mode r.outcome (last_run past)
 mode_asked past main _ = None
 
--- Each run is in the mode of the command that asks for it, with the depth at which the program stands; one that follows
--- a held run is in that run's mode.
+-- Each run is in the mode of the command that asks for it, or of the held run that it continues. In that mode is the
+-- depth at which the program stands.
 abbrev pub EachRunIsAsAsked : Type 0
 EachRunIsAsAsked = OfLawfulSteps (λ before step.
     (run : Heading)
@@ -87,15 +87,15 @@ IsExcused s command.ConfigurationDone events = IsSome (last_such stop_of_event e
 IsExcused s (command.Resume kind asked) events = (s ≡ Faulted) × (events ≡ event.Exited 1 ∷ event.Terminated ∷ [])
 IsExcused s _ events = ⊥
 
--- Where a command that asks for a run is granted, one is ordered, unless the program stops at position 0, or stands
--- before a fault and was to go forward: then it ends.
+-- A granted command that asks for a run has one ordered, unless the program stops at position 0, or ends before a
+-- fault. It ends there where it was to go forward.
 abbrev pub GrantedRunsAreOrdered : Type 0
 GrantedRunsAreOrdered = OfSteps (λ before step.
     (request : Request)
     → Grants step request → IsSome (mode_by 0 request.body) → IsSome (run_in step)
     ⊎ IsExcused (situation before) request.body step.effect.events)
 
--- After a run was held, another run is ordered if no pause waits. `PausesStop` says so too, by the requests themselves.
+-- After a run was held, another is ordered if no pause waits. `PausesStop` says so too, by the requests themselves.
 abbrev pub HeldRunsGoOn : Type 0
 HeldRunsGoOn = OfSteps (λ before step.
     (r : PlainReport)
@@ -116,15 +116,15 @@ pub record GrantsWait (past : History) (step : Step) : Type 0 where
   pub granted : Grants step request
   pub to_wait : IsToWait past request.body
 
--- A Hold is ordered only while the program runs, where a pause or breakpoints that wait are granted, and directly after
--- the Go of the run that it names, so at most once for a run. The run doesn't go back.
+-- A Hold is ordered only where a pause or breakpoints are granted in a run that doesn't go back, at most once for a
+-- run. The program runs then, and the order comes directly after the Go of the run that it names.
 abbrev pub HoldOnce : Type 0
 HoldOnce = OfSteps (λ before step.
     (front back : List PlainOrder) (n : ℕ) → step.effect.orders ≡ front ++ Hold n ∷ back
     → (situation before ≡ Running) × GrantsWait before step × ((earlier : List PlainOrder) × (run : Heading)
     × (orders_of before ++ front ≡ earlier ++ Go run ∷ []) × (n ≡ run.run) × (goes_back run.mode ≡ false)))
 
--- After a pause or breakpoints were granted in a run that doesn't go back, the last order is that run's Hold.
+-- After a pause or breakpoints were granted in a run that doesn't go back, the last order is its Hold.
 abbrev pub WaitsAreHeld : Type 0
 WaitsAreHeld = OfSteps (λ before step.
     situation before ≡ Running → (run : Heading) → last_run before ≡ Some run → goes_back run.mode ≡ false

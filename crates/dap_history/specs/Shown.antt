@@ -138,10 +138,10 @@ Shows l counting c (question.Evaluate asked) result =
     OfFrame c asked.frame_id refusal.UnknownFrame result
     (λ f. ShowsValue l.program c asked.frame_id f asked.expression result)
 
--- A question that neither its situation nor its thread refuses is answered from the configuration that the meaning of
--- the launched program has at the position of the last stop: each frame asked for, with id, name, line and column, and
--- their number; the scopes along the static links; each variable with its number, as declared; an expression's value or
--- fault; and a refusal for a missing frame, and for a text that is no expression.
+-- A question that neither its situation nor its thread refuses is answered from the program's meaning at the last
+-- stop. It gets each frame asked for, with id, name, line and column, and their number; the scopes along the static
+-- links; each variable with its number, as declared; an expression's value or fault; and a refusal for a missing
+-- frame, and for a text that is no expression.
 abbrev pub AnswersShowTheProgram : Type 0
 AnswersShowTheProgram = OfHistories (λ past.
     (before : History) (request : Request) (question : Question) (step : Step)

@@ -108,9 +108,9 @@ IsRightStop l before None reason m =
     × (due l.program (plan before).breakpoints (plan before).counted_from
     (if l.stop_on_entry then mode.Entry else mode.Continue) 0 ≡ Some r))
 
--- Each stop is at the first due position of its run, where the run was held, before a step that faults, at position 0,
--- or where going back leads, and has its reason or fault. `Moves` says this again in the words of the commands, without
--- modes and due positions; a reader may skip this one.
+-- Each stop is where its run's mode and plan have it, with its reason or fault. It is at the first due position of
+-- its run, where the run was held, before a step that faults, at position 0, or where going back leads. `Moves` says
+-- this again in the words of the commands, without modes and due positions; a reader may skip this one.
 abbrev pub EachStopIsRight : Type 0
 EachStopIsRight = OfLawfulHistories (λ past.
     (before : History) (reason : StopReason) (m : ℕ) → StopsAt past before reason m
@@ -138,8 +138,8 @@ tells past slice.Done = event.Exited 0 ∷ event.Terminated ∷ []
 tells past (slice.Fault fault) = event.Stopped (stop.Exception (told_fault fault)) ∷ []
 tells past slice.NoMemory = []
 
--- A report that is accepted tells numbers and logs, and then the stop of its run, if that stops there, or that the
--- program exited with the code 0, if it ends there.
+-- An accepted report tells numbers and logs, and then the stop or the end of its run, if it has one. An end is told
+-- as exited with the code 0.
 abbrev pub EachReportIsTold : Type 0
 EachReportIsTold = OfSteps (λ before step.
     (r : PlainReport)
@@ -163,8 +163,8 @@ TellsBy s command.ConfigurationDone events = TellsFirst events
 TellsBy s (command.Resume kind asked) events = TellsEnd s events
 TellsBy s _ events = events ≡ []
 
--- A request tells nothing besides its answer, unless it starts the program, or asks one that stands before a fault to
--- go on, which then exited with the code 1.
+-- A request tells nothing besides its answer, unless it starts the program, or ends one that stands before a fault.
+-- Such a program exited with the code 1.
 abbrev pub EachReplyIsTold : Type 0
 EachReplyIsTold = OfSteps (λ before step.
     (request : Request)
@@ -183,7 +183,7 @@ pub record Orders (step : Step) (run : Heading) : Type 0 where
   pub back : List PlainOrder
   pub orders_are : step.effect.orders ≡ front ++ Go run ∷ back
 
--- Each run is of the launched text, under the plan in force, and starts where the program stands.
+-- Each run is of the launched text, under the plan in force, from where the program stands.
 abbrev pub EachRunStartsThere : Type 0
 EachRunStartsThere = OfLawfulSteps (λ before step.
     (run : Heading)
@@ -225,9 +225,8 @@ pub record AnswersFrom (l : Launched) (before : History) (m : ℕ) (request : Re
   pub shown : RepliesAt (subject_in before l) (at l.program m) question result
   pub answer_is : step.answer ≡ Some (Answer request.seq (name_of request.body) (in_body result))
 
--- Where the program stands, frames, scopes, variables and values are those of the launched program at its last stop.
--- Elsewhere no question is answered with a body. `Shown` says what they show without `Inspection`; a reader may skip
--- this one.
+-- Frames, scopes, variables and values are those of the last stop, and shown only where the program stands. `Shown`
+-- says what they show without `Inspection`; a reader may skip this one.
 abbrev pub QuestionsAreAnsweredThere : Type 0
 QuestionsAreAnsweredThere = OfHistories (λ past.
     (before : History) (request : Request) (question : Question) (step : Step)

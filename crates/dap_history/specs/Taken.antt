@@ -74,9 +74,9 @@ AddsSteps past rest e steps =
     ((item : Item) × IsItem past rest e item × BeginWithItem e item steps)
     ⊎ (((item : Item) → ¬ IsItem past rest e item) × (steps ≡ []))
 
--- While a session takes items, each event that is one is taken, and nothing is taken that isn't: the end of the input,
--- a failed read, a failed allocation, the file of a launch that waits, and a report that goes on with the last run from
--- where the program stands are items; no other file or report is. After that no event adds anything.
+-- While items are taken, each event that is one is taken, and no other. The end of the input, a failed read, a
+-- failed allocation, the file of a launch that waits, and a report that goes on with the last run from where the
+-- program stands are items; no other file or report is. After that no event adds anything.
 abbrev pub EventsAreTaken : Type 0
 EventsAreTaken =
     (first : FirstSeq) (events : List Incoming) (e : Incoming) (past new : History) (rest left : Rest)

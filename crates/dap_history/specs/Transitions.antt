@@ -73,12 +73,12 @@ after_steps s (step ∷ steps) = after_steps (after_step s step) steps
 
 -- ---- the laws
 
--- Each step of a session leads to the situation that the table of transitions has.
+-- Each step leads to the situation that the table of transitions has.
 abbrev pub EachStepLeads : Type 0
 EachStepLeads = OfSteps (λ before step.
     situation (before ++ step ∷ []) ≡ after_step (situation before) step)
 
--- So the situation is where the steps lead from Fresh, one after another.
+-- The situation is where the steps lead from Fresh.
 abbrev pub SituationIsAfterSteps : Type 0
 SituationIsAfterSteps = OfHistories (λ past.
     situation past ≡ after_steps Fresh past)

@@ -104,10 +104,10 @@ IsVerdict None asked result = IsGranted asked result
 
 -- ---- the laws
 
--- Each request is answered under its own seq and command: refused exactly where its situation refuses it, or it names
--- another thread than 1, with that refusal; and otherwise granted, with the kind of body that its command has, or, of a
--- question, answered as `AnswersShowTheProgram` says. A launch that isn't refused waits for its file and is no such
--- item: `EachLaunchIsOfItsFile` says how it ends.
+-- Each request is answered under its own seq and command: with the refusal of its situation, or for another thread
+-- than 1, if there is one, and otherwise with its command's kind of body. A question is answered as
+-- `AnswersShowTheProgram` says; a launch that isn't refused waits for its file, and is no such item.
+-- `EachLaunchIsOfItsFile` says how it ends.
 abbrev pub EachIsJudged : Type 0
 EachIsJudged = OfSteps (λ before step.
     (request : Request)
@@ -136,13 +136,12 @@ SpeaksUp (Loaded launch file) = Unit {0}
 SpeaksUp (Accepted r) = Unit {0}
 SpeaksUp _ = ⊥
 
--- Any other item - a content that is no request, the end of the input, a failure, a framing fault - is not answered and
--- tells nothing.
+-- A content that is no request, the end of the input, a failure or a framing fault isn't answered and tells nothing.
 abbrev pub OthersTellNothing : Type 0
 OthersTellNothing = OfSteps (λ before step.
     ¬ SpeaksUp step.item → (step.answer ≡ None) × (step.effect.events ≡ []))
 
--- What a step sends is its answer, if it has one, and then its events.
+-- A step sends its answer, if it has one, and then its events.
 abbrev pub AnswersComeFirst : Type 0
 AnswersComeFirst =
     ((step : Step) (answer : Outgoing) → step.answer ≡ Some answer
