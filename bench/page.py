@@ -84,8 +84,16 @@ def ours_and_constant(log: Log, label: str) -> tuple[float, float]:
     return log.figures("session", label)[1], log.figures("session", label, later)[-2]
 
 
+LOADS = [
+    "25,000 and 100,000 `threads`, from a file",
+    "16 and 64 contents of 1 MiB, from a file",
+    "2,500 and 10,000 `threads`, by single bytes",
+    "1 and 4 contents of 1 MiB, by single bytes",
+]
+
+
 def growths(log: Log) -> list[float]:
-    return [log.figures("throughput", label)[2] for label, _ in LOADS]
+    return [log.figures("throughput", label)[2] for label in LOADS]
 
 
 def texts(log: Log) -> list[list[float]]:
@@ -173,22 +181,6 @@ def goals(log: Log) -> str:
     return table(["Goal", "Measured", "Held"], [goal.row() for goal in each])
 
 
-LOADS = [
-    ("25,000 and 100,000 `threads`, from a file", "25,000 `threads`"),
-    ("16 and 64 contents of 1 MiB, from a file", "16 contents of 1 MiB"),
-    ("2,500 and 10,000 `threads`, by single bytes", "2,500 `threads`, by single bytes"),
-    ("1 and 4 contents of 1 MiB, by single bytes", "1 content of 1 MiB, by single bytes"),
-]
-
-
-def throughput(log: Log) -> str:
-    rows = []
-    for label, shown in LOADS:
-        once, four_times, growth = log.figures("throughput", label)
-        rows.append([shown, f"{once:.3f}", f"{four_times:.3f}", f"{growth:.2f}"])
-    return table(["Load", "Size", "Four times", "Growth"], rows)
-
-
 ANSWERS = [
     ("start to the answer of `initialize`", "start to the answer of `initialize`"),
     ("`threads`", "`threads`"),
@@ -246,24 +238,6 @@ def machine(log: Log) -> str:
     return table(["", "Machine", "C", "Ratio", "Instructions", "`pl0 run`", "Pascal"], rows)
 
 
-SLICES = [
-    ("machine alone", "machine alone", "a step of `count`, the machine alone"),
-    ("runner, ports in memory", "the runner, ports in memory", "a step of `count`, by the runner"),
-    ("slices, no breakpoints", "slices, no breakpoint", "a step of `count`, in slices"),
-    ("256 breakpoints elsewhere", "256 breakpoints elsewhere", "a step in slices, 256 breakpoints elsewhere"),
-    ("a false condition in the loop", "a false condition in the loop",
-     "a step in slices, a false condition in the loop"),
-]
-
-
-def slices(log: Log) -> str:
-    rows = []
-    for label, shown, counted in SLICES:
-        speed, _, share = log.figures("slices", label)
-        rows.append([shown, f"{speed:.1f}", f"{share:.2f}", f"{log.figures('instructions', counted)[0]:.1f}"])
-    return table(["Run", "Million steps a second", "Share", "Instructions"], rows)
-
-
 def back(log: Log) -> str:
     forward, memory = log.figures("back", "100,000,002 steps forward")
     best, median, worst = log.figures("back", "`stepBack` from there, 20 times")
@@ -304,8 +278,8 @@ def build(log: Log) -> str:
 
 
 BLOCKS: dict[str, Callable[[Log], str]] = {
-    "build": build, "goals": goals, "throughput": throughput, "answers": answers, "runs": runs, "debugged": debugged,
-    "machine": machine, "slices": slices, "back": back, "checking": checking, "many": many,
+    "build": build, "goals": goals, "answers": answers, "runs": runs, "debugged": debugged, "machine": machine,
+    "back": back, "checking": checking, "many": many,
 }
 
 
