@@ -1,15 +1,17 @@
 -- A worked example: what is sent for three requests, computed.
 use Rattle.std.specs.Prelude.{◌≡◌, List, ℕ, [], ◌∷◌, ◌++◌, codes, map, None, Some, Ok, Err}
-use Rattle.serde_json.specs.Data.{object, number, unsigned, member, no_members}
+use Rattle.serde_json.specs.Data.{Data, object, number, unsigned, member, no_members}
 use Rattle.serde_json.specs.Written.{compact_text}
 use Rattle.dap_server.specs.Messages.{PlainEvent, PlainReply, messages}
+
+abbrev exit_code : Data
+exit_code = object (member (codes "exitCode") (number (unsigned 0)) no_members)
 
 -- two events: one without a body, and one with it
 abbrev events : List PlainEvent
 events =
     record { name = codes "initialized"; body = None }
-    ∷ record { name = codes "exited"; body = Some (object (member (codes "exitCode") (number (unsigned 0)) no_members)) }
-    ∷ []
+    ∷ record { name = codes "exited"; body = Some exit_code } ∷ []
 
 -- The response comes first, with the number and the command of its request; then the events, numbered on.
 abbrev pub EventsFollow : Type 0
