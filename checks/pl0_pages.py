@@ -4,7 +4,7 @@
 usage: pl0_pages.py PL0
 
 Each row of the table of mistakes in docs/PL0.md is tried where its example is a text: the code is the number of the
-fault, and the sentence and the place are what `pl0 check` tells. So is what the table below it says beside a token that
+fault, and the sentence and the place are what `pl0 check` tells. So is what the list below it says beside a token that
 can't stand where it does, and of each text in checks/mistakes it tells the line of told.txt there. For each of the
 examples `pl0 list` shows the same instructions, and the same steps beside them, as `pl0dap --check` prints, whose
 stored output the gate compares. The table of names in docs/PL0.md is what `pl0 list --names` writes, and the tree what
@@ -24,7 +24,7 @@ import threading
 
 TOP = pathlib.Path(__file__).resolve().parent.parent
 ROW = re.compile(r"^\| (\d+) \| \w+ \| (.*) \| `([^`]*)` \| `(\d+) (\d+) (\d+)` \|$")
-HINT = re.compile(r"^\| ([^|]*) \| `([^`]*)` \|$")
+HINT = re.compile(r"^- (.*): `([^`]*)`$")
 ENDLESS = b"var n; while 0 = 0 do begin n := n + 1; ! n end.\n"
 FAULTY = b"var n; begin n := n; ! 1 / n end.\n"
 WRITES_AND_FAULTS = b"var n; begin ! 1; ! 1 / n end.\n"
@@ -57,9 +57,9 @@ def wrong_mistakes(pl0: str):
 
 
 def wrong_hints(pl0: str):
-    """What is wrong with the table of what is said beside a token that can't stand where it does."""
+    """What is wrong with the list of what is said beside a token that can't stand where it does."""
     page = (TOP / "docs" / "PL0.md").read_text(encoding="utf-8")
-    rows = [row for line in page.split("| Said beside it |")[1].split("\n\n")[0].splitlines()
+    rows = [row for line in page.split(" there are, each with a text:\n\n")[1].split("\n\n")[0].splitlines()
             if (row := HINT.match(line))]
     for row in rows:
         hint, text = row.groups()
