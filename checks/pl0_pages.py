@@ -59,7 +59,7 @@ def wrong_mistakes(pl0: str):
 def wrong_hints(pl0: str):
     """What is wrong with the list of what is said beside a token that can't stand where it does."""
     page = (TOP / "docs" / "PL0.md").read_text(encoding="utf-8")
-    rows = [row for line in page.split(" there are, each with a text:\n\n")[1].split("\n\n")[0].splitlines()
+    rows = [row for line in re.split(r"each\s+with\s+a\s+text:\n\n", page)[1].split("\n\n")[0].splitlines()
             if (row := HINT.match(line))]
     for row in rows:
         hint, text = row.groups()
