@@ -57,7 +57,6 @@ VERSIONS = {
     "crates/pl0_tool/src/arguments.rt": rf'\.version\("{VERSION}"\)',
     "docs/pl0.1": rf'^\.TH .*"pl0dap {VERSION}"',
     "docs/pl0dap.1": rf'^\.TH .*"pl0dap {VERSION}"',
-    "docs/pl0dap_from_zero.1": rf'^\.TH .*"pl0dap {VERSION}"',
     "docs/EDITORS.md": rf"pl0dap\.pl0-{VERSION}`",
     "editors/vscode/package.json": rf'^  "version": "{VERSION}"',
     "CHANGELOG.md": rf"^## {VERSION}$",
