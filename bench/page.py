@@ -219,14 +219,6 @@ def runs(log: Log) -> str:
                  [[shown, f"{log.figures('session', label)[0]:.1f}"] for label, shown in RUNS])
 
 
-def debugged(log: Log) -> str:
-    names = [line.split()[0] for line in log.lines["debugged"] if re.match(r"[a-z]+ +\d[\d,]{5}", line)]
-    columns = {name: log.figures("debugged", name) for name in names}
-    return table(["", *(f"`{name}`" for name in names)], [
-        ["Session", *(f"{columns[name][1]:.1f}" for name in names)],
-        ["C", *(f"{columns[name][2]:.1f}" for name in names)]])
-
-
 def machine(log: Log) -> str:
     rows = []
     for name in PROGRAMS:
@@ -278,8 +270,8 @@ def build(log: Log) -> str:
 
 
 BLOCKS: dict[str, Callable[[Log], str]] = {
-    "build": build, "goals": goals, "answers": answers, "runs": runs, "debugged": debugged, "machine": machine,
-    "back": back, "checking": checking, "many": many,
+    "build": build, "goals": goals, "answers": answers, "runs": runs, "machine": machine, "back": back,
+    "checking": checking, "many": many,
 }
 
 
