@@ -14,6 +14,7 @@ import pathlib
 import re
 import subprocess
 import sys
+import textwrap
 from collections.abc import Callable
 from typing import NamedTuple
 
@@ -21,6 +22,7 @@ from instructions import DEEP
 
 TOP = pathlib.Path(__file__).resolve().parent.parent
 PAGE = TOP / "docs" / "PERFORMANCE.md"
+COLUMNS = 122
 COMMAND = re.compile(r"python3 (?:bench|checks)/(\w+)\.py ")
 NUMBER = re.compile(r"-?\d[\d,]*(?:\.\d+)?")
 PROGRAMS = ("count", "links", "divide", "primes", "nested")
@@ -66,11 +68,12 @@ class Goal(NamedTuple):
     names: tuple[str, ...] = ()
     least: bool = True
 
-    def row(self) -> list[str]:
+    def item(self) -> str:
         held = [(had >= limit) if self.least else (had <= limit) for had, limit in zip(self.measured, self.limits)]
         missed = [name for name, is_held in zip(self.names, held) if not is_held]
-        word = "yes" if all(held) else "no" if not any(held) or not missed else "but for " + ", ".join(missed)
-        return [self.what, self.shown.format(*self.measured), word]
+        word = "" if all(held) else ", not held" if not any(held) or not missed else ", but for " + ", ".join(missed)
+        return textwrap.fill(f"- {self.what}: {self.shown.format(*self.measured)}{word}", COLUMNS,
+                             subsequent_indent="  ", break_long_words=False, break_on_hyphens=False)
 
 
 def table(head: list[str], rows: list[list[str]]) -> str:
@@ -178,7 +181,7 @@ def goals(log: Log) -> str:
         *session_goals(log), *machine_goals(log),
         Goal("twice the text judged in at most 2.3 times the time", "{:.2f}", [max(judged)], [2.3], least=False),
     ]
-    return table(["Goal", "Measured", "Held"], [goal.row() for goal in each])
+    return "\n".join(goal.item() for goal in each)
 
 
 ANSWERS = [
