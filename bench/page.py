@@ -81,6 +81,10 @@ def table(head: list[str], rows: list[list[str]]) -> str:
     return "\n".join([lines[0], "|" + "---|" * len(head), *lines[1:]])
 
 
+def items(rows: list[list[str]]) -> str:
+    return "\n".join(f"- {what}: {', '.join(figures)}" for what, *figures in rows)
+
+
 def ours_and_constant(log: Log, label: str) -> tuple[float, float]:
     """The best microseconds of the program, and of the one that answers with constant bytes."""
     later = 1
@@ -202,7 +206,7 @@ def answers(log: Log) -> str:
     rows.append(["each of 25,000 `threads` at once, in the median", f"{at_once:.1f}", f"{constant:.1f}"])
     memory = [log.figures("session", f"a stop with {what}")[0]
               for what in ("1 frame", "1,024 frames", "1,024 variables")]
-    return table(["Request to last message", "Microseconds", "Constant"], rows) + (
+    return items(rows) + (
         f"\n\nAt a stop {memory[0]:,.0f} KiB are resident with 1 frame, {memory[1]:,.0f} with 1,024, and "
         f"{memory[2]:,.0f} where a block has 1,024 variables.")
 
@@ -218,8 +222,7 @@ RUNS = [
 
 
 def runs(log: Log) -> str:
-    return table(["A loop of 20,000,002 steps", "Million steps a second"],
-                 [[shown, f"{log.figures('session', label)[0]:.1f}"] for label, shown in RUNS])
+    return items([[shown, f"{log.figures('session', label)[0]:.1f}"] for label, shown in RUNS])
 
 
 def machine(log: Log) -> str:
