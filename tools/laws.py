@@ -25,7 +25,7 @@ HISTORY = TOP / "crates" / "dap_history"
 LISTS = ("history_laws", "run_laws", "command_laws")
 COLUMNS = 122
 # The clauses of which the page has more sentences than the first, as these say what no other clause does.
-SENTENCES = {"counts": 2, "over_told": 2, "judged": 2, "as_asked": 2, "ends": 2}
+SENTENCES = {"counts": 2, "over_told": 2, "judged": 2, "ends": 2}
 SENTENCE_END = re.compile(r"(?<=\.) (?=[A-Z`])")
 # A law function with its clauses, and one of these; the answer to a goal of one, and a lemma file with what is used of
 # it; a definition with the comment in front of it.
