@@ -5,8 +5,8 @@ usage: laws.py [--write]
 
 Prints for each law function that proofs answer each of its clauses, what that says, and the lemmas by which it is
 answered, with their files. With --write it writes instead what docs/PROMISES.md says of the laws of a session's history,
-between `<!--laws-->` and `<!--end-->`: for each function a list of its clauses, with the definition of each, and the first
-sentence of the comment in front of this, or as many as SENTENCES says.
+between `<!--laws-->` and `<!--end-->`: for each function a list of its clauses, each with the first sentence of the
+comment in front of its definition, or as many as SENTENCES says.
 """
 from __future__ import annotations
 
@@ -76,19 +76,21 @@ def comments() -> dict[str, str]:
     return found
 
 
-def item(law: Law, comment: str) -> str:
-    """What the page says of a clause."""
+def item(law: Law, comment: str, clauses: dict[str, str]) -> str:
+    """What the page says of a clause: of another definition that is named it has the clause."""
     sentences = SENTENCE_END.split(comment)[:SENTENCES.get(law.clause, 1)]
-    text = f"- `{law.clause}` (`{law.says}`): {' '.join(sentences)}"
+    said = re.sub(r"`(\w+)`", lambda name: f"`{clauses.get(name[1], name[1])}`", " ".join(sentences))
+    text = f"- `{law.clause}`: {said}"
     return textwrap.fill(text, COLUMNS, subsequent_indent="  ", break_long_words=False, break_on_hyphens=False)
 
 
 def lists() -> str:
     """What the page says of the laws of a session's history."""
     laws, said = laws_of(HISTORY.name), comments()
+    clauses = {law.says: law.clause for law in laws}
     parts = []
     for function in LISTS:
-        items = [item(law, said[law.says]) for law in laws if law.function == function]
+        items = [item(law, said[law.says], clauses) for law in laws if law.function == function]
         parts.append("\n".join([f"`{function}`:", "", *items]))
     return "\n\n".join(parts) + "\n"
 
