@@ -1,31 +1,57 @@
 //! The inbox.
 
-use crossbeam_channel::{Receiver, TryRecvError};
+ghost use Rattle.std.specs.Prelude.{◌≡◌, true};
+ghost use Rattle.byte_streams.specs.Streams.{IsOfWhole};
+ghost use Rattle.crossbeam_channel.specs.Claims.{IsSeatAt, view};
+ghost use Rattle.crossbeam_channel.specs.Ends.{receives_on};
+ghost use Rattle.dap_reader.specs.Delivery.{is_taker, through};
+
+use crate::place::Place;
+use crate::rule::{Gets, InOrder};
+use crossbeam_channel::{Pass, RuledReceiver};
 use dap_server::{Inbox, Item, Polled};
 use std::alloc::Global;
 use std::sync::Wait;
 
-/// What a client sends: the items that its reader sends, in order.
+/// What a client sends: the items that reads of an input gave, in order, each once, up to those that were taken. After the
+/// last one, which is no `Bytes`, `next` waits forever, and a look finds nothing.
 #[derive(Drop)]
 pub struct Arrivals {
-    pub(crate) items: Receiver<Item, Global>,
+    pub(crate) receiver: RuledReceiver<Item, Place, InOrder>,
+    pub(crate) pass: Pass<Item, Place>,
+    ghost seated: { IsSeatAt (receives_on receiver) pass },
+    ghost takes: { is_taker (view pass) ≡ true },
+    ghost of_whole: { ∥ IsOfWhole (through (view pass)) ∥₁ },
 }
 
 impl Inbox for Arrivals {
+    ghost use Rattle.dap_server.specs.Inbox.{Reads};
+    ghost use Rattle.dap_reader.specs.Taken.{taken};
+
+    ghost gives = { λ before item after. Reads (taken before) item (taken after) };
+
     fn next(&mut self, rt: &impl Wait, _alloc: Global) -> Item {
-        match self.items.recv(rt) {
-            Ok(item) => item,
-            Err(_) => Item::NoMemory,
+        let Arrivals { receiver, pass } = self;
+        for _ in rt.forever() {
+            if let Ok(item) = receiver.recv_as::<Gets, _>(rt, pass) {
+                return item;
+            }
         }
+        unreachable!()
     }
 }
 
 impl Polled for Arrivals {
+    ghost use Rattle.dap_reader.specs.Arriving.{Looks};
+    ghost use Rattle.dap_reader.specs.Taken.{taken};
+
+    ghost polls = { λ before found after. Looks (taken before) found (taken after) };
+
     fn poll(&mut self, rt: &impl Wait, _alloc: Global) -> Option<Item> {
-        match self.items.try_recv(rt) {
+        let Arrivals { receiver, pass } = self;
+        match receiver.try_recv_as::<Gets, _>(rt, pass) {
             Ok(item) => Some(item),
-            Err(TryRecvError::Empty) => None,
-            Err(TryRecvError::Disconnected) => Some(Item::NoMemory),
+            Err(_) => None,
         }
     }
 }

@@ -16,12 +16,17 @@
 //! }
 //! ```
 //!
-//! [`Arrivals`] promises nothing of its items: what `ServedWorker` and `ServedInbox` say over it is of the items that were
-//! taken, and not of the bytes that were read.
+//! [`Arrivals`] promises of its items what a source promises of its own (`Reads` of `dap_server`), from the input's beginning
+//! on: what was taken is what reads gave, in order, each item once, and no end or failure that no read told. So what
+//! `ServedWorker` and `ServedInbox` say over it is of the bytes that were read. Nothing is promised of when an item comes.
 #![tactic(auto)]
 
 mod arrivals;
+mod place;
+mod queue;
 mod reader;
+mod rule;
+mod sender;
 
 pub use arrivals::Arrivals;
 pub use reader::start_reader;

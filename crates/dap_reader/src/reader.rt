@@ -1,20 +1,26 @@
 //! The thread that reads.
 
+ghost use Rattle.std.specs.Prelude.{◌≡◌, IfOk, IfErr, OnOk};
+ghost use Rattle.dap_server.specs.Inbox.{plain_item};
+ghost use Rattle.dap_reader.specs.Arriving.{unread};
+ghost use Rattle.dap_reader.specs.Delivery.{Comes};
+ghost use Rattle.dap_reader.specs.Sent.{sent};
+ghost use Rattle.dap_reader.specs.Taken.{taken};
+
 use crate::arrivals::Arrivals;
-use byte_streams::Reading;
-use crossbeam_channel::{Sender, bounded};
+use crate::queue::item_queue;
+use crate::sender::ItemSender;
+use byte_streams::{Reading, Source};
 use dap_server::{Inbox, Item};
 use std::alloc::{AllocError, Global};
 use std::io::Read;
+use std::marker::Brand;
 use std::rt::Clock;
 use std::sync::Wait;
 use std::thread::{self, Threads};
 
-/// How many items may wait for the session. The reader waits while there are as many.
-const MOST_WAITING: usize = 64;
-
-/// Starts a thread that reads an input, and returns the inbox of what it has read. The thread ends with the input, or when
-/// the inbox is gone and more is read; it is cut off when `main` returns.
+/// Starts a thread that reads an input, and returns the inbox of what it reads, of which nothing is taken yet. The thread ends
+/// with the input, or when the inbox is gone and more is read; it is cut off when `main` returns.
 ///
 /// # Errors
 ///
@@ -23,30 +29,46 @@ pub fn start_reader<R, I>(rt: &R, alloc: Global, input: I) -> Result<Arrivals, A
 where
     R: Threads + Wait + Clock + Copy + Send + Drop + 'static,
     I: Read + Send + Drop + 'static,
+    ensures { IfOk result (λ inbox. taken inbox ≡ unread (I.remaining input)) }
 {
-    let (sent, items) = bounded(alloc, MOST_WAITING)?;
+    let (sender, inbox) = item_queue::<Brand, I>(alloc, &input)?;
     let here = *rt;
-    let reader = thread::spawn(rt, move || {
-        read_client(&here, alloc, &mut Reading::new(&here, input), &sent)
-    });
+    let reader = thread::spawn(
+        rt,
+        move || -> ()
+            requires { sent sender ≡ unread (I.remaining input) }
+        {
+            let mut sender = sender;
+            let _ = read_client(&here, alloc, &mut Reading::new(&here, input), &mut sender);
+        },
+    );
     match reader {
-        Ok(_) => Ok(Arrivals { items }),
+        Ok(_) => Ok(inbox),
         Err(_) => Err(AllocError),
     }
 }
 
-/// Sends what comes from the client, until no more comes or the session is gone.
-fn read_client<R: Wait, I: Inbox>(
+/// Sends all that reads of a source give, until no more comes or the inbox is gone.
+///
+/// # Errors
+///
+/// The item that was read last, where the inbox is gone.
+fn read_client<R: Wait, S: Source>(
     rt: &R,
     alloc: Global,
-    input: &mut I,
-    items: &Sender<Item, Global>,
-) {
+    source: &mut S,
+    sender: &mut ItemSender,
+) -> Result<(), Item>
+    requires { sent sender.old ≡ S.supply source.old }
+    ensures ok { OnOk result (sent sender.new ≡ S.supply source.new) }
+    ensures err { IfErr result (λ back. Comes (sent sender.new) (plain_item back) (S.supply source.new)) }
+{
     for _ in rt.forever() {
-        let item = input.next(rt, alloc);
+        let item = source.next(rt, alloc);
         let goes_on = matches!(item, Item::Bytes(_));
-        if items.send(rt, item).is_err() || !goes_on {
-            return;
+        sender.send::<Brand, S>(rt, item, source)?;
+        if !goes_on {
+            return Ok(());
         }
     }
     unreachable!()

@@ -1,0 +1,46 @@
+-- Defines the rule of the queue between the thread that reads and the session, which holds after each step of either.
+use Rattle.std.specs.Prelude.{◌≡◌, ◌⊎◌, Bool, true, false, None, List, [], ◌∷◌, map}
+use Rattle.byte_streams.specs.Streams.{Supply, IsOfWhole}
+use Rattle.dap_server.specs.Inbox.{plain_item, Gives, Given, Reads}
+use Rattle.dap_server.specs.declared.inbox.Item.{Item}
+use Rattle.dap_reader.specs.Arriving.{unread}
+use Rattle.dap_reader.specs.declared.place.Known.{Known}
+use Rattle.dap_reader.specs.declared.place.Place.{Place}
+use Rattle.dap_reader.specs.declared.place.Place.TheVariants.{Unused, Takes, Sends}
+
+abbrev pub known : Supply → Known
+known s = record { first = s.read.first; bytes = s.read.bytes; ended = s.ended; failures = s.failures }
+
+abbrev pub supply_of : Known → Supply
+supply_of k = record { read = record { first = k.first; bytes = k.bytes }; ended = k.ended; failures = k.failures }
+
+-- the reads of which all went through this end
+abbrev pub through : Place → Supply
+through Unused = unread None
+through (Takes k) = supply_of k
+through (Sends k) = supply_of k
+
+abbrev pub is_taker : Place → Bool
+is_taker (Takes k) = true
+is_taker _ = false
+
+abbrev pub is_sender : Place → Bool
+is_sender (Sends k) = true
+is_sender _ = false
+
+-- Reads gave this item, and nothing but the input's own bytes.
+abbrev pub Comes : Gives Supply
+Comes before item after = Reads before item after × ∥ IsOfWhole after ∥₁
+
+-- The queue is new; or what is inside is what the reads gave after those of which all was taken, up to those of which
+-- all was sent.
+abbrev pub Carries : List Item → List Place → Type 0
+Carries inside ends =
+    ((ends ≡ Unused ∷ []) × (inside ≡ []))
+    ⊎ ((taken : Supply) × (sent : Supply) × (ends ≡ Takes (known taken) ∷ Sends (known sent) ∷ [])
+    × Given Comes taken (map plain_item inside) sent)
+
+-- an end took an item
+abbrev pub Took : Place → Item → Place → Type 0
+Took before item after =
+    (is_taker after ≡ true) × Comes (through before) (plain_item item) (through after)

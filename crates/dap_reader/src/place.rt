@@ -1,0 +1,22 @@
+//! What proofs know of an end of the queue.
+
+use std::collections::LinkedList;
+
+/// What an end of the queue may do, and which reads gave what went through it. Only proofs read it: no value of it is ever
+/// made.
+pub enum Place {
+    /// The queue is new, and its ends aren't apart yet.
+    Unused,
+    /// It takes, and took all that these reads gave.
+    Takes(Known),
+    /// It sends, and sent all that these reads gave.
+    Sends(Known),
+}
+
+/// What reads of an input gave: `Supply` of `byte_streams`, as a view.
+pub struct Known {
+    pub first: Option<LinkedList<u8>>,
+    pub bytes: LinkedList<u8>,
+    pub ended: bool,
+    pub failures: u64,
+}

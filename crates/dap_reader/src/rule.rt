@@ -1,0 +1,80 @@
+//! The rule of the queue: what is inside is what the reads gave after those of which all was taken.
+
+use crate::place::Place;
+use crossbeam_channel::protocol::{Lesson, Outcome, Protocol, Split};
+use dap_server::Item;
+use std::marker::{Brand, PhantomData};
+
+/// What the reads of an input gave up to a moment. A call picks it.
+pub(crate) trait Reached {
+    ghost use Rattle.byte_streams.specs.Streams.{Supply};
+
+    ghost supply: { Supply };
+}
+
+impl Reached for Brand {
+    ghost use Rattle.std.specs.Prelude.{None};
+    ghost use Rattle.dap_reader.specs.Arriving.{unread};
+
+    ghost supply = { unread None };
+}
+
+/// The rule.
+pub(crate) struct InOrder;
+
+impl Protocol<Item, Place> for InOrder {
+    ghost use Rattle.dap_reader.specs.Delivery.{Carries};
+    ghost use Rattle.dap_reader.specs.declared.place.Place.TheVariants.{Unused};
+
+    ghost holds = { Carries };
+
+    ghost first = { Unused };
+}
+
+/// The step that takes the ends apart, before anything is sent.
+pub(crate) struct Parts<K> {
+    of: PhantomData<K>,
+}
+
+impl<K: Reached> Split<Place> for Parts<K> {
+    ghost use Rattle.dap_reader.specs.Delivery.{known};
+    ghost use Rattle.dap_reader.specs.declared.place.Place.TheVariants.{Takes, Sends};
+
+    ghost left = { λ _. Takes (known K.supply) };
+
+    ghost right = { λ _. Sends (known K.supply) };
+}
+
+/// The step that sends what one more read gave.
+pub(crate) struct Puts<K> {
+    of: PhantomData<K>,
+}
+
+impl<K: Reached> Outcome<Item, Place> for Puts<K> {
+    ghost use Rattle.std.specs.Prelude.{◌≡◌};
+    ghost use Rattle.dap_reader.specs.Delivery.{known};
+    ghost use Rattle.dap_reader.specs.declared.place.Place.TheVariants.{Sends};
+
+    ghost then = { λ _ _ w. w ≡ Sends (known K.supply) };
+}
+
+impl<K> Lesson<Item, Place> for Puts<K> {
+    ghost use Rattle.std.specs.Prelude.{⊤};
+
+    ghost fact = { λ _ _. ⊤ };
+}
+
+/// The step that takes an item.
+pub(crate) struct Gets;
+
+impl Outcome<Item, Place> for Gets {
+    ghost use Rattle.dap_reader.specs.Delivery.{Took};
+
+    ghost then = { Took };
+}
+
+impl Lesson<Item, Place> for Gets {
+    ghost use Rattle.std.specs.Prelude.{⊤};
+
+    ghost fact = { λ _ _. ⊤ };
+}
