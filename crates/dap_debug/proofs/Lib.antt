@@ -1,3 +1,5 @@
+-- A conversation over an inbox is one over what is known of it; for `serve_language`.
+mod Arriving
 -- Each run ends once; for `debug_laws`.
 mod Balance
 -- What is shown and set one after another; for `inspecting` and `breakpoints`.

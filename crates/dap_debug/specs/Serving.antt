@@ -1,9 +1,10 @@
 -- Defines what is promised of a conversation over a language: `Debugged` is the contract of `serve_language_inbox`,
 -- and `DebuggedByReader` that of `serve_language`.
-use Rattle.std.specs.Prelude.{◌≡◌, ◌⊎◌, Bool, Result, Err}
-use Rattle.byte_streams.specs.Streams.{StreamLog}
+use Rattle.std.specs.Prelude.{◌≡◌, ◌⊎◌, ℕ, Bool, List, Option, Result, Err}
+use Rattle.byte_streams.specs.Streams.{StreamLog, Supply, IsOfWhole}
+use Rattle.dap_reader.specs.Arriving.{unread, Looks}
 use Rattle.dap_server.specs.Conversation.{Replies as Promise}
-use Rattle.dap_server.specs.Inbox.{Gives}
+use Rattle.dap_server.specs.Inbox.{Gives, Reads}
 use Rattle.dap_server.specs.Working.{Works, Polls, ServedWorker}
 use Rattle.dap_server.specs.declared.ending.Ending.{Ending}
 use Rattle.dap_server.specs.declared.ending.ServeFault.{ServeFault}
@@ -33,9 +34,12 @@ pub record Debugged {S I : Type 0} (known : Known S) (gives : Gives I) (polls : 
   pub served :
       ServedWorker (replied_by known) (worked_by known) runs_in gives polls unused last inbox left written later result
 
--- The thread that reads couldn't be started, and nothing is written; or a client was served over an inbox.
-abbrev pub DebuggedByReader : {S I : Type 0} → Known S → Gives I → Polls I → StreamLog → StreamLog
+-- The thread that reads couldn't be started, and nothing is written; or a client was served what reads of an input gave,
+-- from its beginning on. `taken` is what they gave up to the item that was taken last: of an input that is known, the
+-- front.
+abbrev pub DebuggedByReader : {S : Type 0} → Known S → Option (List ℕ) → StreamLog → StreamLog
     → Result Ending ServeFault → Type 0
-DebuggedByReader {S} {I} known gives polls written later result =
+DebuggedByReader known first written later result =
     ((result ≡ Err fault.NoMemory) × (later ≡ written))
-    ⊎ ((inbox : I) × (left : I) × Debugged known gives polls inbox left written later result)
+    ⊎ ((taken : Supply) × ∥ IsOfWhole taken ∥₁
+    × Debugged known Reads Looks (unread first) taken written later result)

@@ -20,8 +20,8 @@
 //!
 //! The contract is `Debugged` in `specs/Serving.antt`: each request that the inbox gave is answered once, in order, with what
 //! `Replies` in `specs/Replies.antt` says, and each slice is told as `WorksOn` in `specs/Running.antt` says, by the language's
-//! own steps. By `conversation_laws` each run ends once: with a `stopped`, or with `exited` and `terminated`. No contract says
-//! which items the thread of `serve_language` gives: what is promised is of those that were taken.
+//! own steps. By `conversation_laws` each run ends once: with a `stopped`, or with `exited` and `terminated`. Over the thread of
+//! `serve_language` the inbox gave what reads of the input gave, from its beginning on (`DebuggedByReader`).
 //!
 //! What the language means is the language's to say, by its ghost members. Where its `takes` allows any step, nothing is
 //! promised of the states between two stops, or of what is printed.

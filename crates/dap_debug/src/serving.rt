@@ -7,7 +7,7 @@ use crate::language::Language;
 use crate::session::Session;
 use byte_streams::Sink;
 use dap_reader::{Arrivals, start_reader};
-use dap_server::{Ending, Inbox, Polled, ServeFault, serve_worker};
+use dap_server::{Ending, Polled, ServeFault, serve_worker};
 use std::alloc::Global;
 use std::io::Read;
 use std::rt::{Clock, Files};
@@ -38,8 +38,7 @@ where
       first_place = L.first_place;
       frame_of = L.frame_of;
       variables_of = L.variables_of;
-    }) ⟦<Arrivals as Inbox>⟧.gives ⟦<Arrivals as Polled>⟧.polls
-        (O.output output.old).written (O.output output.new).written result }
+    }) (I.remaining input) (O.output output.old).written (O.output output.new).written result }
     ensures failures { OutputFailures result (O.output output.old).failures (O.output output.new).failures }
 {
     match start_reader(rt, alloc, input) {
