@@ -23,14 +23,14 @@ use Rattle.dap_debug.specs.Shown.{PlainFrame, PlainScope}
 use Rattle.dap_debug.specs.Replies.{Known, LoadsFrom, Replies}
 use Rattle.dap_debug.specs.Running.{GoesFrom, WorksOn, StartsFrom, ResumesFrom, PausesFrom, IsRefused, ended, mode_of, phase_after}
 use Rattle.dap_debug.specs.Standings.{Standing}
-use Rattle.dap_debug.specs.Telling.{output, told_end, told_of}
+use Rattle.dap_debug.specs.Telling.{event_of, told_end, told_of}
 use Rattle.dap_debug.specs.Laws.{ends_told, owed, asks}
 
 ends_append : (xs ys : List PlainEvent) → ends_told (xs ++ ys) ≡ ends_told xs + ends_told ys
 ends_append [] ys = omega arith
 ends_append (x ∷ xs) ys = let more = ends_append xs ys in omega (arith, more)
 
-none_in_outputs : (texts : List PlainOutput) → ends_told (map output texts) ≡ 0
+none_in_outputs : (texts : List PlainOutput) → ends_told (map event_of texts) ≡ 0
 none_in_outputs [] = refl
 none_in_outputs (Printed text ∷ texts) = let more = none_in_outputs texts in omega (arith, more)
 none_in_outputs (Logged text ∷ texts) = let more = none_in_outputs texts in omega (arith, more)
@@ -46,7 +46,7 @@ one_end (Some (AtEnd status)) a how = refl
 told_once : {S : Type 0} (told : List PlainOutput) (halt : Option PlainHalt) (a : S) (how : Mode)
     → owed (phase_after halt a how) + ends_told (told_of told halt) ≡ 1
 told_once told halt a how =
-    let both = ends_append (map output told) (told_end halt) in
+    let both = ends_append (map event_of told) (told_end halt) in
     let none = none_in_outputs told in
     let one = one_end halt a how in
     omega (arith, both, none, one)

@@ -7,6 +7,10 @@ use Rattle.std.proofs.lemmas.List.{length_push, length-map, length-take-le, map-
 use Rattle.serde_json.specs.Data.{Data, Items}
 use Rattle.serde_json.specs.View.{view, items_of}
 use Rattle.serde_json.specs.declared.value.Value.{Value}
+use Rattle.dap_bodies.specs.Bodies.{PlainFrame as ShownFrame, PlainBreakpoint as Answer, Refused, plain_frame as plain_shown_frame, plain_scope as plain_shown_scope, plain_breakpoint as plain_answer}
+use Rattle.dap_bodies.specs.declared.showing.StackFrame.{StackFrame}
+use Rattle.dap_bodies.specs.declared.showing.Scope.{Scope as ShownScope}
+use Rattle.dap_bodies.specs.declared.placing.Breakpoint.{Breakpoint as AnswerValue}
 use Rattle.dap_server.specs.Messages.{PlainReply}
 use Rattle.debuggee.specs.Plain.{PlainBreakpoint}
 use Rattle.dap_debug.specs.declared.language.Location.{Location}
@@ -16,12 +20,12 @@ use Rattle.dap_debug.specs.Standings.{Standing}
 use Rattle.dap_debug.specs.Arguments.{list_at}
 use Rattle.dap_debug.specs.Shown.{PlainFrame, PlainScope, plain_scope}
 use Rattle.dap_debug.specs.Inspecting.{ShowsFrame, ShowFrames, shown_scope, shown_scopes}
-use Rattle.dap_debug.specs.Breakpoints.{IsSet, AreSet, AreUnset, SetsIn, Own, Other, SetsOnly, SetsFrom, Sets, answer_unset, answers_reply, source_asked}
+use Rattle.dap_debug.specs.Breakpoints.{IsSet, AreSet, AreUnset, SetsIn, Own, Other, SetsOnly, SetsFrom, Sets, answers_reply, source_asked}
 
 -- ---- frames
 
 shows_more : {S : Type 0} (frame_of : S → ℕ → PlainFrame → Type 0) (path : List ℕ) (a : S) (first index : ℕ)
-    (shown : List Data) (one : Data) → ShowFrames frame_of path a first shown → length shown + first ≡ index
+    (shown : List ShownFrame) (one : ShownFrame) → ShowFrames frame_of path a first shown → length shown + first ≡ index
     → ShowsFrame frame_of path a index one → ShowFrames frame_of path a first (shown ++ one ∷ [])
 shows_more frame_of path a first index [] one are at is =
     let e : index ≡ first = omega (arith, at) in (subst (λ n. ShowsFrame frame_of path a n one) e is, tt)
@@ -29,13 +33,15 @@ shows_more frame_of path a first index (x ∷ shown) one are at is =
     (are.0, shows_more frame_of path a (first + 1) index shown one are.1 (omega (arith, at)) is)
 
 pub one_frame : {S : Type 0} (frame_of : S → ℕ → PlainFrame → Type 0) (path : List ℕ) (a : S) (first index : ℕ)
-    (values new : List Value) (value : Value) → new ≡ values ++ value ∷ []
-    → ShowFrames frame_of path a first (map view values) → length (map view values) + first ≡ index
-    → ShowsFrame frame_of path a index (view value)
-    → ShowFrames frame_of path a first (map view new) × (length (map view new) + first ≡ index + 1)
+    (values new : List StackFrame) (value : StackFrame) → new ≡ values ++ value ∷ []
+    → ShowFrames frame_of path a first (map plain_shown_frame values)
+    → length (map plain_shown_frame values) + first ≡ index
+    → ShowsFrame frame_of path a index (plain_shown_frame value)
+    → ShowFrames frame_of path a first (map plain_shown_frame new)
+    × (length (map plain_shown_frame new) + first ≡ index + 1)
 one_frame frame_of path a first index values new value grown are at is =
-    let all = ap (map view) grown ∙ map-append view values (value ∷ []) in
-    let long = ap length all ∙ length_push (map view values) (view value) in (
+    let all = ap (map plain_shown_frame) grown ∙ map-append plain_shown_frame values (value ∷ []) in
+    let long = ap length all ∙ length_push (map plain_shown_frame values) (plain_shown_frame value) in (
       subst (ShowFrames frame_of path a first) (sym all) (shows_more frame_of path a first index _ _ are at is),
       omega (arith, long, at),
     )
@@ -54,13 +60,14 @@ scopes_more frame index (x ∷ scopes) one =
     ∙ ap (λ n. shown_scopes frame (index + 1) scopes ++ shown_scope frame n one ∷ []) e)
 
 -- one scope more
-pub one_scope : (frame : ℕ) (scopes : List Scope) (i : ℕ) (one : Scope) (values new : List Value) (value : Value)
-    → i < length scopes → one ≡ get_or scopes i one → new ≡ values ++ value ∷ []
-    → map view values ≡ shown_scopes frame 0 (map plain_scope (take i scopes))
-    → view value ≡ shown_scope frame i (plain_scope one)
-    → map view new ≡ shown_scopes frame 0 (map plain_scope (take (i + 1) scopes))
+pub one_scope : (frame : ℕ) (scopes : List Scope) (i : ℕ) (one : Scope) (values new : List ShownScope)
+    (value : ShownScope) → i < length scopes → one ≡ get_or scopes i one → new ≡ values ++ value ∷ []
+    → map plain_shown_scope values ≡ shown_scopes frame 0 (map plain_scope (take i scopes))
+    → plain_shown_scope value ≡ shown_scope frame i (plain_scope one)
+    → map plain_shown_scope new ≡ shown_scopes frame 0 (map plain_scope (take (i + 1) scopes))
 one_scope frame scopes i one values new value within here grown are is =
-    ap (map view) grown ∙ map-append view values (value ∷ []) ∙ ap (λ l. l ++ view value ∷ []) are
+    ap (map plain_shown_scope) grown ∙ map-append plain_shown_scope values (value ∷ [])
+    ∙ ap (λ l. l ++ plain_shown_scope value ∷ []) are
     ∙ ap (λ d. shown_scopes frame 0 (map plain_scope (take i scopes)) ++ d ∷ []) (is ∙ ap (λ n. shown_scope frame n
     (plain_scope one)) (sym many))
     ∙ sym (scopes_more frame 0 (map plain_scope (take i scopes)) (plain_scope one))
@@ -79,15 +86,15 @@ one_scope frame scopes i one values new value within here grown are is =
         ∙ ap (λ x. map plain_scope (take i scopes) ++ plain_scope x ∷ []) (sym here)
 
 -- one more of those that are shown
-pub one_more : {A B : Type 0} (plain : A → B) (f : B → Data) (xs : List A) (i : ℕ) (one : A) (values new : List Value)
-    (value : Value) → i < length xs → one ≡ get_or xs i one → new ≡ values ++ value ∷ []
+pub one_more : {A B V C : Type 0} (plain : A → B) (f : B → C) (view : V → C) (xs : List A) (i : ℕ) (one : A)
+    (values new : List V) (value : V) → i < length xs → one ≡ get_or xs i one → new ≡ values ++ value ∷ []
     → map view values ≡ map f (map plain (take i xs)) → view value ≡ f (plain one)
     → map view new ≡ map f (map plain (take (i + 1) xs))
-one_more plain f xs i one values new value within here grown are is =
+one_more plain f view xs i one values new value within here grown are is =
     ap (map view) grown ∙ map-append view values (value ∷ []) ∙ ap (λ l. l ++ view value ∷ []) are
     ∙ ap (λ d. map f (map plain (take i xs)) ++ d ∷ []) is ∙ sym (taken_more plain f xs i one within here)
   where
-    taken_more : {A B : Type 0} (plain : A → B) (f : B → Data) (xs : List A) (i : ℕ) (one : A) → i < length xs
+    taken_more : {A B C : Type 0} (plain : A → B) (f : B → C) (xs : List A) (i : ℕ) (one : A) → i < length xs
         → one ≡ get_or xs i one
         → map f (map plain (take (i + 1) xs)) ≡ map f (map plain (take i xs)) ++ f (plain one) ∷ []
     taken_more plain f xs i one within here =
@@ -105,7 +112,7 @@ on_ok P Q (Ok a) is so = so a is
 on_ok P Q (Err e) is so = tt
 
 pub set_own : {S : Type 0} (first_place : S → ℕ → Option Location → Type 0) (arguments : Option Data) (program : S)
-    (path : List ℕ) (old new : List PlainBreakpoint) (reply : PlainReply) (asked answers : Items)
+    (path : List ℕ) (old new : List PlainBreakpoint) (reply : PlainReply) (asked : Items) (answers : List Answer)
     → asked ≡ list_at (codes "breakpoints") arguments → source_asked arguments ≡ Some path
     → AreSet first_place program asked answers new → reply ≡ answers_reply answers
     → SetsIn first_place arguments program path old reply new
@@ -113,7 +120,8 @@ set_own first_place arguments program path old new reply asked answers at own ar
     Own own answers (subst (λ l. AreSet first_place program l answers new) at are) is
 
 pub refuse_other : {S : Type 0} (first_place : S → ℕ → Option Location → Type 0) (arguments : Option Data)
-    (program : S) (path : List ℕ) (old : List PlainBreakpoint) (reply : PlainReply) (asked answers : Items)
+    (program : S) (path : List ℕ) (old : List PlainBreakpoint) (reply : PlainReply) (asked : Items)
+    (answers : List Answer)
     → asked ≡ list_at (codes "breakpoints") arguments → source_asked arguments ≢ Some path → AreUnset asked answers
     → reply ≡ answers_reply answers → SetsIn first_place arguments program path old reply old
 refuse_other first_place arguments program path old reply asked answers at other are is =
@@ -133,10 +141,10 @@ pub sets_from : {S : Type 0} (first_place : S → ℕ → Option Location → Ty
 sets_from first_place arguments p stood stands reply at is =
     subst (λ q. SetsFrom first_place q arguments stood reply stands) (sym at) is
 
-set_more : {S : Type 0} (first_place : S → ℕ → Option Location → Type 0) (a : S) (asked answers : List Data)
-    (set : List PlainBreakpoint) (more : Option PlainBreakpoint) (one answer : Data)
-    → AreSet first_place a (items_of asked) (items_of answers) set → IsSet first_place a one answer more
-    → AreSet first_place a (items_of (asked ++ one ∷ [])) (items_of (answers ++ answer ∷ []))
+set_more : {S : Type 0} (first_place : S → ℕ → Option Location → Type 0) (a : S) (asked : List Data)
+    (answers : List Answer) (set : List PlainBreakpoint) (more : Option PlainBreakpoint) (one : Data) (answer : Answer)
+    → AreSet first_place a (items_of asked) answers set → IsSet first_place a one answer more
+    → AreSet first_place a (items_of (asked ++ one ∷ [])) (answers ++ answer ∷ [])
     (set ++ option_to_list more)
 set_more first_place a [] [] set more one answer are is =
     (more, [], ap (λ l. l ++ option_to_list more) are ∙ sym (append-nil (option_to_list more)), is, refl)
@@ -150,9 +158,9 @@ set_more first_place a (x ∷ asked) (y ∷ answers) set more one answer are is 
   set_more first_place a asked answers are.1 more one answer are.4 is,
 )
 
-unset_more : (asked answers : List Data) (one answer : Data) → AreUnset (items_of asked) (items_of answers)
-    → ((why : List ℕ) × (answer ≡ answer_unset why))
-    → AreUnset (items_of (asked ++ one ∷ [])) (items_of (answers ++ answer ∷ []))
+unset_more : (asked : List Data) (answers : List Answer) (one : Data) (answer : Answer)
+    → AreUnset (items_of asked) answers → ((why : List ℕ) × (answer ≡ Refused why))
+    → AreUnset (items_of (asked ++ one ∷ [])) (answers ++ answer ∷ [])
 unset_more [] [] one answer are is = (is, tt)
 unset_more [] (x ∷ answers) one answer are is = absurd are
 unset_more (x ∷ asked) [] one answer are is = absurd are
@@ -166,31 +174,31 @@ taken asked i one within here =
     ∙ map-append view (take i asked) (get_or asked i one ∷ [])
     ∙ ap (λ x. map view (take i asked) ++ view x ∷ []) (sym here)
 
-grown_to : (values new : List Value) (value : Value) → new ≡ values ++ value ∷ []
-    → map view new ≡ map view values ++ view value ∷ []
-grown_to values new value grown = ap (map view) grown ∙ map-append view values (value ∷ [])
+grown_to : (answers new : List AnswerValue) (answer : AnswerValue) → new ≡ answers ++ answer ∷ []
+    → map plain_answer new ≡ map plain_answer answers ++ plain_answer answer ∷ []
+grown_to answers new answer grown = ap (map plain_answer) grown ∙ map-append plain_answer answers (answer ∷ [])
 
 pub one_set : {S : Type 0} (first_place : S → ℕ → Option Location → Type 0) (a : S) (asked : List Value) (i : ℕ)
-    (one : Value) (answers new : List Value) (answer : Value) (set all : List PlainBreakpoint)
+    (one : Value) (answers new : List AnswerValue) (answer : AnswerValue) (set all : List PlainBreakpoint)
     (more : Option PlainBreakpoint) → i < length asked
     → one ≡ get_or asked i one → new ≡ answers ++ answer ∷ [] → all ≡ set ++ option_to_list more
-    → AreSet first_place a (items_of (map view (take i asked))) (items_of (map view answers)) set
-    → IsSet first_place a (view one) (view answer) more
-    → AreSet first_place a (items_of (map view (take (i + 1) asked))) (items_of (map view new)) all
+    → AreSet first_place a (items_of (map view (take i asked))) (map plain_answer answers) set
+    → IsSet first_place a (view one) (plain_answer answer) more
+    → AreSet first_place a (items_of (map view (take (i + 1) asked))) (map plain_answer new) all
 one_set first_place a asked i one answers new answer set all more within here grown kept are is =
-    subst (λ l. AreSet first_place a (items_of l) (items_of (map view new)) all) (sym (taken asked i one within here))
-    (subst (λ l. AreSet first_place a (items_of (map view (take i asked) ++ view one ∷ [])) (items_of l) all)
+    subst (λ l. AreSet first_place a (items_of l) (map plain_answer new) all) (sym (taken asked i one within here))
+    (subst (λ l. AreSet first_place a (items_of (map view (take i asked) ++ view one ∷ [])) l all)
     (sym (grown_to answers new answer grown))
     (subst (AreSet first_place a (items_of (map view (take i asked) ++ view one ∷ []))
-    (items_of (map view answers ++ view answer ∷ []))) (sym kept)
-    (set_more first_place a (map view (take i asked)) (map view answers) set more (view one) (view answer) are is)))
+    (map plain_answer answers ++ plain_answer answer ∷ [])) (sym kept)
+    (set_more first_place a (map view (take i asked)) (map plain_answer answers) set more (view one)
+    (plain_answer answer) are is)))
 
-pub one_unset : (asked : List Value) (i : ℕ) (one : Value) (answers new : List Value) (answer : Value) (why : List ℕ)
-    → i < length asked → one ≡ get_or asked i one → new ≡ answers ++ answer ∷ []
-    → AreUnset (items_of (map view (take i asked))) (items_of (map view answers)) → view answer ≡ answer_unset why
-    → AreUnset (items_of (map view (take (i + 1) asked))) (items_of (map view new))
+pub one_unset : (asked : List Value) (i : ℕ) (one : Value) (answers new : List AnswerValue) (answer : AnswerValue)
+    (why : List ℕ) → i < length asked → one ≡ get_or asked i one → new ≡ answers ++ answer ∷ []
+    → AreUnset (items_of (map view (take i asked))) (map plain_answer answers) → plain_answer answer ≡ Refused why
+    → AreUnset (items_of (map view (take (i + 1) asked))) (map plain_answer new)
 one_unset asked i one answers new answer why within here grown are is =
-    subst (λ l. AreUnset (items_of l) (items_of (map view new))) (sym (taken asked i one within here))
-    (subst (λ l. AreUnset (items_of (map view (take i asked) ++ view one ∷ [])) (items_of l))
-    (sym (grown_to answers new answer grown))
-    (unset_more (map view (take i asked)) (map view answers) (view one) (view answer) are (why, is)))
+    subst (λ l. AreUnset (items_of l) (map plain_answer new)) (sym (taken asked i one within here))
+    (subst (AreUnset (items_of (map view (take i asked) ++ view one ∷ []))) (sym (grown_to answers new answer grown))
+    (unset_more (map view (take i asked)) (map plain_answer answers) (view one) (plain_answer answer) are (why, is)))

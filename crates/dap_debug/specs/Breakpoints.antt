@@ -1,7 +1,8 @@
 -- Defines which breakpoints are set, and what is answered.
-use Rattle.std.specs.Prelude.{◌≡◌, ◌≢◌, ◌⊎◌, ◌<◌, ◌^◌, ℕ, true, false, All, List, [], ◌∷◌, ◌++◌, codes, decimal, Option, None, Some, unwrap_or}
+use Rattle.std.specs.Prelude.{◌≡◌, ◌≢◌, ◌⊎◌, ◌<◌, ◌^◌, ℕ, All, List, [], ◌∷◌, ◌++◌, codes, decimal, Option, None, Some, unwrap_or}
 use Rattle.std.specs.Option.{option_to_list}
-use Rattle.serde_json.specs.Data.{Data, boolean, number, unsigned, string, array, Items, no_items, item, object, no_members, member}
+use Rattle.serde_json.specs.Data.{Data, Items, no_items, item}
+use Rattle.dap_bodies.specs.Bodies.{PlainBreakpoint as Answer, SetAt, Refused, breakpoints}
 use Rattle.dap_server.specs.Messages.{PlainReply}
 use Rattle.debuggee.specs.Plain.{PlainPart, Text, Expression, PlainBreakpoint}
 use Rattle.debuggee.specs.declared.breakpoint.Rule.{Rule}
@@ -53,9 +54,8 @@ HasExpression text before inner rest =
     (text ≡ before ++ (codes "{" ++ (inner ++ (codes "}" ++ rest)))) × Lacks 123 before × Lacks 125 inner
 
 -- A message is read from the left. Where no expression is left, the rest stands for itself, and ends its line. Else
--- what
--- is before the first `{` stands for itself, then comes an expression, up to the next `}`, and what follows is read in
--- the same way.
+-- what is before the first `{` stands for itself, then comes an expression, up to the next `}`, and what follows is
+-- read in the same way.
 abbrev pub AreParts : List ℕ → List PlainPart → Type 0
 AreParts text (Text bytes ∷ (Text end ∷ [])) = (bytes ≡ text) × (end ≡ codes "\n") × IsUnclosed text
 AreParts text (Text before ∷ (Expression inner ∷ parts)) =
@@ -73,15 +73,6 @@ IsMessage text (Some parts) = (text ≢ []) × AreParts text parts
 abbrev pub line_of : Data → ℕ
 line_of asked = unwrap_or (whole_at (codes "line") (Some asked)) 0
 
--- the answer: the line where the breakpoint is set, or why it isn't
-abbrev pub answer_set : ℕ → Data
-answer_set line =
-    object (member (codes "line") (number (unsigned line)) (member (codes "verified") (boolean true) no_members))
-
-abbrev pub answer_unset : List ℕ → Data
-answer_unset why =
-    object (member (codes "message") (string why) (member (codes "verified") (boolean false) no_members))
-
 -- the breakpoint is set at this place with the condition, the rule and the message that are asked for, and no arrival
 pub record IsBreakpoint (asked : Data) (place : ℕ) (set : PlainBreakpoint) : Type 0 where
   pub place_is : set.place ≡ place
@@ -92,26 +83,26 @@ pub record IsBreakpoint (asked : Data) (place : ℕ) (set : PlainBreakpoint) : T
 
 -- What is answered where the first place for the line is this one: a breakpoint is set there, and it is told at which
 -- line; or none is, and why. Where there is a place, none is only where the hit condition is no rule.
-abbrev pub IsAnswered : Data → Option Location → Data → Option PlainBreakpoint → Type 0
-IsAnswered asked None answer None = (why : List ℕ) × (answer ≡ answer_unset why)
+abbrev pub IsAnswered : Data → Option Location → Answer → Option PlainBreakpoint → Type 0
+IsAnswered asked None answer None = (why : List ℕ) × (answer ≡ Refused why)
 IsAnswered asked None answer (Some set) = ⊥
 IsAnswered asked (Some location) answer None =
-    ((why : List ℕ) × (answer ≡ answer_unset why))
+    ((why : List ℕ) × (answer ≡ Refused why))
     × ((rule : Option Rule) → ¬ IsRule (text_of (codes "hitCondition") asked) rule)
 IsAnswered asked (Some location) answer (Some set) =
-    (answer ≡ answer_set location.line) × IsBreakpoint asked location.place set
+    (answer ≡ SetAt location.line) × IsBreakpoint asked location.place set
 
 -- the same, where the first place is as the language says
-abbrev pub IsSet : {S : Type 0} → (S → ℕ → Option Location → Type 0) → S → Data → Data → Option PlainBreakpoint
+abbrev pub IsSet : {S : Type 0} → (S → ℕ → Option Location → Type 0) → S → Data → Answer → Option PlainBreakpoint
     → Type 0
 IsSet first_place program asked answer set =
     (first : Option Location) × first_place program (line_of asked) first × IsAnswered asked first answer set
 
 -- each is answered, in order, and what is set is just those that are
-abbrev pub AreSet : {S : Type 0} → (S → ℕ → Option Location → Type 0) → S → Items → Items → List PlainBreakpoint
-    → Type 0
-AreSet first_place program no_items no_items set = set ≡ []
-AreSet first_place program (item asked more) (item answer others) set =
+abbrev pub AreSet : {S : Type 0} → (S → ℕ → Option Location → Type 0) → S → Items → List Answer
+    → List PlainBreakpoint → Type 0
+AreSet first_place program no_items [] set = set ≡ []
+AreSet first_place program (item asked more) (answer ∷ others) set =
     (one : Option PlainBreakpoint) × (rest : List PlainBreakpoint) × (set ≡ option_to_list one ++ rest)
     × IsSet first_place program asked answer one × AreSet first_place program more others rest
 AreSet first_place program _ _ set = ⊥
@@ -123,24 +114,23 @@ abbrev pub source_asked : Option Data → Option (List ℕ)
 source_asked arguments = text_at (codes "path") (member_at (codes "source") arguments)
 
 -- none of them is set
-abbrev pub AreUnset : Items → Items → Type 0
-AreUnset no_items no_items = Unit {0}
-AreUnset (item asked more) (item answer others) =
-    ((why : List ℕ) × (answer ≡ answer_unset why)) × AreUnset more others
+abbrev pub AreUnset : Items → List Answer → Type 0
+AreUnset no_items [] = Unit {0}
+AreUnset (item asked more) (answer ∷ others) = ((why : List ℕ) × (answer ≡ Refused why)) × AreUnset more others
 AreUnset _ _ = ⊥
 
 -- the reply that gives these answers
-abbrev pub answers_reply : Items → PlainReply
-answers_reply answers = success (Some (object (member (codes "breakpoints") (array answers) no_members))) []
+abbrev pub answers_reply : List Answer → PlainReply
+answers_reply answers = success (Some (breakpoints answers)) []
 
 -- In the program's own source each is set or not, as it is answered, and no other is left. In another source none is
 -- set, and those of the program are left.
 pub data SetsIn {S : Type 0} (first_place : S → ℕ → Option Location → Type 0) (arguments : Option Data) (program : S)
     (path : List ℕ) (old : List PlainBreakpoint) (reply : PlainReply) (new : List PlainBreakpoint) : Type 0 where
-  Own : source_asked arguments ≡ Some path → (answers : Items)
+  Own : source_asked arguments ≡ Some path → (answers : List Answer)
       → AreSet first_place program (list_at (codes "breakpoints") arguments) answers new
       → reply ≡ answers_reply answers → SetsIn first_place arguments program path old reply new
-  Other : source_asked arguments ≢ Some path → (answers : Items)
+  Other : source_asked arguments ≢ Some path → (answers : List Answer)
       → AreUnset (list_at (codes "breakpoints") arguments) answers → reply ≡ answers_reply answers → new ≡ old
       → SetsIn first_place arguments program path old reply new
 

@@ -1,7 +1,7 @@
 -- Defines what questions show of a program where it stands.
-use Rattle.std.specs.Prelude.{◌≡◌, ◌+◌, ◌-◌, ◌*◌, ◌/◌, ◌%◌, ◌^◌, ◌&&◌, ℕ, false, min, nat_eq, nat_le, List, [], ◌∷◌, map, length, take, slice_get, codes, if◌then◌else◌, Option, None, Some, option_and_then, unwrap_or, Err}
-use Rattle.serde_json.specs.Data.{Data, boolean, number, unsigned, string, array, object, no_members, member}
-use Rattle.serde_json.specs.View.{items_of}
+use Rattle.std.specs.Prelude.{◌≡◌, ◌+◌, ◌-◌, ◌*◌, ◌/◌, ◌%◌, ◌^◌, ◌&&◌, ℕ, min, nat_eq, nat_le, List, [], ◌∷◌, map, length, take, slice_get, codes, if◌then◌else◌, Option, None, Some, option_and_then, unwrap_or}
+use Rattle.serde_json.specs.Data.{Data}
+use Rattle.dap_bodies.specs.Bodies.{PlainFrame as ShownFrame, stack_trace, PlainScope as ShownScope, scopes, PlainVariable as ShownVariable, variables, evaluated}
 use Rattle.dap_server.specs.Messages.{PlainReply}
 use Rattle.debuggee.specs.Plain.{PlainEvaluated, Value, NoValue}
 use Rattle.debuggee.specs.Due.{Sight}
@@ -10,31 +10,29 @@ use Rattle.dap_debug.specs.declared.command.Question.TheVariants as question
 use Rattle.dap_debug.specs.declared.state.Phase.{Phase}
 use Rattle.dap_debug.specs.declared.state.Phase.TheVariants as phase
 use Rattle.dap_debug.specs.Arguments.{text_at, whole_at}
-use Rattle.dap_debug.specs.Running.{success}
+use Rattle.dap_debug.specs.Running.{success, refusal, Refuses}
 use Rattle.dap_debug.specs.Shown.{PlainFrame, PlainVariable, PlainScope}
 use Rattle.dap_debug.specs.Standings.{Standing}
-
--- the reply is a refusal, whatever its message
-abbrev pub Refuses : PlainReply → Type 0
-Refuses reply = (message : List ℕ) × (reply ≡ record { outcome = Err message; events = [] })
 
 -- ---- frames
 
 -- what is shown of the frame with this index, of which the newest is 0, of a program at this path
-abbrev pub shown_frame : List ℕ → ℕ → PlainFrame → Data
-shown_frame path index frame =
-    object (member (codes "column") (number (unsigned frame.column))
-    (member (codes "id") (number (unsigned (index + 1))) (member (codes "line") (number (unsigned frame.line))
-    (member (codes "name") (string frame.name)
-    (member (codes "source") (object (member (codes "path") (string path) no_members)) no_members)))))
+abbrev pub shown_frame : List ℕ → ℕ → PlainFrame → ShownFrame
+shown_frame path index frame = record {
+  id = index + 1;
+  name = frame.name;
+  path = path;
+  line = frame.line;
+  column = frame.column;
+}
 
--- the value shows the frame with this index
-abbrev pub ShowsFrame : {S : Type 0} → (S → ℕ → PlainFrame → Type 0) → List ℕ → S → ℕ → Data → Type 0
+-- the frame with this index is shown so
+abbrev pub ShowsFrame : {S : Type 0} → (S → ℕ → PlainFrame → Type 0) → List ℕ → S → ℕ → ShownFrame → Type 0
 ShowsFrame frame_of path program index shown =
     (frame : PlainFrame) × frame_of program index frame × (shown ≡ shown_frame path index frame)
 
--- the values show the frames from this index on
-abbrev pub ShowFrames : {S : Type 0} → (S → ℕ → PlainFrame → Type 0) → List ℕ → S → ℕ → List Data → Type 0
+-- the frames from this index on are shown so
+abbrev pub ShowFrames : {S : Type 0} → (S → ℕ → PlainFrame → Type 0) → List ℕ → S → ℕ → List ShownFrame → Type 0
 ShowFrames frame_of path program index [] = Unit {0}
 ShowFrames frame_of path program index (shown ∷ others) =
     ShowsFrame frame_of path program index shown × ShowFrames frame_of path program (index + 1) others
@@ -52,14 +50,12 @@ frame_count arguments many =
 -- the frames that are asked for, and how many there are
 pub record ShowsStack {S : Type 0} (sees : Sight S) (frame_of : S → ℕ → PlainFrame → Type 0) (path : List ℕ)
     (arguments : Option Data) (program : S) (reply : PlainReply) : Type 0 where
-  pub shown : List Data
+  pub shown : List ShownFrame
   pub frames : ShowFrames frame_of path program (first_frame arguments (sees.depth_of program)) shown
   pub count :
       length shown
       ≡ frame_count arguments (sees.depth_of program - first_frame arguments (sees.depth_of program))
-  pub reply_is :
-      reply ≡ success (Some (object (member (codes "stackFrames") (array (items_of shown))
-      (member (codes "totalFrames") (number (unsigned (sees.depth_of program))) no_members)))) []
+  pub reply_is : reply ≡ success (Some (stack_trace shown (sees.depth_of program))) []
 
 -- ---- scopes and variables
 
@@ -79,39 +75,31 @@ abbrev pub frame_asked : ℕ → Option Data → Option ℕ
 frame_asked many arguments = option_and_then (frame_with many) (whole_at (codes "frameId") arguments)
 
 -- what is shown of scopes, of which the first has this index
-abbrev pub shown_scope : ℕ → ℕ → PlainScope → Data
-shown_scope frame index scope =
-    object (member (codes "expensive") (boolean false) (member (codes "name") (string scope.name)
-    (member (codes "variablesReference") (number (unsigned (frame * scope_limit + index + 1))) no_members)))
+abbrev pub shown_scope : ℕ → ℕ → PlainScope → ShownScope
+shown_scope frame index scope = record { name = scope.name; reference = frame * scope_limit + index + 1 }
 
-abbrev pub shown_scopes : ℕ → ℕ → List PlainScope → List Data
+abbrev pub shown_scopes : ℕ → ℕ → List PlainScope → List ShownScope
 shown_scopes frame index [] = []
-shown_scopes frame index (scope ∷ scopes) = shown_scope frame index scope ∷ shown_scopes frame (index + 1) scopes
+shown_scopes frame index (scope ∷ others) = shown_scope frame index scope ∷ shown_scopes frame (index + 1) others
 
 -- the reply that shows the scopes of a frame
 abbrev pub scopes_reply : ℕ → List PlainScope → PlainReply
-scopes_reply frame scopes =
-    success (Some (object (member (codes "scopes")
-    (array (items_of (shown_scopes frame 0 (take scope_limit scopes)))) no_members))) []
+scopes_reply frame all = success (Some (scopes (shown_scopes frame 0 (take scope_limit all)))) []
 
 -- the scopes of a frame are shown; where it isn't alive, or too far down, that is refused
 abbrev pub ShowsScopes : {S : Type 0} → (S → ℕ → List PlainScope → Type 0) → Option ℕ → S → PlainReply → Type 0
 ShowsScopes variables_of None program reply = Refuses reply
 ShowsScopes variables_of (Some frame) program reply =
-    (scopes : List PlainScope) × variables_of program frame scopes × (reply ≡ scopes_reply frame scopes)
+    (all : List PlainScope) × variables_of program frame all × (reply ≡ scopes_reply frame all)
 
 -- what is shown of a variable
-abbrev pub shown_variable : PlainVariable → Data
-shown_variable variable =
-    object (member (codes "name") (string variable.name) (member (codes "value") (string variable.value)
-    (member (codes "variablesReference") (number (unsigned 0)) no_members)))
+abbrev pub shown_variable : PlainVariable → ShownVariable
+shown_variable variable = record { name = variable.name; value = variable.value; reference = 0 }
 
 -- the variables of a scope are shown; where there is no such scope, that is refused
 abbrev pub ShowsScope : Option PlainScope → PlainReply → Type 0
 ShowsScope None reply = Refuses reply
-ShowsScope (Some scope) reply =
-    reply ≡ success (Some (object (member (codes "variables")
-    (array (items_of (map shown_variable scope.variables))) no_members))) []
+ShowsScope (Some scope) reply = reply ≡ success (Some (variables (map shown_variable scope.variables))) []
 
 -- the reference that is asked for; 0 where there is none
 abbrev pub reference_asked : Option Data → ℕ
@@ -122,7 +110,7 @@ abbrev pub ShowsVariables : {S : Type 0} → (S → ℕ → List PlainScope → 
     → Type 0
 ShowsVariables variables_of None index program reply = Refuses reply
 ShowsVariables variables_of (Some frame) index program reply =
-    (scopes : List PlainScope) × variables_of program frame scopes × ShowsScope (slice_get scopes index) reply
+    (all : List PlainScope) × variables_of program frame all × ShowsScope (slice_get all index) reply
 
 -- the frame and the index of the scope with a reference
 abbrev pub frame_of_reference : ℕ → ℕ → Option ℕ
@@ -136,10 +124,8 @@ index_of_reference reference = (reference - 1) % scope_limit
 
 -- what is replied to an expression that evaluates so
 abbrev pub reply_of : PlainEvaluated → PlainReply
-reply_of (Value text holds) =
-    success (Some (object (member (codes "result") (string text)
-    (member (codes "variablesReference") (number (unsigned 0)) no_members)))) []
-reply_of (NoValue why) = record { outcome = Err why; events = [] }
+reply_of (Value text holds) = success (Some (evaluated text 0)) []
+reply_of (NoValue why) = refusal why
 
 -- the frame in which an expression is evaluated: where none is asked for, the newest
 abbrev pub frame_to_evaluate : ℕ → Option Data → Option ℕ

@@ -1,7 +1,9 @@
 -- Defines what is replied to each command: the contract of a session.
-use Rattle.std.specs.Prelude.{◌≡◌, ◌⊎◌, ℕ, true, List, [], ◌∷◌, codes, Option, None, Some, Err}
-use Rattle.serde_json.specs.Data.{Data, boolean, number, unsigned, string, array, no_items, item, object, no_members, member}
-use Rattle.dap_server.specs.Messages.{PlainEvent, PlainReply}
+use Rattle.std.specs.Prelude.{◌≡◌, ◌⊎◌, ℕ, true, List, [], ◌∷◌, codes, Option, None, Some}
+use Rattle.serde_json.specs.Data.{Data, boolean, object, no_members, member}
+use Rattle.dap_server.specs.Messages.{PlainReply}
+use Rattle.dap_bodies.specs.Bodies.{threads}
+use Rattle.dap_bodies.specs.Events.{initialized}
 use Rattle.debuggee.specs.Due.{Sight}
 use Rattle.debuggee.specs.Runs.{Meaning}
 use Rattle.dap_debug.specs.declared.command.Command.{Command}
@@ -12,7 +14,7 @@ use Rattle.dap_debug.specs.declared.state.Phase.TheVariants as phase
 use Rattle.dap_debug.specs.Arguments.{text_at, truth_at}
 use Rattle.dap_debug.specs.Breakpoints.{Sets}
 use Rattle.dap_debug.specs.Inspecting.{Inspects}
-use Rattle.dap_debug.specs.Running.{success, IsRefused, Starts, Resumes, Pauses, Terminates}
+use Rattle.dap_debug.specs.Running.{success, refusal, IsRefused, Starts, Resumes, Pauses, Terminates}
 use Rattle.dap_debug.specs.Shown.{PlainFrame, PlainScope}
 use Rattle.dap_debug.specs.Standings.{Standing}
 
@@ -38,16 +40,6 @@ capabilities =
     (member (codes "supportsHitConditionalBreakpoints") (boolean true)
     (member (codes "supportsLogPoints") (boolean true)
     (member (codes "supportsTerminateRequest") (boolean true) no_members))))))
-
--- the one thread
-abbrev pub threads : Data
-threads =
-    object (member (codes "threads") (array (item (object (member (codes "id") (number (unsigned 1))
-    (member (codes "name") (string (codes "main")) no_members))) no_items)) no_members)
-
--- the event `initialized`, after which the client sets breakpoints
-abbrev pub initialized : PlainEvent
-initialized = record { name = codes "initialized"; body = None }
 
 -- A program is loaded of some text, and waits to be started, as the arguments say; its path is that among them, and no
 -- breakpoint is set in it.
@@ -79,7 +71,8 @@ Replies known command.SetBreakpoints arguments stood reply stands =
     Sets known.first_place arguments stood reply stands
 Replies known command.ConfigurationDone arguments stood reply stands =
     Starts known.takes known.sees stood reply stands
-Replies known command.Threads arguments stood reply stands = IsQuiet (success (Some threads) []) stood reply stands
+Replies known command.Threads arguments stood reply stands =
+    IsQuiet (success (Some (threads (codes "main"))) []) stood reply stands
 Replies known (command.Resume how) arguments stood reply stands =
     Resumes known.takes known.sees how stood reply stands
 Replies known command.Pause arguments stood reply stands = Pauses stood reply stands
@@ -88,4 +81,4 @@ Replies known (command.Inspect asked) arguments stood reply stands =
     Inspects known.sees known.frame_of known.variables_of asked arguments stood reply × (stands ≡ stood)
 Replies known command.Disconnect arguments stood reply stands = IsQuiet (success None []) stood reply stands
 Replies known command.Unsupported arguments stood reply stands =
-    IsQuiet (record { outcome = Err (codes "unsupported"); events = [] }) stood reply stands
+    IsQuiet (refusal (codes "unsupported")) stood reply stands

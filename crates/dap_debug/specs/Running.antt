@@ -2,6 +2,7 @@
 use Rattle.std.specs.Prelude.{◌≡◌, ℕ, true, false, List, [], ◌∷◌, ◌++◌, codes, Option, None, Some, Ok, Err}
 use Rattle.serde_json.specs.Data.{Data, boolean, object, no_members, member}
 use Rattle.dap_server.specs.Messages.{PlainEvent, PlainReply}
+use Rattle.dap_bodies.specs.Events.{stopped, exited, terminated}
 use Rattle.debuggee.specs.Plain.{PlainBreakpoint, PlainHalt, AtEnd, PlainOutput}
 use Rattle.debuggee.specs.Due.{Sight}
 use Rattle.debuggee.specs.Runs.{Meaning, Runs, Arrives}
@@ -12,7 +13,7 @@ use Rattle.dap_debug.specs.declared.command.Resume.TheVariants as resume
 use Rattle.dap_debug.specs.declared.state.Phase.{Phase}
 use Rattle.dap_debug.specs.declared.state.Phase.TheVariants as phase
 use Rattle.dap_debug.specs.Standings.{Standing}
-use Rattle.dap_debug.specs.Telling.{stopped, exited, terminated, told_of}
+use Rattle.dap_debug.specs.Telling.{told_of}
 
 -- In what follows `stood` says how the session stood before, and `stands` how it does after.
 
@@ -57,10 +58,16 @@ WorksOn takes sees stood events stands = GoesFrom takes sees stood.phase stood e
 abbrev pub success : Option Data → List PlainEvent → PlainReply
 success body events = record { outcome = Ok body; events = events }
 
+abbrev pub refusal : List ℕ → PlainReply
+refusal message = record { outcome = Err message; events = [] }
+
+-- the reply is a refusal, whatever its message
+abbrev pub Refuses : PlainReply → Type 0
+Refuses reply = (message : List ℕ) × (reply ≡ refusal message)
+
 -- a refusal, after which the session stands as before
 abbrev pub IsRefused : {S : Type 0} → Standing S → PlainReply → Standing S → Type 0
-IsRefused stood reply stands =
-    ((message : List ℕ) × (reply ≡ record { outcome = Err message; events = [] })) × (stands ≡ stood)
+IsRefused stood reply stands = Refuses reply × (stands ≡ stood)
 
 -- The program arrives where it begins: breakpoints count and speak there, and one may stop it.
 abbrev pub Arrival : {S : Type 0} → Sight S → S → List PlainBreakpoint → List PlainEvent → Phase S

@@ -4,32 +4,34 @@ ghost use Rattle.std.specs.Prelude.{◌≡◌, ◌≢◌, ℕ, Option, ◌++◌,
 ghost use Rattle.std.specs.Bool.{Decides};
 ghost use Rattle.std.specs.Option.{option_to_list};
 ghost use Rattle.serde_json.specs.View.{items_view, view};
+ghost use Rattle.dap_bodies.specs.Bodies.{Refused, plain_breakpoint as plain_answer};
 ghost use Rattle.dap_server.specs.Messages.{plain_reply};
 ghost use Rattle.debuggee.specs.Plain.{Text, Expression, plain_breakpoint, plain_part};
 ghost use Rattle.dap_debug.specs.Arguments.{list_at};
 ghost use Rattle.dap_debug.specs.Standings.{standing};
-ghost use Rattle.dap_debug.specs.Breakpoints.{AreParts, AreSet, AreUnset, HasExpression, IsAnswered, IsBreakpoint, IsCount, IsMessage, IsUnclosed, IsRule, IsSet, Sets, SetsIn, answer_unset, answers_reply, line_of, source_asked, text_of, unless_empty};
+ghost use Rattle.dap_debug.specs.Breakpoints.{AreParts, AreSet, AreUnset, HasExpression, IsAnswered, IsBreakpoint, IsCount, IsMessage, IsUnclosed, IsRule, IsSet, Sets, SetsIn, answers_reply, line_of, source_asked, text_of, unless_empty};
 
 use crate::arguments::{list, member, text, whole};
 use crate::language::{Language, Location};
 use crate::state::{Phase, State};
+use dap_bodies::Breakpoint as Answer;
 use dap_server::Reply;
 use debuggee::{Breakpoint, Part, Rule};
-use serde_json::{Value, json};
+use serde_json::Value;
 use std::alloc::{AllocError, Global};
 
 /// A breakpoint, if it is set, and what is answered.
 #[derive(Drop)]
 pub struct Answered {
     pub breakpoint: Option<Breakpoint>,
-    pub answer: Value,
+    pub answer: Answer,
 }
 
 /// Breakpoints that are set, and what is answered.
 #[derive(Drop)]
 pub struct AllAnswered {
     pub breakpoints: Vec<Breakpoint>,
-    pub answers: Vec<Value>,
+    pub answers: Vec<Answer>,
 }
 
 impl<L: Language> State<L> {
@@ -92,22 +94,21 @@ fn is_source(arguments: Option<&Value>, path: &str) -> bool
 }
 
 /// Returns the reply that gives these answers.
-fn reply_with(alloc: Global, answers: Vec<Value>) -> Result<Reply, AllocError>
-    ensures { IfOk result (λ reply. plain_reply reply ≡ answers_reply (items_view answers.items)) }
+fn reply_with(alloc: Global, answers: Vec<Answer>) -> Result<Reply, AllocError>
+    ensures { IfOk result (λ reply. plain_reply reply ≡ answers_reply (map plain_answer answers.items)) }
 {
-    let answers = Value::Array(answers);
-    let body = json!(in alloc; {"breakpoints": answers})?;
+    let body = dap_bodies::breakpoints(alloc, answers)?;
     Ok(Reply::with_body(alloc, body))
 }
 
 /// Answers that none of these breakpoints is set.
-fn refuse_all(alloc: Global, asked: &[Value]) -> Result<Vec<Value>, AllocError>
-    ensures { IfOk result (λ answers. AreUnset (items_view asked.now) (items_view answers.items)) }
+fn refuse_all(alloc: Global, asked: &[Value]) -> Result<Vec<Answer>, AllocError>
+    ensures { IfOk result (λ answers. AreUnset (items_view asked.now) (map plain_answer answers.items)) }
 {
     let mut answers = Vec::new(alloc);
     for one in asked {
         let _ = one;
-        answers.push(unset(alloc, "this isn't the program's source")?)?;
+        answers.push(refused(alloc, "this isn't the program's source")?)?;
     }
     Ok(answers)
 }
@@ -119,7 +120,7 @@ fn set_all<L: Language>(
     asked: &[Value],
 ) -> Result<AllAnswered, AllocError>
     ensures { IfOk result (λ set. AreSet L.first_place program.now (items_view asked.now)
-        (items_view set.answers.items) (map plain_breakpoint set.breakpoints.items)) }
+        (map plain_answer set.answers.items) (map plain_breakpoint set.breakpoints.items)) }
 {
     let mut breakpoints = Vec::new(alloc);
     let mut answers = Vec::new(alloc);
@@ -148,7 +149,7 @@ fn keep(breakpoints: &mut Vec<Breakpoint>, breakpoint: Option<Breakpoint>) -> Re
 
 /// Sets a breakpoint.
 fn set_one<L: Language>(alloc: Global, program: &L, asked: &Value) -> Result<Answered, AllocError>
-    ensures { IfOk result (λ set. IsSet L.first_place program.now (view asked.now) (view set.answer)
+    ensures { IfOk result (λ set. IsSet L.first_place program.now (view asked.now) (plain_answer set.answer)
         (option_map plain_breakpoint set.breakpoint)) }
 {
     let first = program.place_for(line_of(asked));
@@ -157,7 +158,7 @@ fn set_one<L: Language>(alloc: Global, program: &L, asked: &Value) -> Result<Ans
 
 /// Sets a breakpoint where the first place for its line is this one.
 fn set_at(alloc: Global, asked: &Value, first: Option<Location>) -> Result<Answered, AllocError>
-    ensures { IfOk result (λ set. IsAnswered (view asked.now) first (view set.answer)
+    ensures { IfOk result (λ set. IsAnswered (view asked.now) first (plain_answer set.answer)
         (option_map plain_breakpoint set.breakpoint)) }
 {
     match first {
@@ -177,14 +178,13 @@ fn set_with(
     rule: Option<Rule>,
 ) -> Result<Answered, AllocError>
     requires { IsRule (text_of (codes "hitCondition") (view asked.now)) rule }
-    ensures { IfOk result (λ set. IsAnswered (view asked.now) (Some location) (view set.answer)
+    ensures { IfOk result (λ set. IsAnswered (view asked.now) (Some location) (plain_answer set.answer)
         (option_map plain_breakpoint set.breakpoint)) }
 {
     let breakpoint = breakpoint_at(alloc, asked, location.place, rule)?;
-    let line = location.line;
     Ok(Answered {
         breakpoint: Some(breakpoint),
-        answer: json!(in alloc; {"line": line, "verified": true})?,
+        answer: Answer::SetAt(location.line),
     })
 }
 
@@ -209,19 +209,19 @@ fn breakpoint_at(
 
 /// Answers that a breakpoint isn't set, and why.
 fn refuse(alloc: Global, why: &str) -> Result<Answered, AllocError>
-    ensures { IfOk result (λ set. (set.breakpoint ≡ None) × (view set.answer ≡ answer_unset why.now)) }
+    ensures { IfOk result (λ set. (set.breakpoint ≡ None) × (plain_answer set.answer ≡ Refused why.now)) }
 {
     Ok(Answered {
         breakpoint: None,
-        answer: unset(alloc, why)?,
+        answer: refused(alloc, why)?,
     })
 }
 
 /// Returns the answer that a breakpoint isn't set, and why.
-fn unset(alloc: Global, why: &str) -> Result<Value, AllocError>
-    ensures { IfOk result (λ answer. view answer ≡ answer_unset why.now) }
+fn refused(alloc: Global, why: &str) -> Result<Answer, AllocError>
+    ensures { IfOk result (λ answer. plain_answer answer ≡ Refused why.now) }
 {
-    json!(in alloc; {"message": why, "verified": false})
+    Ok(Answer::Refused(String::from_str(alloc, why)?))
 }
 
 /// Returns the line that a breakpoint is asked for; 0 where there is none.

@@ -2,6 +2,7 @@
 
 ghost use Rattle.std.specs.Prelude.{◌≡◌, ◌<◌, ◌≤◌, ◌^◌, ◌-◌, codes, length, take, Some, IfOk, map, option_map};
 ghost use Rattle.serde_json.specs.View.{view};
+ghost use Rattle.dap_bodies.specs.Bodies.{plain_frame as plain_shown_frame, plain_scope as plain_shown_scope, plain_variable as plain_shown_variable};
 ghost use Rattle.dap_server.specs.Messages.{plain_reply};
 ghost use Rattle.dap_debug.specs.Arguments.{text_at};
 ghost use Rattle.dap_debug.specs.Shown.{plain_frame, plain_scope, plain_variable};
@@ -10,11 +11,12 @@ ghost use Rattle.dap_debug.specs.Inspecting.{Inspects, Shows, ShowsFrame, ShowsS
 
 use crate::arguments::{text, whole};
 use crate::command::Question;
-use crate::language::{Language, Scope, Variable};
+use crate::language::{Frame, Language, Scope, Variable};
 use crate::state::{Phase, State};
+use dap_bodies::{StackFrame, evaluated};
 use dap_server::Reply;
 use debuggee::Evaluated;
-use serde_json::{Value, json};
+use serde_json::Value;
 use std::alloc::{AllocError, Global};
 
 /// How many scopes of a frame are shown at most.
@@ -85,9 +87,7 @@ fn stack_trace<L: Language>(
     for index in first..first + count {
         frames.push(frame(alloc, program, index, path)?)?;
     }
-    let frames = Value::Array(frames);
-    let total = depth as u64;
-    let body = json!(in alloc; {"stackFrames": frames, "totalFrames": total})?;
+    let body = dap_bodies::stack_trace(alloc, frames, depth as u64)?;
     Ok(Reply::with_body(alloc, body))
 }
 
@@ -117,22 +117,18 @@ fn frame<L: Language>(
     program: &L,
     index: usize,
     path: &str,
-) -> Result<Value, AllocError>
+) -> Result<StackFrame, AllocError>
     requires alive { index < L.sees.depth_of program.now }
     requires fits { index < 2 ^ 64 - 1 }
-    ensures { IfOk result (λ value. ShowsFrame L.frame_of path.now program.now index (view value)) }
+    ensures { IfOk result (λ shown. ShowsFrame L.frame_of path.now program.now index (plain_shown_frame shown)) }
 {
-    let frame = program.frame(alloc, index)?;
-    let column = frame.column;
-    let line = frame.line;
-    let name = frame.name;
-    let id = index as u64 + 1;
-    json!(in alloc; {
-        "column": column,
-        "id": id,
-        "line": line,
-        "name": name,
-        "source": {"path": path}
+    let Frame { name, line, column } = program.frame(alloc, index)?;
+    Ok(StackFrame {
+        id: index as u64 + 1,
+        name,
+        path: String::from_str(alloc, path)?,
+        line,
+        column,
     })
 }
 
@@ -169,15 +165,19 @@ fn reply_with_scopes(alloc: Global, frame: usize, scopes: Vec<Scope>) -> Result<
     requires near { frame < frame_limit }
     ensures { IfOk result (λ reply. plain_reply reply ≡ scopes_reply frame (map plain_scope scopes.items)) }
 {
-    let shown = Value::Array(first_scopes(alloc, frame, scopes)?);
-    let body = json!(in alloc; {"scopes": shown})?;
+    let shown = first_scopes(alloc, frame, scopes)?;
+    let body = dap_bodies::scopes(alloc, shown)?;
     Ok(Reply::with_body(alloc, body))
 }
 
 /// Shows as many scopes as are shown at most.
-fn first_scopes(alloc: Global, frame: usize, scopes: Vec<Scope>) -> Result<Vec<Value>, AllocError>
+fn first_scopes(
+    alloc: Global,
+    frame: usize,
+    scopes: Vec<Scope>,
+) -> Result<Vec<dap_bodies::Scope>, AllocError>
     requires near { frame < frame_limit }
-    ensures { IfOk result (λ shown. map view shown.items ≡
+    ensures { IfOk result (λ shown. map plain_shown_scope shown.items ≡
         shown_scopes frame 0 (take scope_limit (map plain_scope scopes.items))) }
 {
     let mut first = scopes;
@@ -187,10 +187,15 @@ fn first_scopes(alloc: Global, frame: usize, scopes: Vec<Scope>) -> Result<Vec<V
 }
 
 /// Shows scopes.
-fn all_scopes(alloc: Global, frame: usize, scopes: &[Scope]) -> Result<Vec<Value>, AllocError>
+fn all_scopes(
+    alloc: Global,
+    frame: usize,
+    scopes: &[Scope],
+) -> Result<Vec<dap_bodies::Scope>, AllocError>
     requires near { frame < frame_limit }
     requires few { length scopes.now ≤ 16 }
-    ensures { IfOk result (λ shown. map view shown.items ≡ shown_scopes frame 0 (map plain_scope scopes.now)) }
+    ensures { IfOk result (λ shown. map plain_shown_scope shown.items ≡
+        shown_scopes frame 0 (map plain_scope scopes.now)) }
 {
     let mut shown = Vec::new(alloc);
     let mut index = 0;
@@ -202,17 +207,19 @@ fn all_scopes(alloc: Global, frame: usize, scopes: &[Scope]) -> Result<Vec<Value
 }
 
 /// Shows a scope.
-fn scope(alloc: Global, frame: usize, index: usize, scope: &Scope) -> Result<Value, AllocError>
+fn scope(
+    alloc: Global,
+    frame: usize,
+    index: usize,
+    scope: &Scope,
+) -> Result<dap_bodies::Scope, AllocError>
     requires near { frame < frame_limit }
     requires few { index < 16 }
-    ensures { IfOk result (λ value. view value ≡ shown_scope frame index (plain_scope scope.now)) }
+    ensures { IfOk result (λ shown. plain_shown_scope shown ≡ shown_scope frame index (plain_scope scope.now)) }
 {
-    let reference = frame as u64 * 16 + index as u64 + 1;
-    let name = scope.name.as_str();
-    json!(in alloc; {
-        "expensive": false,
-        "name": name,
-        "variablesReference": reference
+    Ok(dap_bodies::Scope {
+        name: String::from_str(alloc, scope.name.as_str())?,
+        reference: frame as u64 * SCOPE_LIMIT as u64 + index as u64 + 1,
     })
 }
 
@@ -263,14 +270,18 @@ fn index_of_reference(reference: u64) -> usize
 fn shown_variables(alloc: Global, scope: &Scope) -> Result<Reply, AllocError>
     ensures { IfOk result (λ reply. ShowsScope (Some (plain_scope scope.now)) (plain_reply reply)) }
 {
-    let shown = Value::Array(all_variables(alloc, scope.variables.as_slice())?);
-    let body = json!(in alloc; {"variables": shown})?;
+    let shown = all_variables(alloc, scope.variables.as_slice())?;
+    let body = dap_bodies::variables(alloc, shown)?;
     Ok(Reply::with_body(alloc, body))
 }
 
 /// Shows variables.
-fn all_variables(alloc: Global, variables: &[Variable]) -> Result<Vec<Value>, AllocError>
-    ensures { IfOk result (λ shown. map view shown.items ≡ map shown_variable (map plain_variable variables.now)) }
+fn all_variables(
+    alloc: Global,
+    variables: &[Variable],
+) -> Result<Vec<dap_bodies::Variable>, AllocError>
+    ensures { IfOk result (λ shown. map plain_shown_variable shown.items ≡
+        map shown_variable (map plain_variable variables.now)) }
 {
     let mut shown = Vec::new(alloc);
     for variable in variables {
@@ -280,15 +291,13 @@ fn all_variables(alloc: Global, variables: &[Variable]) -> Result<Vec<Value>, Al
 }
 
 /// Shows a variable.
-fn shown_variable(alloc: Global, variable: &Variable) -> Result<Value, AllocError>
-    ensures { IfOk result (λ value. view value ≡ shown_variable (plain_variable variable.now)) }
+fn shown_variable(alloc: Global, variable: &Variable) -> Result<dap_bodies::Variable, AllocError>
+    ensures { IfOk result (λ shown. plain_shown_variable shown ≡ shown_variable (plain_variable variable.now)) }
 {
-    let name = variable.name.as_str();
-    let value = variable.value.as_str();
-    json!(in alloc; {
-        "name": name,
-        "value": value,
-        "variablesReference": 0u64
+    Ok(dap_bodies::Variable {
+        name: String::from_str(alloc, variable.name.as_str())?,
+        value: String::from_str(alloc, variable.value.as_str())?,
+        reference: 0,
     })
 }
 
@@ -312,7 +321,7 @@ fn evaluate<L: Language>(
     };
     match program.evaluate(alloc, frame, expression)? {
         Evaluated::Value(value, _) => {
-            let body = json!(in alloc; {"result": value, "variablesReference": 0u64})?;
+            let body = evaluated(alloc, value, 0)?;
             Ok(Reply::with_body(alloc, body))
         }
         Evaluated::NoValue(why) => Reply::refused(alloc, why.as_str()),

@@ -9,7 +9,8 @@ ghost use Rattle.dap_debug.specs.Running.{Arrival, Begins, mode_of, phase_after,
 use crate::command::Resume;
 use crate::language::Language;
 use crate::state::{Phase, State};
-use crate::telling::{exited, stopped, tell};
+use crate::telling::tell;
+use dap_bodies::{exited, stopped, terminated};
 use dap_server::{Event, Reply};
 use debuggee::{Breakpoint, Halt, Mode, arrive, run};
 use serde_json::{Value, json};
@@ -124,7 +125,7 @@ impl<L: Language> State<L> {
             Phase::NoProgram => {}
             Phase::Configuring(_, _) | Phase::Running(_, _) | Phase::Stopped(_) => {
                 reply.push(exited(alloc, 0)?)?;
-                reply.push(Event::new(alloc, "terminated", None)?)?;
+                reply.push(terminated(alloc)?)?;
             }
         }
         Ok(reply)

@@ -4,13 +4,14 @@ ghost use Rattle.std.specs.Prelude.{◌≡◌, IfOk, option_map};
 ghost use Rattle.serde_json.specs.View.{view};
 ghost use Rattle.dap_server.specs.Messages.{plain_reply};
 ghost use Rattle.dap_debug.specs.Standings.{standing, unused};
-ghost use Rattle.dap_debug.specs.Replies.{Loads, Replies, capabilities, threads};
+ghost use Rattle.dap_debug.specs.Replies.{Loads, Replies, capabilities};
 
 use crate::arguments::{text, truth};
 use crate::command::{Command, command_of};
 use crate::language::Language;
 use crate::state::{Phase, State};
 use byte_streams::{BEGINNING_LIMIT, ReadFault, Reading, read_beginning};
+use dap_bodies::{initialized, threads};
 use dap_server::{Event, Reply, Responder, Worker};
 use serde_json::{Value, json};
 use std::alloc::{AllocError, Global};
@@ -18,6 +19,9 @@ use std::fs;
 use std::io::{self, ErrorKind};
 use std::rt::{Clock, Files};
 use std::sync::Wait;
+
+/// What the program's one thread is called.
+const THREAD_NAME: &str = "main";
 
 /// A session.
 #[derive(Drop)]
@@ -103,7 +107,7 @@ impl<'a, R: Wait + Files + Clock, L: Language> Session<'a, R, L> {
             Command::Launch => self.launch(alloc, arguments),
             Command::SetBreakpoints => self.state.set_breakpoints(alloc, arguments),
             Command::ConfigurationDone => self.state.start(alloc),
-            Command::Threads => Ok(Reply::with_body(alloc, threads(alloc)?)),
+            Command::Threads => Ok(Reply::with_body(alloc, threads(alloc, THREAD_NAME)?)),
             Command::Resume(resume) => self.state.resume(alloc, resume),
             Command::Pause => self.state.pause(alloc),
             Command::Terminate => self.state.terminate(alloc),
@@ -133,7 +137,7 @@ impl<'a, R: Wait + Files + Clock, L: Language> Session<'a, R, L> {
                 self.state.breakpoints = Vec::new(alloc);
                 self.state.phase = Phase::Configuring(program, truth(arguments, "stopOnEntry"));
                 let mut reply = Reply::done(alloc);
-                reply.push(Event::new(alloc, "initialized", None)?)?;
+                reply.push(initialized(alloc)?)?;
                 Ok(reply)
             }
             Err(mistake) => Reply::refused(alloc, mistake.as_str()),
@@ -186,11 +190,4 @@ fn capabilities(alloc: Global) -> Result<Value, AllocError>
         "supportsLogPoints": true,
         "supportsTerminateRequest": true
     })
-}
-
-/// Returns the one thread.
-fn threads(alloc: Global) -> Result<Value, AllocError>
-    ensures { IfOk result (λ body. view body ≡ threads) }
-{
-    json!(in alloc; {"threads": [{"id": 1u64, "name": "main"}]})
 }
