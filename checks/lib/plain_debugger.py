@@ -424,6 +424,14 @@ INSPECTIONS = {"stackTrace": stack_trace, "scopes": scopes, "variables": variabl
 
 # ---- a session
 
+def pieces(message: dict) -> list[dict]:
+    """A message as the program told it: line by line, where lines come in one event."""
+    text = message.get("body", {}).get("output", "")
+    if not text.endswith("\n"):
+        return [message]
+    return [message | {"body": message["body"] | {"output": line + "\n"}} for line in text[:-1].split("\n")]
+
+
 class Session:
     """What came and what left, so far."""
 
@@ -448,6 +456,10 @@ class Session:
         self.sent += 1
         if message.get("seq") != self.sent:
             return f"number {self.sent} must leave, and not {message}"
+        wrong = (self.take_piece(piece) for piece in pieces(message))
+        return next(filter(None, wrong), None)
+
+    def take_piece(self, message: dict) -> str | None:
         expected = self.expected(message.get("type") == "response")
         found = text_of(message)
         self.worlds = {world.having(pending=world.pending[1:]) for world in expected if world.pending[0] == found}

@@ -84,8 +84,8 @@ def leave(session: Session) -> Iterator[str]:
     session.ask("disconnect")
     session.channel.close()
     yield from differs("the status", session.child.wait(LIMIT), 0)
-    numbers = [text for category, text in session.events.outputs if category == "stdout"]
-    yield from differs("numbers", numbers, ["3\n", "2\n", "1\n", "5\n"])
+    numbers = "".join(text for category, text in session.events.outputs if category == "stdout")
+    yield from differs("numbers", numbers, "3\n2\n1\n5\n")
 
 
 def main() -> int:

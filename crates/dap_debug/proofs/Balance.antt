@@ -23,7 +23,7 @@ use Rattle.dap_debug.specs.Shown.{PlainFrame, PlainScope}
 use Rattle.dap_debug.specs.Replies.{Known, LoadsFrom, Replies}
 use Rattle.dap_debug.specs.Running.{GoesFrom, WorksOn, StartsFrom, ResumesFrom, PausesFrom, IsRefused, ended, mode_of, phase_after}
 use Rattle.dap_debug.specs.Standings.{Standing}
-use Rattle.dap_debug.specs.Telling.{event_of, told_end, told_of}
+use Rattle.dap_debug.specs.Telling.{event_of, merged, told_end, told_of}
 use Rattle.dap_debug.specs.Laws.{ends_told, owed, asks}
 
 ends_append : (xs ys : List PlainEvent) → ends_told (xs ++ ys) ≡ ends_told xs + ends_told ys
@@ -46,8 +46,8 @@ one_end (Some (AtEnd status)) a how = refl
 told_once : {S : Type 0} (told : List PlainOutput) (halt : Option PlainHalt) (a : S) (how : Mode)
     → owed (phase_after halt a how) + ends_told (told_of told halt) ≡ 1
 told_once told halt a how =
-    let both = ends_append (map event_of told) (told_end halt) in
-    let none = none_in_outputs told in
+    let both = ends_append (map event_of (merged told)) (told_end halt) in
+    let none = none_in_outputs (merged told) in
     let one = one_end halt a how in
     omega (arith, both, none, one)
 

@@ -4,6 +4,8 @@ mod Arriving
 mod Balance
 -- What is shown and set one after another; for `inspecting` and `breakpoints`.
 mod Further
+-- Texts of one kind that follow each other are one; for `telling` and `debug_laws`.
+mod Merging
 -- What a conversation keeps of what is seen of a session; for `serve_language_inbox`.
 mod Seeing
 -- Each run of a conversation ends once; for `conversation_laws`.

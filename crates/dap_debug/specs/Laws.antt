@@ -1,9 +1,11 @@
--- States what holds of each session: each run ends once.
-use Rattle.std.specs.Prelude.{◌≡◌, ◌+◌, ◌||◌, ℕ, Bool, List, [], ◌∷◌, codes, Option, if◌then◌else◌}
+-- States what holds of each session: each run ends once, and each byte that is printed or said is told, in order.
+use Rattle.std.specs.Prelude.{◌≡◌, ◌+◌, ◌||◌, ℕ, Bool, true, false, List, [], ◌∷◌, map, codes, Option, if◌then◌else◌}
+use Rattle.std.specs.List.{flat_map}
 use Rattle.std.specs.Str.{bytes_eq}
 use Rattle.serde_json.specs.Data.{Data}
 use Rattle.dap_server.specs.Messages.{PlainEvent, PlainReply}
 use Rattle.debuggee.specs.Due.{Sight}
+use Rattle.debuggee.specs.Plain.{PlainOutput, Printed, Logged}
 use Rattle.debuggee.specs.Runs.{Meaning}
 use Rattle.dap_debug.specs.declared.command.Command.{Command}
 use Rattle.dap_debug.specs.declared.command.Command.TheVariants as command
@@ -12,6 +14,7 @@ use Rattle.dap_debug.specs.declared.state.Phase.TheVariants as phase
 use Rattle.dap_debug.specs.Replies.{Known, Replies}
 use Rattle.dap_debug.specs.Running.{WorksOn}
 use Rattle.dap_debug.specs.Standings.{Standing}
+use Rattle.dap_debug.specs.Telling.{merged}
 
 -- the event tells that the program has stopped, or that it is gone
 abbrev pub is_end : PlainEvent → Bool
@@ -47,3 +50,26 @@ RepliesAreBalanced {S} known =
     (asked : Command) (arguments : Option Data) (stood stands : Standing S) (reply : PlainReply)
     → Replies known asked arguments stood reply stands
     → owed stands.phase + ends_told reply.events ≡ owed stood.phase + asks asked stood.phase
+
+-- ---- texts
+
+-- the bytes of a text, each with whether the program printed it
+abbrev pub bytes_of : PlainOutput → List (Bool × ℕ)
+bytes_of (Printed text) = map (λ byte. (true, byte)) text
+bytes_of (Logged text) = map (λ byte. (false, byte)) text
+
+-- the first of them, if there is one, is of another kind
+abbrev pub Differs : PlainOutput → List PlainOutput → Type 0
+Differs (Printed text) (Printed next ∷ others) = ⊥
+Differs (Logged text) (Logged next ∷ others) = ⊥
+Differs first others = Unit {0}
+
+-- no two that follow each other are of one kind
+abbrev pub Alternates : List PlainOutput → Type 0
+Alternates [] = Unit {0}
+Alternates (first ∷ others) = Differs first others × Alternates others
+
+-- What is told of texts are all their bytes, in order, each of its kind; and no two that follow each other are of one.
+abbrev pub TextsAreKept : Type 0
+TextsAreKept =
+    (told : List PlainOutput) → (flat_map bytes_of (merged told) ≡ flat_map bytes_of told) × Alternates (merged told)

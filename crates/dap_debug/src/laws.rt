@@ -1,13 +1,14 @@
 //! What holds of each session.
 
-ghost use Rattle.dap_debug.specs.Laws.{WorkIsBalanced, RepliesAreBalanced};
+ghost use Rattle.dap_debug.specs.Laws.{WorkIsBalanced, RepliesAreBalanced, TextsAreKept};
 ghost use Rattle.dap_debug.specs.Sums.{EachEndsOnce};
 
 use crate::language::Language;
 use dap_server::Polled;
 
 /// Each run ends once: each request that lets the program go on, or ends it, is followed by just one event that tells that
-/// the program has stopped or is gone, unless the program still runs. It does nothing: its contract is the laws.
+/// the program has stopped or is gone, unless the program still runs. And each byte that is printed or said is told, in
+/// order. It does nothing: its contract is the laws.
 pub fn debug_laws<L: Language>()
     ensures work { WorkIsBalanced L.takes L.sees }
     ensures replies { RepliesAreBalanced (record {
@@ -18,6 +19,7 @@ pub fn debug_laws<L: Language>()
       frame_of = L.frame_of;
       variables_of = L.variables_of;
     }) }
+    ensures texts { TextsAreKept }
 {}
 
 /// The same of a whole conversation: the ends that its events tell are those that its requests ask for, but for one that is

@@ -1,4 +1,5 @@
 use Rattle.dap_debug.proofs.Balance.{work_balanced, replies_balanced}
+use Rattle.dap_debug.proofs.Merging.{all_bytes_kept, alternate}
 use Rattle.dap_debug.proofs.laws.debug_laws.Goals as goal
 
 pub returns-clause-work : goal.returns-clause-work
@@ -14,3 +15,6 @@ returns-clause-replies g c =
       frame_of = g.L.Language.frame_of;
       variables_of = g.L.Language.variables_of;
     })
+
+pub returns-clause-texts : goal.returns-clause-texts
+returns-clause-texts g c = λ told. (all_bytes_kept told, alternate told)
