@@ -274,6 +274,8 @@ def launch(world: World, given: dict, folder: str) -> tuple[dict | None, list[di
             program = Program(read(file.read()))
     except OSError:
         raise Refused("the program can't be read") from None
+    except UnicodeDecodeError:
+        raise Refused("the program isn't UTF-8") from None
     except Mistake as mistake:
         raise Refused(f"line {mistake} is no instruction") from None
     loaded = World("configuring", given.get("stopOnEntry") is True, path, program)

@@ -1,6 +1,6 @@
 -- Each run ends once.
-use Rattle.std.specs.Prelude.{min, slice_get, codes}
-use Rattle.std.proofs.Common.{◌≡◌, ◌+◌, ℕ, true, false, List, [], ◌∷◌, ◌++◌, ◌∙◌, refl, ap, map, arith, Option, None, Some, inl, inr}
+use Rattle.std.specs.Prelude.{min, slice_get, codes, Result, Ok, Err}
+use Rattle.std.proofs.Common.{◌≡◌, ◌+◌, ℕ, true, false, List, [], ◌∷◌, ◌++◌, ◌∙◌, refl, sym, ap, map, arith, Option, None, Some, inl, inr}
 use Rattle.serde_json.specs.Data.{Data}
 use Rattle.dap_server.specs.Messages.{PlainEvent, PlainReply}
 use Rattle.debuggee.specs.Plain.{PlainBreakpoint, PlainEvaluated, Value, NoValue, PlainHalt, AtBreakpoint, AtStep, AtEnd, AtFault, PlainOutput, Printed, Logged}
@@ -19,8 +19,9 @@ use Rattle.dap_debug.specs.declared.state.Phase.TheVariants as phase
 use Rattle.dap_debug.specs.Breakpoints.{SetsIn, Own, Other, SetsOnly, SetsFrom}
 use Rattle.dap_debug.specs.Arguments.{text_at}
 use Rattle.dap_debug.specs.Inspecting.{ShowsScopes, ShowsScope, ShowsVariables, Evaluates, Shows, ShowsFrom, frame_asked, frame_limit, frame_of_reference, frame_to_evaluate, index_of_reference, reference_asked, reply_of}
+use Rattle.dap_debug.specs.Loading.{LoadsAs, LoadsGiven, LoadsAt, LoadsFrom}
 use Rattle.dap_debug.specs.Shown.{PlainFrame, PlainScope}
-use Rattle.dap_debug.specs.Replies.{Known, LoadsFrom, Replies}
+use Rattle.dap_debug.specs.Replies.{Known, Replies}
 use Rattle.dap_debug.specs.Running.{GoesFrom, WorksOn, StartsFrom, ResumesFrom, PausesFrom, IsRefused, ended, mode_of, phase_after}
 use Rattle.dap_debug.specs.Standings.{Standing}
 use Rattle.dap_debug.specs.Telling.{event_of, merged, told_end, told_of}
@@ -146,20 +147,41 @@ ends_of (phase.Configuring a stop_on_entry) = refl
 ends_of (phase.Stopped a) = refl
 ends_of phase.NoProgram = refl
 
-loaded : {S : Type 0} (begins : List ℕ → S → Type 0) (p : Phase S) (arguments : Option Data)
+loaded_as : {S : Type 0} (arguments : Option Data) (loaded : Result S (List ℕ)) (p : Phase S) (stood stands : Standing S)
+    (reply : PlainReply) → stood.phase ≡ p → owed p ≡ 0 → LoadsAs arguments loaded stood reply stands
+    → owed stands.phase + ends_told reply.events ≡ owed p
+loaded_as arguments (Ok program) p stood stands reply at none is =
+    replied stands _ reply _ 0 is.reply_is is.phase_is refl ∙ sym none
+loaded_as arguments (Err mistake) p stood stands reply at none is = quiet stood stands reply _ p is.0 refl is.1 at
+
+loaded_given : {S : Type 0} (begins : List ℕ → Result S (List ℕ) → Type 0) (arguments : Option Data)
+    (given : Option (List ℕ)) (p : Phase S) (stood stands : Standing S) (reply : PlainReply) → stood.phase ≡ p
+    → owed p ≡ 0 → LoadsGiven begins arguments given stood reply stands
+    → owed stands.phase + ends_told reply.events ≡ owed p
+loaded_given begins arguments None p stood stands reply at none is = quiet stood stands reply _ p is.0 refl is.1 at
+loaded_given begins arguments (Some bytes) p stood stands reply at none (inl is) =
+    loaded_as arguments is.1 p stood stands reply at none is.3
+loaded_given begins arguments (Some bytes) p stood stands reply at none (inr is) =
+    quiet stood stands reply _ p is.1.0 refl is.1.1 at
+
+loaded_at : {S : Type 0} (begins : List ℕ → Result S (List ℕ) → Type 0) (arguments : Option Data)
+    (path : Option (List ℕ)) (p : Phase S) (stood stands : Standing S) (reply : PlainReply) → stood.phase ≡ p
+    → owed p ≡ 0 → LoadsAt begins arguments path stood reply stands
+    → owed stands.phase + ends_told reply.events ≡ owed p
+loaded_at begins arguments None p stood stands reply at none is = quiet stood stands reply _ p is.0 refl is.1 at
+loaded_at begins arguments (Some path) p stood stands reply at none is =
+    loaded_given begins arguments is.0 p stood stands reply at none is.1
+
+loaded : {S : Type 0} (begins : List ℕ → Result S (List ℕ) → Type 0) (p : Phase S) (arguments : Option Data)
     (stood stands : Standing S) (reply : PlainReply) → stood.phase ≡ p → LoadsFrom begins p arguments stood reply stands
     → owed stands.phase + ends_told reply.events ≡ owed p
-loaded begins (phase.Running a how) arguments stood stands reply at is = refused stood stands reply _ is at
-loaded begins (phase.Configuring a stop_on_entry) arguments stood stands reply at (inl is) =
-    replied stands _ reply _ 0 is.reply_is is.phase_is refl
-loaded begins (phase.Configuring a stop_on_entry) arguments stood stands reply at (inr is) =
-    refused stood stands reply _ is at
-loaded begins (phase.Stopped a) arguments stood stands reply at (inl is) =
-    replied stands _ reply _ 0 is.reply_is is.phase_is refl
-loaded begins (phase.Stopped a) arguments stood stands reply at (inr is) = refused stood stands reply _ is at
-loaded begins phase.NoProgram arguments stood stands reply at (inl is) =
-    replied stands _ reply _ 0 is.reply_is is.phase_is refl
-loaded begins phase.NoProgram arguments stood stands reply at (inr is) = refused stood stands reply _ is at
+loaded begins (phase.Running a how) arguments stood stands reply at is = quiet stood stands reply _ _ is.0 refl is.1 at
+loaded begins (phase.Configuring a stop_on_entry) arguments stood stands reply at is =
+    loaded_at begins arguments (text_at (codes "program") arguments) _ stood stands reply at refl is
+loaded begins (phase.Stopped a) arguments stood stands reply at is =
+    loaded_at begins arguments (text_at (codes "program") arguments) _ stood stands reply at refl is
+loaded begins phase.NoProgram arguments stood stands reply at is =
+    loaded_at begins arguments (text_at (codes "program") arguments) _ stood stands reply at refl is
 
 set_in : {S : Type 0} (first_place : S → ℕ → Option Location → Type 0) (a : S) (arguments : Option Data)
     (path : List ℕ) (old new : List PlainBreakpoint) (reply : PlainReply)

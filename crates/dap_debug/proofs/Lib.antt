@@ -4,6 +4,8 @@ mod Arriving
 mod Balance
 -- What is shown and set one after another; for `inspecting` and `breakpoints`.
 mod Further
+-- What a file gave is loaded, or refused; for `launch`.
+mod Loaded
 -- Texts of one kind that follow each other are one; for `telling` and `debug_laws`.
 mod Merging
 -- What a conversation keeps of what is seen of a session; for `serve_language_inbox`.

@@ -14,6 +14,8 @@ pub mod Running
 pub mod Inspecting
 -- which breakpoints are set
 pub mod Breakpoints
+-- when a launch loads a program
+pub mod Loading
 -- what is replied to each command
 pub mod Replies
 -- what holds of each session

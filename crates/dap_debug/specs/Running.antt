@@ -61,6 +61,10 @@ success body events = record { outcome = Ok body; events = events }
 abbrev pub refusal : List ℕ → PlainReply
 refusal message = record { outcome = Err message; events = [] }
 
+-- the reply is this one, and the session stands as before
+abbrev pub IsQuiet : {S : Type 0} → PlainReply → Standing S → PlainReply → Standing S → Type 0
+IsQuiet says stood reply stands = (reply ≡ says) × (stands ≡ stood)
+
 -- the reply is a refusal, whatever its message
 abbrev pub Refuses : PlainReply → Type 0
 Refuses reply = (message : List ℕ) × (reply ≡ refusal message)

@@ -1,5 +1,6 @@
--- Defines frames, scopes and variables as data without addresses.
-use Rattle.std.specs.Prelude.{ℕ, List, map, string_bytes}
+-- Defines what a language shows as data without addresses.
+use Rattle.std.specs.Prelude.{ℕ, List, map, Result, Ok, Err, String, string_bytes}
+use Rattle.std.specs.declared.alloc.Global.{Global}
 use Rattle.dap_debug.specs.declared.language.Frame.{Frame}
 use Rattle.dap_debug.specs.declared.language.Scope.{Scope}
 use Rattle.dap_debug.specs.declared.language.Variable.{Variable}
@@ -30,3 +31,8 @@ pub record PlainScope : Type 0 where
 abbrev pub plain_scope : Scope → PlainScope
 plain_scope scope =
     record { name = string_bytes scope.name; variables = map plain_variable scope.variables.items }
+
+-- what a text is: a program, or a mistake
+abbrev pub plain_loaded : {S : Type 0} → Result S (String Global) → Result S (List ℕ)
+plain_loaded (Ok program) = Ok program
+plain_loaded (Err mistake) = Err (string_bytes mistake)

@@ -38,12 +38,13 @@ pub struct Variable {
 
 /// A language. Its programs are debugged.
 pub trait Language: Debuggee + Drop {
-    ghost use Rattle.std.specs.Prelude.{◌≡◌, ◌<◌, ℕ, List, Option, IfOk, map};
-    ghost use Rattle.dap_debug.specs.Shown.{PlainFrame, PlainScope, plain_frame, plain_scope};
+    ghost use Rattle.std.specs.Prelude.{◌≡◌, ◌<◌, ℕ, List, Option, Result, IfOk, map};
+    ghost use Rattle.dap_debug.specs.Shown.{PlainFrame, PlainScope, plain_frame, plain_loaded, plain_scope};
     ghost use Rattle.dap_debug.specs.declared.language.Location.{Location};
 
-    /// Which program a text is, before its first step. A language that leaves it out promises nothing of that.
-    ghost begins: { List ℕ → Self → Type 0 } = { λ _ _. Unit {0} };
+    /// What a text is: which program, before its first step, or which mistake. A language that leaves it out promises
+    /// nothing of that.
+    ghost begins: { List ℕ → Result Self (List ℕ) → Type 0 } = { λ _ _. Unit {0} };
 
     /// Where a breakpoint is set that is asked for at a line. A language that leaves it out promises nothing of that.
     ghost first_place: { Self → ℕ → Option Location → Type 0 } = { λ _ _ _. Unit {0} };
@@ -60,7 +61,7 @@ pub trait Language: Debuggee + Drop {
     ///
     /// An allocation failed.
     fn load(alloc: Global, text: &str) -> Result<Result<Self, String>, AllocError>
-        ensures { IfOk result (λ loaded. IfOk loaded (λ program. begins text.now program)) };
+        ensures { IfOk result (λ loaded. begins text.now (plain_loaded loaded)) };
 
     /// Returns the first place at or after a line, which is counted from 1; `None` where there is none.
     fn place_for(&self, line: u64) -> Option<Location>

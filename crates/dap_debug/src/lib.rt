@@ -32,6 +32,7 @@ mod breakpoints;
 mod command;
 mod inspecting;
 mod language;
+mod launching;
 mod laws;
 mod running;
 mod serving;

@@ -4,19 +4,15 @@ ghost use Rattle.std.specs.Prelude.{◌≡◌, IfOk, option_map};
 ghost use Rattle.serde_json.specs.View.{view};
 ghost use Rattle.dap_server.specs.Messages.{plain_reply};
 ghost use Rattle.dap_debug.specs.Standings.{standing, unused};
-ghost use Rattle.dap_debug.specs.Replies.{Loads, Replies, capabilities};
+ghost use Rattle.dap_debug.specs.Replies.{Replies, capabilities};
 
-use crate::arguments::{text, truth};
 use crate::command::{Command, command_of};
 use crate::language::Language;
 use crate::state::{Phase, State};
-use byte_streams::{BEGINNING_LIMIT, ReadFault, Reading, read_beginning};
-use dap_bodies::{initialized, threads};
+use dap_bodies::threads;
 use dap_server::{Event, Reply, Responder, Worker};
 use serde_json::{Value, json};
 use std::alloc::{AllocError, Global};
-use std::fs;
-use std::io::{self, ErrorKind};
 use std::rt::{Clock, Files};
 use std::sync::Wait;
 
@@ -104,7 +100,7 @@ impl<'a, R: Wait + Files + Clock, L: Language> Session<'a, R, L> {
     {
         match command {
             Command::Initialize => Ok(Reply::with_body(alloc, capabilities(alloc)?)),
-            Command::Launch => self.launch(alloc, arguments),
+            Command::Launch => self.state.launch(self.rt, alloc, arguments),
             Command::SetBreakpoints => self.state.set_breakpoints(alloc, arguments),
             Command::ConfigurationDone => self.state.start(alloc),
             Command::Threads => Ok(Reply::with_body(alloc, threads(alloc, THREAD_NAME)?)),
@@ -115,66 +111,6 @@ impl<'a, R: Wait + Files + Clock, L: Language> Session<'a, R, L> {
             Command::Disconnect => Ok(Reply::done(alloc)),
             Command::Unsupported => Reply::refused(alloc, "unsupported"),
         }
-    }
-
-    /// Loads a program, in the place of the one that there is.
-    fn launch(&mut self, alloc: Global, arguments: Option<&Value>) -> Result<Reply, AllocError>
-        ensures { IfOk result (λ reply. Loads L.begins (option_map (λ v. view v.now) arguments.entry)
-            (standing self.old.state) (plain_reply reply) (standing self.new.state)) }
-    {
-        if let Phase::Running(_, _) = self.state.phase {
-            return Reply::refused(alloc, "a program runs");
-        }
-        let Some(path) = text(arguments, "program") else {
-            return Reply::refused(alloc, "`program` is missing");
-        };
-        let Some(source) = read_text(self.rt, alloc, path)? else {
-            return Reply::refused(alloc, "the program can't be read");
-        };
-        match L::load(alloc, source.as_str())? {
-            Ok(program) => {
-                self.state.path = String::from_str(alloc, path)?;
-                self.state.breakpoints = Vec::new(alloc);
-                self.state.phase = Phase::Configuring(program, truth(arguments, "stopOnEntry"));
-                let mut reply = Reply::done(alloc);
-                reply.push(initialized(alloc)?)?;
-                Ok(reply)
-            }
-            Err(mistake) => Reply::refused(alloc, mistake.as_str()),
-        }
-    }
-}
-
-/// Reads a regular file's text; `None` where it can't be read, is too long, or isn't UTF-8.
-fn read_text<R: Wait + Files + Clock>(
-    rt: &R,
-    alloc: Global,
-    path: &str,
-) -> Result<Option<String>, AllocError> {
-    let Ok(file) = open_regular(rt, path) else {
-        return Ok(None);
-    };
-    match read_beginning(rt, alloc, &mut Reading::new(rt, file)) {
-        Ok(bytes) if bytes.len() < BEGINNING_LIMIT => match String::from_utf8(bytes) {
-            Ok(text) => Ok(Some(text)),
-            Err(_) => Ok(None),
-        },
-        Ok(_) | Err(ReadFault::CannotRead) => Ok(None),
-        Err(ReadFault::NoMemory) => Err(AllocError),
-    }
-}
-
-/// Opens a regular file. It looks at the kind of the file first, since opening a named pipe waits for whoever writes to it:
-/// so does one that takes the file's place in between.
-///
-/// # Errors
-///
-/// `InvalidInput` where the path leads to what isn't a regular file, and else as `fs::open`.
-fn open_regular<R: Files>(rt: &R, path: &str) -> io::Result<R::File> {
-    if fs::metadata(rt, path)?.is_file() {
-        fs::open(rt, path)
-    } else {
-        Err(ErrorKind::InvalidInput.into())
     }
 }
 

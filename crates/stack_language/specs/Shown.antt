@@ -1,5 +1,5 @@
 -- Defines lines and frames, what a debugger sees of a state, and what a client is shown.
-use Rattle.std.specs.Prelude.{◌≡◌, ◌≤◌, ◌<◌, ◌+◌, ◌-◌, ◌^◌, ℕ, min, map, ℤ, pos, Bool, true, false, not, nat_eq, List, [], ◌∷◌, length, codes, slice_get, unwrap_or, Option, None, Some, if◌then◌else◌}
+use Rattle.std.specs.Prelude.{◌≡◌, ◌≤◌, ◌<◌, ◌+◌, ◌-◌, ◌^◌, ℕ, min, map, ℤ, pos, Bool, true, false, not, nat_eq, List, [], ◌∷◌, ◌++◌, length, codes, decimal, slice_get, unwrap_or, Option, None, Some, Result, Ok, Err, if◌then◌else◌}
 use Rattle.std.specs.Char.{is_ascii_lowercase}
 use Rattle.std.specs.Fmt.{signed_decimal}
 use Rattle.std.specs.List.{range_with_len}
@@ -77,9 +77,11 @@ sees = record {
 
 -- ---- what a client is shown
 
--- a program is before its first step; no word is said of which text it is
-abbrev pub begins : List ℕ → Machine → Type 0
-begins text m = Begins (plain_state m.state)
+-- A program is before its first step; no word is said of which text it is, or of which line is a mistake.
+abbrev pub begins : List ℕ → Result Machine (List ℕ) → Type 0
+begins text (Ok m) = Begins (plain_state m.state)
+begins text (Err mistake) =
+    (line : ℕ) × (mistake ≡ codes "line " ++ (decimal line ++ codes " is no instruction"))
 
 -- the number of a line for the client, which counts from 1
 abbrev pub shown_line : ℕ → ℕ

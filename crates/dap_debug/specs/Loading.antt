@@ -1,0 +1,53 @@
+-- Defines when a launch loads a program, and when it is refused.
+use Rattle.std.specs.Prelude.{◌≡◌, ◌⊎◌, ℕ, List, [], ◌∷◌, codes, Option, None, Some, Result, Ok, Err}
+use Rattle.std.specs.Str.{IsUtf8}
+use Rattle.serde_json.specs.Data.{Data}
+use Rattle.dap_bodies.specs.Events.{initialized}
+use Rattle.dap_server.specs.Messages.{PlainReply}
+use Rattle.dap_debug.specs.declared.state.Phase.{Phase}
+use Rattle.dap_debug.specs.declared.state.Phase.TheVariants as phase
+use Rattle.dap_debug.specs.Arguments.{text_at, truth_at}
+use Rattle.dap_debug.specs.Running.{success, refusal, IsQuiet}
+use Rattle.dap_debug.specs.Standings.{Standing}
+
+-- A program is loaded, and waits to be started, as the arguments say; its path is that among them, and no breakpoint is
+-- set in it.
+pub record IsLoaded {S : Type 0} (arguments : Option Data) (program : S) (reply : PlainReply) (stands : Standing S)
+    : Type 0 where
+  pub reply_is : reply ≡ success None (initialized ∷ [])
+  pub path_is : text_at (codes "program") arguments ≡ Some stands.path
+  pub phase_is : stands.phase ≡ phase.Configuring program (truth_at (codes "stopOnEntry") arguments)
+  pub none_set : stands.breakpoints ≡ []
+
+-- what a text is, by its language: a program, or a mistake, with which the launch is refused
+abbrev pub LoadsAs : {S : Type 0} → Option Data → Result S (List ℕ) → Standing S → PlainReply → Standing S → Type 0
+LoadsAs arguments (Ok program) stood reply stands = IsLoaded arguments program reply stands
+LoadsAs arguments (Err mistake) stood reply stands = IsQuiet (refusal mistake) stood reply stands
+
+-- What the file gave is a text, which is all that it gave; or it is none. Or the file couldn't be opened or read.
+abbrev pub LoadsGiven : {S : Type 0} → (List ℕ → Result S (List ℕ) → Type 0) → Option Data → Option (List ℕ)
+    → Standing S → PlainReply → Standing S → Type 0
+LoadsGiven begins arguments None stood reply stands =
+    IsQuiet (refusal (codes "the program can't be read")) stood reply stands
+LoadsGiven {S} begins arguments (Some bytes) stood reply stands =
+    (IsUtf8 bytes × (loaded : Result S (List ℕ)) × begins bytes loaded × LoadsAs arguments loaded stood reply stands)
+    ⊎ ((¬ IsUtf8 bytes) × IsQuiet (refusal (codes "the program isn't UTF-8")) stood reply stands)
+
+-- the file at a path, which has to be given, gave something
+abbrev pub LoadsAt : {S : Type 0} → (List ℕ → Result S (List ℕ) → Type 0) → Option Data → Option (List ℕ) → Standing S
+    → PlainReply → Standing S → Type 0
+LoadsAt begins arguments None stood reply stands = IsQuiet (refusal (codes "`program` is missing")) stood reply stands
+LoadsAt begins arguments (Some path) stood reply stands =
+    (given : Option (List ℕ)) × LoadsGiven begins arguments given stood reply stands
+
+-- a program is loaded in the place of another, but for one that runs
+abbrev pub LoadsFrom : {S : Type 0} → (List ℕ → Result S (List ℕ) → Type 0) → Phase S → Option Data → Standing S
+    → PlainReply → Standing S → Type 0
+LoadsFrom begins (phase.Running program how) arguments stood reply stands =
+    IsQuiet (refusal (codes "a program runs")) stood reply stands
+LoadsFrom begins _ arguments stood reply stands =
+    LoadsAt begins arguments (text_at (codes "program") arguments) stood reply stands
+
+abbrev pub Loads : {S : Type 0} → (List ℕ → Result S (List ℕ) → Type 0) → Option Data → Standing S → PlainReply
+    → Standing S → Type 0
+Loads begins arguments stood reply stands = LoadsFrom begins stood.phase arguments stood reply stands
