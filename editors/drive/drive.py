@@ -38,9 +38,11 @@ RECORDED = (
     "emacs.txt", "emacs_back.txt", "emacs_fault.txt", "emacs_endless.txt", "emacs_refused.txt", *KATE, "codelite.txt",
     "codelite_endless.txt",
 )
-# What a session comes to: the program's end, where nothing else is said.
+# What a session comes to: the program's end, where nothing else is said. Emacs kills the proxy at `exited`.
 AT_THE_END, BY_DISCONNECT, BY_PAUSE = '"event":"terminated"', '"command":"disconnect","request_seq"', '"reason":"pause"'
+BY_KILL = '"event":"exited"'
 ENDINGS = {
+    "emacs.txt": BY_KILL, "emacs_back.txt": BY_KILL, "emacs_refused.txt": BY_KILL, "emacs_mistake.txt": BY_KILL,
     "emacs_fault.txt": BY_DISCONNECT, "emacs_endless.txt": BY_DISCONNECT, "kate_endless.txt": BY_DISCONNECT,
     "codelite_endless.txt": BY_PAUSE, "codelite_writes.txt": BY_PAUSE, "kate_mistake.txt": '"output":"2\\n"',
     "kate_words.txt": BY_DISCONNECT, "kate_writes.txt": BY_DISCONNECT,
