@@ -116,11 +116,11 @@ beside: $(PROGRAM) $(SPEED)
 	python3 checks/beside.py $(PROGRAM) $(SPEED) 200
 
 # What Visual Studio Code and Kate mark in programs; the sessions of editors, played to the program; then Emacs, Kate and
-# CodeLite, where they are installed, debug a program with it, and pictures are taken, all into out/; with RECORD=1 into docs/.
-# Nothing is installed: status 2 where one is missing.
-editors: $(PROGRAM) $(FROM_ZERO) $(PL0)
+# CodeLite, where they are installed, debug a program with it, Emacs also one with stack_adapter, and pictures are taken, all
+# into out/; with RECORD=1 into docs/. Nothing is installed: status 2 where one is missing.
+editors: $(PROGRAM) $(FROM_ZERO) $(PL0) $(STACK)
 	python3 editors/highlighting.py $(PROGRAM) examples/*.pl0 demo/*.pl0 checks/*.pl0
-	python3 editors/drive/drive.py $(PROGRAM) $(FROM_ZERO) $(PL0)
+	python3 editors/drive/drive.py $(PROGRAM) $(FROM_ZERO) $(PL0) $(STACK)
 
 # Outside clients and types: a session by Microsoft's debugpy, and one to the example stack_adapter; each message decoded by go-dap and
 # type-checked against @vscode/debugprotocol. Nothing is installed: status 2 where one is missing.

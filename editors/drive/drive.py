@@ -1,15 +1,15 @@
 #!/usr/bin/env python3
 """Plays the editors' sessions to the adapter, then lets the editors that are installed debug a program with it.
 
-usage: drive.py PL0DAP PL0DAP_FROM_ZERO [PL0]
+usage: drive.py PL0DAP PL0DAP_FROM_ZERO PL0 STACK_ADAPTER
 
 First, sessions that were recorded, or written by what is known of an editor, are played by replay.py: those of editors
 that number their requests from 0 to the second program, and Kate's by listen.py; and listening.py looks at what that
-changes. Then Emacs, Kate and CodeLite debug programs, and Neovim shows a mistake. out/ gets a transcript of each
-session, a picture of Emacs and one of Kate at a stop; with RECORD=1 docs/ does, but for sessions with a mistake or a
-loop that writes without end. PL0 says what is wrong with a text: where it isn't given, the one that `make build` has
-made. Nothing is installed. Status 0: all that was wanted was done. Status 1: the adapter sent something else than a
-session says, or an editor failed. Status 2: only an editor, or what a picture needs, is missing.
+changes. Then Emacs, Kate and CodeLite debug programs, Emacs also one of the stack language by STACK_ADAPTER, and Neovim
+shows a mistake. out/ gets a transcript of each session, a picture of Emacs and one of Kate at a stop; with RECORD=1
+docs/ does, but for the session by STACK_ADAPTER, and those with a mistake or a loop that writes without end. PL0 says
+what is wrong with a text. Nothing is installed. Status 0: all that was wanted was done. Status 1: the adapter sent
+something else than a session says, or an editor failed. Status 2: only an editor, or what a picture needs, is missing.
 """
 from __future__ import annotations
 
@@ -24,7 +24,6 @@ from screen import NEEDED
 DRIVE = os.path.dirname(os.path.realpath(__file__))
 TOP = os.path.realpath(os.path.join(DRIVE, "..", ".."))
 RECORDINGS = os.path.join(TOP, "docs", "editors")
-PL0 = os.path.join(TOP, "crates", "pl0", "out", "pl0")
 LISTEN = [sys.executable, os.path.join(TOP, "editors", "listen.py"), "-"]
 PROGRAMS = (("examples", "factorial.pl0"), ("crates", "check_runs", "data", "mistake.pl0"))
 OUT = os.path.join(TOP, "out")
@@ -43,9 +42,9 @@ AT_THE_END, BY_DISCONNECT, BY_PAUSE = '"event":"terminated"', '"command":"discon
 BY_KILL = '"event":"exited"'
 ENDINGS = {
     "emacs.txt": BY_KILL, "emacs_back.txt": BY_KILL, "emacs_refused.txt": BY_KILL, "emacs_mistake.txt": BY_KILL,
-    "emacs_fault.txt": BY_DISCONNECT, "emacs_endless.txt": BY_DISCONNECT, "kate_endless.txt": BY_DISCONNECT,
+    "emacs_fault.txt": BY_DISCONNECT, "emacs_endless.txt": BY_DISCONNECT, "emacs_own.txt": BY_DISCONNECT,
     "codelite_endless.txt": BY_PAUSE, "codelite_writes.txt": BY_PAUSE, "kate_mistake.txt": '"output":"2\\n"',
-    "kate_words.txt": BY_DISCONNECT, "kate_writes.txt": BY_DISCONNECT,
+    "kate_endless.txt": BY_DISCONNECT, "kate_words.txt": BY_DISCONNECT, "kate_writes.txt": BY_DISCONNECT,
 }
 HAS_DAP_MODE = "(progn (require 'package) (package-initialize) (require 'dap-ui))"
 
@@ -68,8 +67,10 @@ def replay(program: str, from_zero: str) -> bool:
 
 
 def place_of(name: str) -> str:
-    """Where a transcript is written: not where it is kept, if it has paths of this computer, or is long."""
-    return os.path.join(OUT if name.endswith(("_mistake.txt", "_writes.txt")) else MADE_IN, "editors", name)
+    """Where a transcript is written: not where those are kept that are played, if it has paths of this computer, is long,
+    or is another adapter's."""
+    is_kept = not name.endswith(("_mistake.txt", "_writes.txt", "_own.txt"))
+    return os.path.join(MADE_IN if is_kept else OUT, "editors", name)
 
 
 def proxy(name: str, *program: str) -> list[str]:
@@ -142,12 +143,13 @@ def take_picture(_session: str, program: str) -> bool:
     return subprocess.run(words).returncode == 0
 
 
-def drive_all(program: str, from_zero: str, has_pl0: bool) -> tuple[bool, bool]:
+def drive_all(program: str, from_zero: str, stack: str) -> tuple[bool, bool]:
     """Lets the editors that are installed debug programs: whether none failed, and whether all were driven."""
     is_right, is_whole = True, True
-    emacs, display, pl0 = missing_for_emacs(), missing(*NEEDED), [] if has_pl0 else ["pl0"]
+    emacs, display, pl0 = missing_for_emacs(), missing(*NEEDED), missing("pl0")
     for editor, lacks, sessions, drive, started in (
         ("Emacs", emacs, ("factorial", "back", "fault", "endless", "refused"), drive_emacs, program),
+        ("Emacs with an adapter of one's own", emacs, ("own",), drive_emacs, stack),
         ("Emacs at a mistake", emacs + pl0, ("mistake",), drive_emacs, program),
         ("Emacs in a terminal", emacs + missing("xterm") + display, ("picture",), take_picture, program),
         ("Kate", missing("kate") + display, ("factorial", "condition", "endless", "words", "writes", "mistake"),
@@ -169,17 +171,17 @@ def drive_all(program: str, from_zero: str, has_pl0: bool) -> tuple[bool, bool]:
 
 
 def main() -> int:
-    if len(sys.argv) not in (3, 4):
+    if len(sys.argv) != 5:
         print(__doc__, file=sys.stderr)
         return 4
-    program, from_zero, pl0 = (os.path.abspath(name) for name in [*sys.argv[1:], PL0][:3])
+    program, from_zero, pl0, stack = map(os.path.abspath, sys.argv[1:])
     with tempfile.TemporaryDirectory() as folder:
         if os.access(pl0, os.X_OK):
             os.symlink(pl0, os.path.join(folder, "pl0"))
         os.environ["PATH"] = f"{folder}{os.pathsep}{os.environ['PATH']}"
         print("Sessions, played to the adapter:", flush=True)
         is_right = replay(program, from_zero)
-        none_failed, is_whole = drive_all(program, from_zero, shutil.which("pl0") is not None)
+        none_failed, is_whole = drive_all(program, from_zero, stack)
     return 1 if not (is_right and none_failed) else 0 if is_whole else 2
 
 

@@ -2,8 +2,9 @@
 
 ;; usage: emacs --batch --load editors/drive/emacs.el -- SESSION COMMAND..
 ;;
-;; SESSION is factorial, back, fault, endless, refused or mistake, which wants pl0 on the path.  COMMAND starts the adapter, or the
-;; proxy before it.  Prints what Emacs shows, line by line, and ends with status 0 at the end of the session.
+;; SESSION is factorial, back, fault, endless, refused or mistake, which wants pl0 on the path; or own, of which the adapter is
+;; stack_adapter, and the settings are those of docs/YOUR_OWN_ADAPTER.md.  COMMAND starts the adapter, or the proxy before it.
+;; Prints what Emacs shows, line by line, and ends with status 0 at the end of the session.
 ;;
 ;; SESSION picture is for an Emacs in a terminal, without --batch: it stops, shows frames, variables and output, and makes the file
 ;; that the variable DRIVE_SHOWN names.  Emacs stays as it is.
@@ -18,11 +19,28 @@
 (let ((store (make-temp-file "pl0dap" t)))
   (setq lsp-session-file (expand-file-name "session" store)
         dap-breakpoints-file (expand-file-name "breakpoints" store)))
-(require 'dap-ui)
-(load (expand-file-name "editors/emacs/pl0-dap.el" drive-folder) nil t)
 (defconst drive-session (cadr (member "--" command-line-args)))
-(setq pl0-dap-command (cddr (member "--" command-line-args))
-      command-line-args-left nil)
+(defconst drive-command (cddr (member "--" command-line-args)))
+(setq command-line-args-left nil)
+
+(defun drive-load-own ()
+  "Evaluate the settings that the page has for an adapter of one's own, with the adapter's command for its path."
+  (with-temp-buffer
+    (insert-file-contents (expand-file-name "docs/YOUR_OWN_ADAPTER.md" drive-folder))
+    (search-forward "(require 'dap-ui)")
+    (delete-region (point-min) (match-beginning 0))
+    (search-forward "```")
+    (delete-region (match-beginning 0) (point-max))
+    (goto-char (point-min))
+    (search-forward "\"/path/to/mine\"")
+    (replace-match (mapconcat #'prin1-to-string drive-command " ") t t)
+    (eval-buffer)))
+
+(if (equal drive-session "own")
+    (drive-load-own)
+  (require 'dap-ui)
+  (load (expand-file-name "editors/emacs/pl0-dap.el" drive-folder) nil t)
+  (setq pl0-dap-command drive-command))
 
 (defun drive-show (form &rest values)
   "Print a line of what Emacs shows: VALUES in FORM."
@@ -77,9 +95,9 @@
   (drive-show "mode %s" mode-name)
   (goto-char (point-min)))
 
-(defun drive-debug ()
-  "Debug the program of the buffer."
-  (dap-debug (copy-tree (cdr (assoc "PL/0" dap-debug-template-configurations)))))
+(defun drive-debug (&optional template)
+  "Debug the program of the buffer by TEMPLATE, which is PL/0 where none is given."
+  (dap-debug (copy-tree (cdr (assoc (or template "PL/0") dap-debug-template-configurations)))))
 
 (defun drive-go-to-line (line)
   "Go to LINE of the program."
@@ -199,6 +217,23 @@
     (drive-show-stop)
     (drive-to-the-end)))
 
+(defun drive-own ()
+  "A condition, a log point, two stops, a value and a step in a program of the stack language, and a stop at the user's wish."
+  (drive-start "crates/stack_adapter/data/countdown.stk")
+  (drive-breakpoint 10 "dap-breakpoint-condition" "n")
+  (drive-breakpoint 12 "dap-breakpoint-log-message" "n is {n}")
+  (drive-debug "Mine")
+  (drive-show-stop)
+  (drive-evaluate "n")
+  (dap-next (dap--cur-session))
+  (drive-show-stop)
+  (dap-continue (dap--cur-session) 1)
+  (drive-show-stop)
+  (drive-show-output)
+  (dap-disconnect (dap--cur-session))
+  (drive-rest 3)
+  (drive-show-process "3 seconds after disconnect"))
+
 (defun drive-shown-mistake ()
   "What Emacs says where the program of the buffer can't be launched, and where `next-error' goes; nil where it is launched."
   (condition-case said
@@ -268,6 +303,7 @@
   ("fault" (drive-fault))
   ("endless" (drive-endless))
   ("refused" (drive-refused))
+  ("own" (drive-own))
   ("mistake" (drive-mistake))
   (_ (drive-show "no session %s" drive-session) (kill-emacs 4)))
 (when noninteractive
