@@ -5,6 +5,10 @@ pub mod Columns
 pub mod NameTable
 -- the tree of a program
 pub mod ProgramTree
+-- a step, instruction by instruction
+pub mod Interpreter
+-- what an instruction makes of operands
+pub mod Taken
 -- worked examples of the pages
 pub mod WorkedPages
 -- What only proofs and inner contracts cite.

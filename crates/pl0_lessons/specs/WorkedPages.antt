@@ -1,10 +1,17 @@
 -- Worked examples of the pages, each computed.
-use Rattle.std.specs.Prelude.{◌≡◌, ℕ, List, [], ◌∷◌, ◌++◌, codes, map, pos}
+use Rattle.std.specs.Prelude.{◌≡◌, ℕ, List, [], ◌∷◌, ◌++◌, codes, map, Some, None, pos}
 use Rattle.pl0_tree.specs.declared.tree.Place.{Place}
 use Rattle.pl0_tree.specs.declared.tree.Operator.TheVariants.{Add, Subtract, Multiply, Divide}
 use Rattle.pl0_tree.specs.declared.tree.Relation.TheVariants.{Equal, Unequal, Less, AtMost, Greater, AtLeast}
 use Rattle.pl0_tree.specs.Tree.{Name, Variable, Number, Negate, Binary, Odd, Compare, Empty, Then, Assign, Call, Write, If, While, Block, ABlock, NoMore, AProcedure}
 use Rattle.pl0_tree.specs.Scope.{Path}
+use Rattle.pl0_meaning.specs.Values.{Configuration}
+use Rattle.pl0_meaning.specs.declared.RunFault.TheVariants.{Depth}
+use Rattle.pl0_unit.specs.declared.instruction.Instruction.{Instruction}
+use Rattle.pl0_unit.specs.declared.instruction.Instruction.TheVariants.{Literal, Operate, Load, Store, Call as CallTo, Enter, Jump, JumpIfZero}
+use Rattle.pl0_unit.specs.declared.instruction.Operation.TheVariants as operation
+use Rattle.pl0_machine.specs.declared.outcome.StepOutcome.TheVariants.{Went, Fault}
+use Rattle.pl0_lessons.specs.Interpreter.{first_lines, led, onward_lines, step_led, step_lines}
 use Rattle.pl0_lessons.specs.NameTable.{block_rows}
 use Rattle.pl0_lessons.specs.ProgramTree.{block_lines, deeper, operator_sign, relation_sign}
 
@@ -95,3 +102,44 @@ SignsAre =
 -- how far in the nodes below one stand, and the last column
 abbrev pub IndentsAre : Type 0
 IndentsAre = map deeper (0 ∷ 8 ∷ 126 ∷ 128 ∷ []) ≡ 2 ∷ 10 ∷ 128 ∷ 128 ∷ []
+
+-- ---- a step, instruction by instruction
+
+-- a frame of `p` above that of the main block
+abbrev frames : Configuration
+frames =
+    record { block = 0 ∷ []; link = 0; numbers = pos 5 ∷ []; todo = [] }
+    ∷ record { block = []; link = 0; numbers = pos 3 ∷ []; todo = [] } ∷ []
+
+abbrev difference : List Instruction
+difference = Load 0 3 ∷ Load 1 3 ∷ Operate operation.Subtract ∷ Store 0 3 ∷ Jump 2 ∷ []
+
+-- the lines of a step, where it leads, and the lines of one that faults
+abbrev pub InstructionsAre : Type 0
+InstructionsAre =
+    (step_lines frames difference 10 []
+    ≡ codes "                10  LOD 0 3\n"
+    ++ codes "                11  LOD 1 3        5\n"
+    ++ codes "                12  OPR 0 3        5 3\n"
+    ++ codes "                13  STO 0 3        2\n")
+    × (step_led frames 20 difference 10 [] ≡ Some 14)
+    × (step_lines frames (Literal (pos 1) ∷ Literal (pos 0) ∷ Operate operation.Divide ∷ Store 0 3 ∷ []) 10 []
+    ≡ codes "                10  LIT 0 1\n"
+    ++ codes "                11  LIT 0 0        1\n"
+    ++ codes "                12  OPR 0 5        1 0\n")
+
+-- where instructions lead that end a step
+abbrev pub LeadsAre : Type 0
+LeadsAre =
+    (map (λ i. led 20 i 10 (pos 0 ∷ []))
+    (Store 0 3 ∷ Operate operation.Write ∷ Operate operation.Return ∷ CallTo 0 2 ∷ JumpIfZero 30 ∷ [])
+    ≡ Some 11 ∷ Some 11 ∷ Some 20 ∷ Some 2 ∷ Some 30 ∷ [])
+    × (led 20 (JumpIfZero 30) 10 (pos 1 ∷ []) ≡ Some 11)
+
+-- what is passed before a step, and that nothing is where a step faults
+abbrev pub PassedAre : Type 0
+PassedAre =
+    let code = Jump 2 ∷ Operate operation.Return ∷ Enter 4 ∷ [] in
+    (first_lines code 0 ≡ codes "                 0  JMP 0 2\n" ++ codes "                 2  INT 0 4\n")
+    × (onward_lines code (Went None) (Some 0) ≡ first_lines code 0) × (onward_lines code (Went None) (Some 1) ≡ [])
+    × (onward_lines code (Fault Depth) (Some 0) ≡ [])

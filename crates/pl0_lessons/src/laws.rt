@@ -1,6 +1,6 @@
 //! Examples of the pages.
 
-ghost use Rattle.pl0_lessons.specs.WorkedPages.{IndentsAre, NamesAre, SignsAre, TreeIs};
+ghost use Rattle.pl0_lessons.specs.WorkedPages.{IndentsAre, InstructionsAre, LeadsAre, NamesAre, PassedAre, SignsAre, TreeIs};
 
 /// The pages of a program, computed. It does nothing: its contract is the examples.
 pub fn worked_pages()
@@ -8,4 +8,7 @@ pub fn worked_pages()
     ensures tree { TreeIs }
     ensures signs { SignsAre }
     ensures indents { IndentsAre }
+    ensures instructions { InstructionsAre }
+    ensures leads { LeadsAre }
+    ensures passed { PassedAre }
 {}

@@ -7,12 +7,14 @@
 #![tactic(auto)]
 
 mod columns;
+mod interpreter;
 mod laws;
 mod names;
 mod standing;
 mod tree;
 
 pub use columns::{put_left, put_left_column, put_right, put_right_column};
+pub use interpreter::{led, operate, put_first, put_instruction, put_onward};
 pub use laws::worked_pages;
 pub use names::name_table;
 pub use tree::program_tree;

@@ -86,13 +86,10 @@ fn put_block(
 
 /// Returns the code of a program from an address on.
 fn code_from(unit: &Unit, address: usize) -> &[Instruction]
-    ensures { address ≤ length unit.now.code.items → result.now ≡ drop address unit.now.code.items }
+    ensures { result.now ≡ drop address unit.now.code.items }
 {
     let code: &[Instruction] = &unit.code;
-    if address > code.len() {
-        return code;
-    }
-    &code[address..]
+    &code[address.min(code.len())..]
 }
 
 /// Appends the lines of constants.

@@ -15,3 +15,14 @@ returns-clause-signs c = (refl, refl)
 
 pub returns-clause-indents : goal.returns-clause-indents
 returns-clause-indents c = refl
+
+pub returns-clause-instructions : goal.returns-clause-instructions
+unfolding digits
+returns-clause-instructions c = (refl, refl, refl)
+
+pub returns-clause-leads : goal.returns-clause-leads
+returns-clause-leads c = (refl, refl)
+
+pub returns-clause-passed : goal.returns-clause-passed
+unfolding digits
+returns-clause-passed c = (refl, refl, refl, refl)

@@ -113,7 +113,7 @@ returns below c = λ entry q to deep coded.
     let stands = at_statement u entry q rows b i (drop i kept) kept c.args.begins c.loop-procedure.next
     c.put_variables.new.page.items c.loop-procedure.page.items none put in
     let from = c.behind_first.ensures
-    ∙ ap (drop 1) (c.code_from-code.ensures (omega (arith, stands.1))) ∙ drop_one c.loop-procedure.next u.code in
+    ∙ ap (drop 1) c.code_from-code.ensures ∙ drop_one c.loop-procedure.next u.code in
     let statement = (c.in_ok-put_statement.ensures u entry q (c.loop-procedure.next + 1) stands.0 stands.2 from).1 in
     whole u entry q b indent c.args.page.now.items c.put_constants.new.page.items c.put_variables.new.page.items
     c.loop-procedure.page.items c.put_statement.new.page.items
