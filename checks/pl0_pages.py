@@ -9,7 +9,8 @@ can't stand where it does, and of each text in checks/mistakes it tells the line
 examples `pl0 list` shows the same instructions, and the same steps beside them, as `pl0dap --check` prints, whose
 stored output the gate compares. The table of names in docs/PL0.md is what `pl0 list --names` writes, and the tree what
 `pl0 tree` does. The table of a run in docs/PL0.md is what `pl0 trace` writes, also where it begins later or ends
-earlier, and so is the machine that is drawn there. A program that writes more than a megabyte writes it all to a pipe.
+earlier, and so are the machine and the instructions that are shown there; in a run of each example an instruction leads
+to the next, and a step writes the operand on top. A program that writes more than a megabyte writes it all to a pipe.
 Where nobody reads on, each command ends at once with status 3, and says nothing; where the disk is full, it says so
 once, after a fault too. A run that is stopped keeps what it wrote, and `pl0 check` tells which files can't be read, and
 why. Prints what is wrong, and ends with status 1 where anything is.
@@ -25,6 +26,7 @@ import threading
 TOP = pathlib.Path(__file__).resolve().parent.parent
 ROW = re.compile(r"^\| (\d+) \| \w+ \| (.*) \| `([^`]*)` \| `(\d+) (\d+) (\d+)` \|$")
 HINT = re.compile(r"^- (.*): `([^`]*)`$")
+INSTRUCTION = re.compile(r"^ +(\d+)  ([A-Z]{3}) (\d+) (-?\d+) *((?: -?\d+)*)$")
 ENDLESS = b"var n; while 0 = 0 do begin n := n + 1; ! n end.\n"
 FAULTY = b"var n; begin n := n; ! 1 / n end.\n"
 WRITES_AND_FAULTS = b"var n; begin ! 1; ! 1 / n end.\n"
@@ -132,6 +134,11 @@ def wrong_traces(pl0: str):
     wanted = drawn(" ".join(["pl0 trace", *options, "procedures.pl0"]))
     if (told.stdout, told.stderr, told.returncode) != (wanted, b"pl0: the run goes on at position 11\n", 0):
         yield f"the machine at position 10: {told}, where {wanted!r} is wanted"
+    options = ["--instructions", "--from", "9", "--steps", "3"]
+    told = run(pl0, "trace", *options, program)
+    wanted = drawn(" ".join(["pl0 trace", *options, "procedures.pl0"]))
+    if (told.stdout, told.stderr, told.returncode) != (wanted, b"pl0: the run goes on at position 12\n", 0):
+        yield f"the instructions from position 9 on: {told}, where {wanted!r} is wanted"
     for start, steps in ((0, 100), (0, 1), (7, 5), (19, 1), (19, 2), (20, 3)):
         told = run(pl0, "trace", program, "--from", str(start), "--steps", str(steps))
         wanted = b"".join([table[0], *table[start + 1 : start + steps + 1]])
@@ -145,6 +152,29 @@ def wrong_traces(pl0: str):
         said = b"-:1:22: fault: division by zero\n  in main at -:1:22\n"
         if (told.stderr, told.returncode) != (said, 1):
             yield f"a trace from {start} of a run that faults: {told}"
+
+
+def wrong_instructions(pl0: str):
+    """Where in the runs of examples an instruction doesn't lead to the next one, or a step writes another number than
+    the operand on top."""
+    for example in sorted((TOP / "examples").glob("*.pl0")):
+        told = run(pl0, "trace", "--instructions", "--steps", "2000", str(example)).stdout.decode()
+        written, returns, leads = "", [], {0}
+        for line in told.splitlines()[2:]:
+            found = INSTRUCTION.match(line)
+            if not found:
+                written = line[51:].split()[0]
+                continue
+            at, name, target = int(found[1]), found[2], int(found[4])
+            if at not in leads or (name, target) == ("OPR", 14) and found[5].split()[-1] != written:
+                yield f"{example.name}: {line} follows on {leads}, and {written!r} is written"
+            leads = {"JMP": {target}, "CAL": {target}, "JPC": {target, at + 1}}.get(name, {at + 1})
+            if name == "CAL":
+                returns.append(at + 1)
+            if (name, target) == ("OPR", 0):
+                leads = {returns.pop()} if returns else set()
+        if "OPR" not in told:
+            yield f"{example.name}: no instructions are told"
 
 
 def outputs_of(pl0: str) -> list[list[str]]:
@@ -211,7 +241,7 @@ def wrong_stops(pl0: str):
 def main() -> int:
     pl0 = str(pathlib.Path(sys.argv[1]).resolve())
     wrong = [*wrong_mistakes(pl0), *wrong_hints(pl0), *wrong_texts(pl0), *wrong_listings(pl0), *wrong_traces(pl0)]
-    wrong += [*wrong_outputs(pl0), *wrong_stops(pl0)]
+    wrong += [*wrong_instructions(pl0), *wrong_outputs(pl0), *wrong_stops(pl0)]
     print("\n".join(wrong) or "mistakes, listings, traces and long outputs are as they should be")
     return 1 if wrong else 0
 

@@ -1,8 +1,8 @@
 -- A step as Wirth's interpreter does it: instruction by instruction, with the operands that are on the stack above the
--- frames. The frames are those of the meaning: from them LOD takes its number, and what the instruction that ends a step
--- makes of them is defined there. It isn't claimed here that such an instruction finds the number on top that the
+-- frames. The frames are those of the meaning: from them LOD takes its number, and what the instruction that ends a
+-- step makes of them is defined there. It isn't claimed here that such an instruction finds the number on top that the
 -- meaning stores, tests or writes.
-use Rattle.std.specs.Prelude.{ℕ, zero, suc, ◌+◌, ◌-◌, nat_lt, if◌then◌else◌, List, [], ◌∷◌, ◌++◌, codes, decimal, length, map, slice_get, take, Option, Some, None, option_map, Result, Ok, Err, ℤ, neg_ℤ}
+use Rattle.std.specs.Prelude.{ℕ, zero, suc, ◌+◌, ◌-◌, nat_lt, if◌then◌else◌, List, [], ◌∷◌, ◌++◌, codes, decimal, length, map, slice_get, take, Option, Some, None, option_map, Result, Ok, ℤ, neg_ℤ}
 use Rattle.std.specs.List.{concat}
 use Rattle.std.specs.Option.{option_map_or}
 use Rattle.std.specs.Fmt.{signed_decimal}

@@ -6,7 +6,7 @@ use byte_streams::{Reading, Writing};
 use pl0_tool::{SystemFiles, execute};
 
 /// The command lines.
-const LINES: [&[&str]; 14] = [
+const LINES: [&[&str]; 15] = [
     &["pl0", "run", "multiply.pl0"],
     &["pl0", "run", "-"],
     &["pl0", "run", "fault.pl0"],
@@ -29,6 +29,16 @@ const LINES: [&[&str]; 14] = [
         "pl0",
         "trace",
         "--machine",
+        "--from",
+        "9",
+        "--steps",
+        "3",
+        "procedures.pl0",
+    ],
+    &[
+        "pl0",
+        "trace",
+        "--instructions",
         "--from",
         "9",
         "--steps",

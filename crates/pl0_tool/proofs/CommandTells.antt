@@ -17,6 +17,7 @@ use Rattle.pl0_tool.specs.Commands.{IsTraceReport, ListTells, TreeTells, Program
 use Rattle.pl0_tool.specs.Traced.{HasPart, HasTable, HasTraced}
 use Rattle.pl0_tool.specs.declared.tracing.Row.{Row}
 use Rattle.pl0_tool.specs.declared.tracing.TraceEnd.{TraceEnd}
+use Rattle.pl0_tool.specs.declared.tracing.View.{View}
 use Rattle.pl0_tool.specs.declared.tracing.TraceEnd.TheVariants.{GoesOn, Ended, EndedBefore, Faulted, WriteFailed}
 
 -- a run that ended so was told
@@ -49,34 +50,34 @@ program_told task file text unit (Ok report) before after is tells = inr (unit, 
 program_told task file text unit (Err e) before after is writes = inr (unit, is, writes)
 
 -- of a table that is told a part was written
-table_part : (drawn : Bool) (m : Standing) (from count : ℕ) (before now : Output) (pending : List ℕ) (rows : List Row)
-    → HasTable drawn m from count before now pending rows → HasPart drawn m from count before now
-table_part drawn m from count before now pending rows has = record {
+table_part : (view : View) (m : Standing) (from count : ℕ) (before now : Output) (pending : List ℕ) (rows : List Row)
+    → HasTable view m from count before now pending rows → HasPart view m from count before now
+table_part view m from count before now pending rows has = record {
   rows = rows;
   rows_are = record { each = has.rows_are.each; most = has.rows_are.most };
   part = (has.holds.flushed, has.holds.appended, (pending, has.holds.joined));
 }
 
 -- of a trace that ended a part of its table was written
-pub traced_part : (end : TraceEnd) (drawn : Bool) (m new : Standing) (from count : ℕ) (before now : Output)
+pub traced_part : (end : TraceEnd) (view : View) (m new : Standing) (from count : ℕ) (before now : Output)
     (pending : List ℕ)
-    → HasTraced end drawn m from count new before now pending → HasPart drawn m from count before now
-traced_part WriteFailed drawn m new from count before now pending h = h.0
-traced_part EndedBefore drawn m new from count before now pending h =
-    table_part drawn m from count before now pending [] h.0
-traced_part GoesOn drawn m new from count before now pending h =
-    table_part drawn m from count before now pending h.0 h.1
-traced_part Ended drawn m new from count before now pending h = table_part drawn m from count before now pending h.0 h.1
-traced_part (Faulted fault) drawn m new from count before now pending h =
-    table_part drawn m from count before now pending h.0 h.1
+    → HasTraced end view m from count new before now pending → HasPart view m from count before now
+traced_part WriteFailed view m new from count before now pending h = h.0
+traced_part EndedBefore view m new from count before now pending h =
+    table_part view m from count before now pending [] h.0
+traced_part GoesOn view m new from count before now pending h =
+    table_part view m from count before now pending h.0 h.1
+traced_part Ended view m new from count before now pending h = table_part view m from count before now pending h.0 h.1
+traced_part (Faulted fault) view m new from count before now pending h =
+    table_part view m from count before now pending h.0 h.1
 
 -- what a task that told of a program wrote of it
 program_writes : (task : Task) (file : List ℕ) (unit : Compiled) (report : Report) (before after : Output)
     → ProgramTells task file unit report before after
     → ProgramWrites task unit before after
 program_writes Run file unit report before after (end, last, ran, told) = inr (end, last, ran)
-program_writes (Trace from steps drawn) file unit report before after (end, last, pending, traced, told) =
-    inr (traced_part end drawn (start_of unit) last from steps before after pending traced)
+program_writes (Trace from steps view) file unit report before after (end, last, pending, traced, told) =
+    inr (traced_part end view (start_of unit) last from steps before after pending traced)
 program_writes Check file unit report before after (told, same) = same
 program_writes (Listing names) file unit report before after (told, same) = same
 program_writes Tree file unit report before after (told, same) = same
@@ -109,22 +110,22 @@ run_from file unit m (Err e) before after at writes =
 -- ---- a trace
 
 -- a trace of a machine that stands at the start of a program
-pub traced_from : {E : Type 0} (end : TraceEnd) (drawn : Bool) (file : List ℕ) (unit : Compiled) (m new : Standing)
+pub traced_from : {E : Type 0} (end : TraceEnd) (view : View) (file : List ℕ) (unit : Compiled) (m new : Standing)
     (from count : ℕ) (r : Result Report E) (before now : Output) (pending : List ℕ)
     → m ≡ start_of unit
-    → HasTraced end drawn m from count new before now pending → IfOk r (IsTraceReport end file new pending)
-    → MatchResult r (λ report. TraceTells drawn file (start_of unit) from count report before now)
-    (λ e. StartTraces drawn unit from count before now)
-traced_from end drawn file unit m new from count (Ok report) before now pending at h is =
-    subst (λ (m : Standing). TraceTells drawn file m from count report before now) at (end, new, pending, h, is)
-traced_from end drawn file unit m new from count (Err e) before now pending at h is =
-    inr (subst (λ (m : Standing). HasPart drawn m from count before now) at
-    (traced_part end drawn m new from count before now pending h))
+    → HasTraced end view m from count new before now pending → IfOk r (IsTraceReport end file new pending)
+    → MatchResult r (λ report. TraceTells view file (start_of unit) from count report before now)
+    (λ e. StartTraces view unit from count before now)
+traced_from end view file unit m new from count (Ok report) before now pending at h is =
+    subst (λ (m : Standing). TraceTells view file m from count report before now) at (end, new, pending, h, is)
+traced_from end view file unit m new from count (Err e) before now pending at h is =
+    inr (subst (λ (m : Standing). HasPart view m from count before now) at
+    (traced_part end view m new from count before now pending h))
 
-pub part_from : (drawn : Bool) (unit : Compiled) (m : Standing) (from count : ℕ) (before now : Output)
-    → m ≡ start_of unit → HasPart drawn m from count before now → StartTraces drawn unit from count before now
-part_from drawn unit m from count before now at h =
-    inr (subst (λ (m : Standing). HasPart drawn m from count before now) at h)
+pub part_from : (view : View) (unit : Compiled) (m : Standing) (from count : ℕ) (before now : Output)
+    → m ≡ start_of unit → HasPart view m from count before now → StartTraces view unit from count before now
+part_from view unit m from count before now at h =
+    inr (subst (λ (m : Standing). HasPart view m from count before now) at h)
 
 -- ---- what each task tells of a program
 
@@ -168,14 +169,14 @@ run_program task file unit (Ok report) before after is tells =
 run_program task file unit (Err e) before after is writes =
     subst (λ (t : Task). ProgramWrites t unit before after) (sym is) writes
 
-pub traced_program : {E : Type 0} (task : Task) (from steps : ℕ) (drawn : Bool) (file : List ℕ) (unit : Compiled)
+pub traced_program : {E : Type 0} (task : Task) (from steps : ℕ) (view : View) (file : List ℕ) (unit : Compiled)
     (r : Result Report E) (before after : Output)
-    → task ≡ Trace from steps drawn
-    → MatchResult r (λ report. TraceTells drawn file (start_of unit) from steps report before after)
-    (λ e. StartTraces drawn unit from steps before after)
+    → task ≡ Trace from steps view
+    → MatchResult r (λ report. TraceTells view file (start_of unit) from steps report before after)
+    (λ e. StartTraces view unit from steps before after)
     → MatchResult r (λ report. ProgramTells task file unit report before after)
     (λ e. ProgramWrites task unit before after)
-traced_program task from steps drawn file unit (Ok report) before after is told =
+traced_program task from steps view file unit (Ok report) before after is told =
     subst (λ (t : Task). ProgramTells t file unit report before after) (sym is) told
-traced_program task from steps drawn file unit (Err e) before after is writes =
+traced_program task from steps view file unit (Err e) before after is writes =
     subst (λ (t : Task). ProgramWrites t unit before after) (sym is) writes

@@ -6,6 +6,8 @@ pub mod PendingBytes
 pub mod RunLines
 -- what a trace tells
 pub mod TracedRows
+-- what is told of a step's instructions, one by one
+pub mod ToldInstructions
 -- the tables of a unit, as a trace reads them
 pub mod TracedFrames
 -- where frames begin, as a drawing adds it up

@@ -21,6 +21,12 @@ use Rattle.pl0_tool.specs.declared.drawing.FrameHead.{FrameHead}
 use Rattle.pl0_tool.specs.declared.tracing.FrameRow.{FrameRow}
 use Rattle.pl0_tool.proofs.TracedFrames.{nesting_count}
 
+-- three texts that were put one after the other
+pub in_three : (page a b c first second last : List ℕ) → first ≡ page ++ a → second ≡ first ++ b → last ≡ second ++ c
+    → last ≡ page ++ (a ++ (b ++ c))
+in_three page a b c first second last one two three =
+    three ∙ ap (λ t. t ++ c) (two ∙ ap (λ t. t ++ b) one) ∙ append_assoc (page ++ a) b c ∙ append_assoc page a (b ++ c)
+
 -- ---- variables
 
 pub variable_next : (xs : List DeclaredName) (ns : List ℤ) (i : ℕ) (e : DeclaredName) (d : ℤ) (old new whole : List ℕ)

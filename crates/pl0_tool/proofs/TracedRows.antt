@@ -7,6 +7,7 @@ use Rattle.pl0_machine.specs.declared.outcome.StepOutcome.{StepOutcome}
 use Rattle.pl0_tool.specs.declared.tracing.FrameRow.{FrameRow}
 use Rattle.pl0_tool.specs.declared.tracing.Row.{Row}
 use Rattle.pl0_tool.specs.declared.tracing.TraceEnd.{TraceEnd}
+use Rattle.pl0_tool.specs.declared.tracing.View.{View}
 use Rattle.pl0_tool.specs.declared.tracing.TraceEnd.TheVariants.{GoesOn, Ended, EndedBefore, Faulted, WriteFailed}
 use Rattle.pl0_tool.proofs.RunLines.{Came, came_on, ended_behind, fault_is, ran_on, runs_on}
 use Rattle.pl0_tool.proofs.PendingBytes.{holds_all, holds_more}
@@ -34,16 +35,16 @@ TellFrames m hidden rows =
     (i : ℕ) (row : FrameRow) → slice_get rows i ≡ Some row → IsFrameRow (program m) (frame_of m (hidden + i)) row
 
 -- rows tell positions, from one on
-abbrev pub TellPositions : Bool → Standing → ℕ → List Row → Type 0
-TellPositions drawn m from rows =
-    (i : ℕ) (row : Row) → slice_get rows i ≡ Some row → IsRow drawn (at_position m (from + i)) row
+abbrev pub TellPositions : View → Standing → ℕ → List Row → Type 0
+TellPositions view m from rows =
+    (i : ℕ) (row : Row) → slice_get rows i ≡ Some row → IsRow view (at_position m (from + i)) row
 
-pub position_more : (drawn : Bool) (m : Standing) (from n : ℕ) (rows : List Row) (row : Row) → length rows ≡ n
-    → TellPositions drawn m from rows → IsRow drawn (at_position m (from + n)) row
-    → TellPositions drawn m from (rows ++ row ∷ [])
-position_more drawn m from n rows row is h here =
-    each-push (λ i r. IsRow drawn (at_position m (from + i)) r) rows row h
-    (subst (λ k. IsRow drawn (at_position m (from + k)) row) (sym is) here)
+pub position_more : (view : View) (m : Standing) (from n : ℕ) (rows : List Row) (row : Row) → length rows ≡ n
+    → TellPositions view m from rows → IsRow view (at_position m (from + n)) row
+    → TellPositions view m from (rows ++ row ∷ [])
+position_more view m from n rows row is h here =
+    each-push (λ i r. IsRow view (at_position m (from + i)) r) rows row h
+    (subst (λ k. IsRow view (at_position m (from + k)) row) (sym is) here)
 
 -- ---- the numbers of a frame
 
@@ -222,34 +223,34 @@ never_there start now new position outcome came ran stop =
 
 -- ---- rows that are told one by one
 
-grown : (drawn : Bool) (start now : Standing) (from n : ℕ) (rows : List Row) (row : Row)
-    → now ≡ at_position start (from + n) → length rows ≡ n → TellPositions drawn start from rows
-    → IsRow drawn now row → TellPositions drawn start from (rows ++ row ∷ [])
-grown drawn start now from n rows row at is h here =
-    position_more drawn start from n rows row is h (subst (λ (m : Standing). IsRow drawn m row) at here)
+grown : (view : View) (start now : Standing) (from n : ℕ) (rows : List Row) (row : Row)
+    → now ≡ at_position start (from + n) → length rows ≡ n → TellPositions view start from rows
+    → IsRow view now row → TellPositions view start from (rows ++ row ∷ [])
+grown view start now from n rows row at is h here =
+    position_more view start from n rows row is h (subst (λ (m : Standing). IsRow view m row) at here)
 
 -- The positions from one on were told, and their table is held.
-pub record Tells (drawn : Bool) (start : Standing) (from n : ℕ) (before now : Output) (pending : List ℕ) : Type 0 where
+pub record Tells (view : View) (start : Standing) (from n : ℕ) (before now : Output) (pending : List ℕ) : Type 0 where
   pub rows : List Row
   pub count : length rows ≡ n
-  pub each : TellPositions drawn start from rows
-  pub holds : Holds before now pending (table start.unit drawn rows)
+  pub each : TellPositions view start from rows
+  pub holds : Holds before now pending (table start.unit view rows)
 
 -- none was told
-pub tells_none : (drawn : Bool) (start : Standing) (from : ℕ) (out : Output) (pending : List ℕ) → pending ≡ head drawn
-    → Tells drawn start from 0 out out pending
-tells_none drawn start from out pending is = record {
+pub tells_none : (view : View) (start : Standing) (from : ℕ) (out : Output) (pending : List ℕ) → pending ≡ head view
+    → Tells view start from 0 out out pending
+tells_none view start from out pending is = record {
   rows = [];
   count = refl;
   each = λ i row e. cc;
-  holds = holds_all out pending (table start.unit drawn []) (is ∙ sym (append-nil (head drawn)));
+  holds = holds_all out pending (table start.unit view []) (is ∙ sym (append-nil (head view)));
 }
 
-table_more : (u : Compiled) (drawn : Bool) (rows : List Row) (row : Row)
-    → table u drawn rows ++ row_text u row ≡ table u drawn (rows ++ row ∷ [])
-table_more u drawn rows row =
-    append_assoc (head drawn) (concat (map (row_text u) rows)) (row_text u row)
-    ∙ ap (λ t. head drawn ++ t) (more rows)
+table_more : (u : Compiled) (view : View) (rows : List Row) (row : Row)
+    → table u view rows ++ row_text u row ≡ table u view (rows ++ row ∷ [])
+table_more u view rows row =
+    append_assoc (head view) (concat (map (row_text u) rows)) (row_text u row)
+    ∙ ap (λ t. head view ++ t) (more rows)
   where
     more : (rows : List Row)
         → concat (map (row_text u) rows) ++ row_text u row ≡ concat (map (row_text u) (rows ++ row ∷ []))
@@ -258,7 +259,7 @@ table_more u drawn rows row =
         append_assoc (row_text u r) (concat (map (row_text u) rows)) (row_text u row)
         ∙ ap (λ t. row_text u r ++ t) (more rows)
 
-same_unit : (m new : Standing) (told : StepOutcome) → Stepped (outcome_of m) m told new → new.unit ≡ m.unit
+pub same_unit : (m new : Standing) (told : StepOutcome) → Stepped (outcome_of m) m told new → new.unit ≡ m.unit
 same_unit m new told stepped = by_outcome (outcome_of m) stepped
   where
     by_outcome : (o : Outcome) → Stepped o m told new → new.unit ≡ m.unit
@@ -276,12 +277,12 @@ row_held m new told u row first out pending left text stepped same put held =
     (put ∙ ap (λ u. pending ++ row_text u row) (same ∙ same_unit m new told stepped)) held
 
 -- a row more is told, of a step that goes on
-pub told_on : (drawn : Bool) (start now new : Standing) (from n : ℕ) (before at after : Output)
+pub told_on : (view : View) (start now new : Standing) (from n : ℕ) (before at after : Output)
     (pending left : List ℕ) (number : Option ℤ)
-    → now ≡ at_position start (from + n) → Tells drawn start from n before at pending
-    → PutsRow (Some (Went number)) drawn now new pending left at after
-    → (0 < depth_of new) × (new ≡ at_position start (from + (n + 1))) × Tells drawn start from (n + 1) before after left
-told_on drawn start now new from n before at after pending left number is tells (row, here, stepped, puts) =
+    → now ≡ at_position start (from + n) → Tells view start from n before at pending
+    → PutsRow (Some (Went number)) view now new pending left at after
+    → (0 < depth_of new) × (new ≡ at_position start (from + (n + 1))) × Tells view start from (n + 1) before after left
+told_on view start now new from n before at after pending left number is tells (row, here, stepped, puts) =
     let next : from + n + 1 ≡ from + (n + 1) = omega arith in (
       runs_on now new number stepped,
       went_on now new number stepped
@@ -290,21 +291,21 @@ told_on drawn start now new from n before at after pending left number is tells 
       record {
         rows = tells.rows ++ row ∷ [];
         count = length_push tells.rows row ∙ ap (λ k. k + 1) tells.count;
-        each = grown drawn start now from n tells.rows row is tells.count tells.each here;
+        each = grown view start now from n tells.rows row is tells.count tells.each here;
         holds = subst (Holds before after left)
-            (ap (λ (m : Standing). table start.unit drawn tells.rows ++ row_text m.unit row) is
-            ∙ table_more start.unit drawn tells.rows row)
-            (puts before (table start.unit drawn tells.rows) tells.holds);
+            (ap (λ (m : Standing). table start.unit view tells.rows ++ row_text m.unit row) is
+            ∙ table_more start.unit view tells.rows row)
+            (puts before (table start.unit view tells.rows) tells.holds);
       },
     )
 
 -- a row more is told, of a step with which the run stops
-pub told_last : (drawn : Bool) (start now new : Standing) (from n count : ℕ) (before at after : Output)
+pub told_last : (view : View) (start now new : Standing) (from n count : ℕ) (before at after : Output)
     (pending left : List ℕ) (outcome : StepOutcome)
-    → n < count → now ≡ at_position start (from + n) → Tells drawn start from n before at pending
-    → PutsRow (Some outcome) drawn now new pending left at after → IsStop outcome
-    → (rows : List Row) × HasTable drawn start from count before after left rows × (length rows ≡ n + 1)
-told_last drawn start now new from n count before at after pending left outcome lt is tells (row, here, stepped, puts)
+    → n < count → now ≡ at_position start (from + n) → Tells view start from n before at pending
+    → PutsRow (Some outcome) view now new pending left at after → IsStop outcome
+    → (rows : List Row) × HasTable view start from count before after left rows × (length rows ≡ n + 1)
+told_last view start now new from n count before at after pending left outcome lt is tells (row, here, stepped, puts)
     stop =
     let same = tells.count in
     let longer = length_push tells.rows row in
@@ -317,36 +318,36 @@ told_last drawn start now new from n count before at after pending left outcome 
       tells.rows ++ row ∷ [],
       record {
         rows_are = record {
-          each = grown drawn start now from n tells.rows row is same tells.each here;
+          each = grown view start now from n tells.rows row is same tells.each here;
           most = omega (arith, longer, same, lt);
           whole = λ fewer. dead;
         };
         holds = subst (Holds before after left)
-            (ap (λ (m : Standing). table start.unit drawn tells.rows ++ row_text m.unit row) is
-            ∙ table_more start.unit drawn tells.rows row)
-            (puts before (table start.unit drawn tells.rows) tells.holds);
+            (ap (λ (m : Standing). table start.unit view tells.rows ++ row_text m.unit row) is
+            ∙ table_more start.unit view tells.rows row)
+            (puts before (table start.unit view tells.rows) tells.holds);
       },
       omega (arith, longer, same),
     )
 
 -- the output failed in a row
-pub told_failed : (drawn : Bool) (start now new : Standing) (from n count : ℕ) (before at after : Output)
+pub told_failed : (view : View) (start now new : Standing) (from n count : ℕ) (before at after : Output)
     (pending left : List ℕ)
-    → n < count → now ≡ at_position start (from + n) → Tells drawn start from n before at pending
-    → PutsRow None drawn now new pending left at after
-    → HasPart drawn start from count before after × (before.failures < after.failures)
-told_failed drawn start now new from n count before at after pending left lt is tells (row, here, puts) =
+    → n < count → now ≡ at_position start (from + n) → Tells view start from n before at pending
+    → PutsRow None view now new pending left at after
+    → HasPart view start from count before after × (before.failures < after.failures)
+told_failed view start now new from n count before at after pending left lt is tells (row, here, puts) =
     let same = tells.count in
     let longer = length_push tells.rows row in
-    let fails : FailsIn (table start.unit drawn (tells.rows ++ row ∷ [])) before after =
+    let fails : FailsIn (table start.unit view (tells.rows ++ row ∷ [])) before after =
     subst (λ t. FailsIn t before after)
-    (ap (λ (m : Standing). table start.unit drawn tells.rows ++ row_text m.unit row) is
-    ∙ table_more start.unit drawn tells.rows row)
-    (puts before (table start.unit drawn tells.rows) tells.holds) in (
+    (ap (λ (m : Standing). table start.unit view tells.rows ++ row_text m.unit row) is
+    ∙ table_more start.unit view tells.rows row)
+    (puts before (table start.unit view tells.rows) tells.holds) in (
       record {
         rows = tells.rows ++ row ∷ [];
         rows_are = record {
-          each = grown drawn start now from n tells.rows row is same tells.each here;
+          each = grown view start now from n tells.rows row is same tells.each here;
           most = omega (arith, longer, same, lt);
         };
         part = fails.0;
@@ -355,22 +356,22 @@ told_failed drawn start now new from n count before at after pending left lt is 
     )
 
 -- memory ran out after some rows
-pub told_part : (drawn : Bool) (start : Standing) (from n count : ℕ) (before now later : Output) (pending : List ℕ)
-    → n < count → later ≡ now → Tells drawn start from n before now pending
-    → HasPart drawn start from count before later
-told_part drawn start from n count before now later pending lt same_output tells =
-    subst (HasPart drawn start from count before) (sym same_output) (record {
+pub told_part : (view : View) (start : Standing) (from n count : ℕ) (before now later : Output) (pending : List ℕ)
+    → n < count → later ≡ now → Tells view start from n before now pending
+    → HasPart view start from count before later
+told_part view start from n count before now later pending lt same_output tells =
+    subst (HasPart view start from count before) (sym same_output) (record {
       rows = tells.rows;
       rows_are = record { each = tells.each; most = (let same = tells.count in omega (arith, same, lt)) };
       part = (tells.holds.flushed, tells.holds.appended, (pending, tells.holds.joined));
     })
 
 -- all positions were told that were asked for
-pub told_all : (drawn : Bool) (start now : Standing) (from n count : ℕ) (before at : Output) (pending : List ℕ)
-    → n ≡ count → now ≡ at_position start (from + n) → Tells drawn start from n before at pending
-    → (rows : List Row) × HasTable drawn start from count before at pending rows
+pub told_all : (view : View) (start now : Standing) (from n count : ℕ) (before at : Output) (pending : List ℕ)
+    → n ≡ count → now ≡ at_position start (from + n) → Tells view start from n before at pending
+    → (rows : List Row) × HasTable view start from count before at pending rows
     × (now ≡ at_position start (from + length rows))
-told_all drawn start now from n count before at pending all is tells =
+told_all view start now from n count before at pending all is tells =
     let same = tells.count in (
       tells.rows,
       record {
@@ -385,35 +386,35 @@ told_all drawn start now from n count before at pending all is tells =
     )
 
 -- no position was told, since the run is over before the first
-pub told_nowhere : (drawn : Bool) (start : Standing) (from count : ℕ) (out : Output) (pending : List ℕ)
-    → pending ≡ head drawn → depth_of (at_position start from) ≡ 0 → HasTable drawn start from count out out pending []
-told_nowhere drawn start from count out pending is dead =
+pub told_nowhere : (view : View) (start : Standing) (from count : ℕ) (out : Output) (pending : List ℕ)
+    → pending ≡ head view → depth_of (at_position start from) ≡ 0 → HasTable view start from count out out pending []
+told_nowhere view start from count out pending is dead =
     let same : from ≡ from + 0 = omega arith in
     let there : depth_of (at_position start (from + 0)) ≡ 0 =
     subst (λ p. depth_of (at_position start p) ≡ 0) same dead in
     record {
       rows_are = record { each = λ i row e. cc; most = omega arith; whole = λ fewer. there };
-      holds = holds_all out pending (table start.unit drawn []) (is ∙ sym (append-nil (head drawn)));
+      holds = holds_all out pending (table start.unit view []) (is ∙ sym (append-nil (head view)));
     }
 
 -- nor where it stopped
-pub traced_nowhere : (end : TraceEnd) (drawn : Bool) (start new : Standing) (from count : ℕ) (out : Output)
+pub traced_nowhere : (end : TraceEnd) (view : View) (start new : Standing) (from count : ℕ) (out : Output)
     (pending : List ℕ)
-    → pending ≡ head drawn
+    → pending ≡ head view
     → StopsBefore end start from new × (depth_of (at_position start from) ≡ 0)
-    → HasTraced end drawn start from count new out out pending
-traced_nowhere EndedBefore drawn start new from count out pending is (stops, dead) =
-    (told_nowhere drawn start from count out pending is dead, stops)
-traced_nowhere (Faulted fault) drawn start new from count out pending is ((there, before, faults), dead) = (
+    → HasTraced end view start from count new out out pending
+traced_nowhere EndedBefore view start new from count out pending is (stops, dead) =
+    (told_nowhere view start from count out pending is dead, stops)
+traced_nowhere (Faulted fault) view start new from count out pending is ((there, before, faults), dead) = (
   [],
-  told_nowhere drawn start from count out pending is dead,
+  told_nowhere view start from count out pending is dead,
   omega (arith, before),
   there,
   faults,
 )
-traced_nowhere GoesOn drawn start new from count out pending is (stops, dead) = absurd stops
-traced_nowhere Ended drawn start new from count out pending is (stops, dead) = absurd stops
-traced_nowhere WriteFailed drawn start new from count out pending is (stops, dead) = absurd stops
+traced_nowhere GoesOn view start new from count out pending is (stops, dead) = absurd stops
+traced_nowhere Ended view start new from count out pending is (stops, dead) = absurd stops
+traced_nowhere WriteFailed view start new from count out pending is (stops, dead) = absurd stops
 
 -- ---- a trace from a position to which a machine was taken
 
@@ -424,29 +425,29 @@ stands start m from is =
     let same : m.position ≡ from + 0 = omega (arith, there) in
     ap (λ p. at_position m p) same
 
-abbrev PartFrom : Bool → Standing → ℕ → ℕ → Output → Output → Standing → Type 0
-PartFrom drawn start from count before now m =
-    HasPart drawn m from count before now → HasPart drawn start from count before now
+abbrev PartFrom : View → Standing → ℕ → ℕ → Output → Output → Standing → Type 0
+PartFrom view start from count before now m =
+    HasPart view m from count before now → HasPart view start from count before now
 
-pub part_there : (drawn : Bool) (start m : Standing) (from count : ℕ) (before now : Output) → m ≡ at_position start from
-    → HasPart drawn m from count before now → HasPart drawn start from count before now
-part_there drawn start m from count before now is =
-    subst (PartFrom drawn start from count before now) (sym is) (λ h. record {
+pub part_there : (view : View) (start m : Standing) (from count : ℕ) (before now : Output) → m ≡ at_position start from
+    → HasPart view m from count before now → HasPart view start from count before now
+part_there view start m from count before now is =
+    subst (PartFrom view start from count before now) (sym is) (λ h. record {
       rows = h.rows;
       rows_are = record { each = h.rows_are.each; most = h.rows_are.most };
       part = h.part;
     })
 
-abbrev TableFrom : Bool → Standing → ℕ → ℕ → Output → Output → List ℕ → List Row → Standing → Type 0
-TableFrom drawn start from count before now pending rows m =
-    HasTable drawn m from count before now pending rows → HasTable drawn start from count before now pending rows
+abbrev TableFrom : View → Standing → ℕ → ℕ → Output → Output → List ℕ → List Row → Standing → Type 0
+TableFrom view start from count before now pending rows m =
+    HasTable view m from count before now pending rows → HasTable view start from count before now pending rows
 
-pub table_there : (drawn : Bool) (start m : Standing) (from count : ℕ) (before now : Output) (pending : List ℕ)
+pub table_there : (view : View) (start m : Standing) (from count : ℕ) (before now : Output) (pending : List ℕ)
     (rows : List Row)
     → m ≡ at_position start from
-    → HasTable drawn m from count before now pending rows → HasTable drawn start from count before now pending rows
-table_there drawn start m from count before now pending rows is =
-    subst (TableFrom drawn start from count before now pending rows) (sym is) (λ h. record {
+    → HasTable view m from count before now pending rows → HasTable view start from count before now pending rows
+table_there view start m from count before now pending rows is =
+    subst (TableFrom view start from count before now pending rows) (sym is) (λ h. record {
       rows_are = record { each = h.rows_are.each; most = h.rows_are.most; whole = h.rows_are.whole };
       holds = h.holds;
     })
@@ -457,16 +458,16 @@ pub position_there : (start m : Standing) (from p : ℕ) → m ≡ at_position s
 position_there start m from p is = ap (λ (m : Standing). at_position m p) is
 
 -- the positions told end with the program
-pub traced_end : (drawn : Bool) (start mid now new : Standing) (from n count : ℕ) (before after : Output)
+pub traced_end : (view : View) (start mid now new : Standing) (from n count : ℕ) (before after : Output)
     (left : List ℕ)
     → mid ≡ at_position start from → now ≡ at_position mid (from + n) → Stepped (outcome_of now) now Done new
-    → (rows : List Row) × HasTable drawn mid from count before after left rows × (length rows ≡ n + 1)
-    → HasTraced Ended drawn start from count new before after left
-traced_end drawn start mid now new from n count before after left there is stepped (rows, has, size) =
+    → (rows : List Row) × HasTable view mid from count before after left rows × (length rows ≡ n + 1)
+    → HasTraced Ended view start from count new before after left
+traced_end view start mid now new from n count before after left there is stepped (rows, has, size) =
     let behind = ended_behind now new stepped in
     let next : from + n + 1 ≡ from + length rows = omega (arith, size) in (
       rows,
-      table_there drawn start mid from count before after left rows there has,
+      table_there view start mid from count before after left rows there has,
       omega (arith, size),
       behind.0
           ∙ ap (λ (m : Standing). at_position m (m.position + 1)) is
@@ -476,17 +477,17 @@ traced_end drawn start mid now new from n count before after left there is stepp
     )
 
 -- the last of the positions told faults
-pub traced_fault : (drawn : Bool) (start mid now new : Standing) (fault : RunFault) (from n count : ℕ)
+pub traced_fault : (view : View) (start mid now new : Standing) (fault : RunFault) (from n count : ℕ)
     (before after : Output) (left : List ℕ)
     → mid ≡ at_position start from → now ≡ at_position mid (from + n)
     → Stepped (outcome_of now) now (Fault fault) new
-    → (rows : List Row) × HasTable drawn mid from count before after left rows × (length rows ≡ n + 1)
-    → HasTraced (Faulted fault) drawn start from count new before after left
-traced_fault drawn start mid now new fault from n count before after left there is stepped (rows, has, size) =
+    → (rows : List Row) × HasTable view mid from count before after left rows × (length rows ≡ n + 1)
+    → HasTraced (Faulted fault) view start from count new before after left
+traced_fault view start mid now new fault from n count before after left there is stepped (rows, has, size) =
     let stays : new ≡ at_position mid (from + n) = same_place now new fault stepped ∙ is in
     let position : new.position ≡ from + n = ap (λ (m : Standing). m.position) stays in (
       rows,
-      table_there drawn start mid from count before after left rows there has,
+      table_there view start mid from count before after left rows there has,
       omega (arith, size, position),
       stays
           ∙ position_there start mid from (from + n) there

@@ -36,6 +36,11 @@ number_option name least most = record (new_rule name) {
 abbrev pub machine_flag : Rule
 machine_flag = record (new_rule (codes "machine")) { long = Some (codes "machine"); action = Some SetTrue }
 
+-- the flag by which instructions are told
+abbrev pub instructions_flag : Rule
+instructions_flag =
+    record (new_rule (codes "instructions")) { long = Some (codes "instructions"); action = Some SetTrue }
+
 -- the flag by which the names are listed
 abbrev pub names_flag : Rule
 names_flag = record (new_rule (codes "names")) { long = Some (codes "names"); action = Some SetTrue }
@@ -67,7 +72,7 @@ command_line =
     (with_subcommand
     (with_subcommand program (command_with (codes "run") (one_file ∷ [])))
     (command_with (codes "trace") (one_file ∷ number_option (codes "from") 0 (usize_max)
-    ∷ number_option (codes "steps") 1 most_steps ∷ machine_flag ∷ [])))
+    ∷ number_option (codes "steps") 1 most_steps ∷ machine_flag ∷ instructions_flag ∷ [])))
     (command_with (codes "check") (files ∷ [])))
     (command_with (codes "list") (one_file ∷ names_flag ∷ [])))
     (command_with (codes "tree") (one_file ∷ []))
@@ -92,9 +97,10 @@ IsFlag given is =
 abbrev pub IsTask : Text → List Row → Task → Type 0
 IsTask name rows Run = name ≡ codes "run"
 IsTask name rows (Listing names) = (name ≡ codes "list") × IsFlag (one_of (codes "names") rows) names
-IsTask name rows (Trace from steps drawn) =
+IsTask name rows (Trace from steps view) =
     (name ≡ codes "trace") × IsNumber 0 (one_of (codes "from") rows) from
-    × IsNumber usual_steps (one_of (codes "steps") rows) steps × IsFlag (one_of (codes "machine") rows) drawn
+    × IsNumber usual_steps (one_of (codes "steps") rows) steps × IsFlag (one_of (codes "machine") rows) view.machine
+    × IsFlag (one_of (codes "instructions") rows) view.instructions
 IsTask name rows Tree = name ≡ codes "tree"
 IsTask name rows Check =
     (name ≢ codes "run") × (name ≢ codes "list") × (name ≢ codes "trace") × (name ≢ codes "tree")

@@ -23,6 +23,7 @@ use Rattle.pl0_tool.specs.Faulting.{fault_report}
 use Rattle.pl0_tool.specs.Listing.{listing}
 use Rattle.pl0_tool.specs.Traced.{HasPart, HasTraced}
 use Rattle.pl0_tool.specs.declared.tracing.TraceEnd.{TraceEnd}
+use Rattle.pl0_tool.specs.declared.tracing.View.{View}
 use Rattle.pl0_tool.specs.declared.tracing.TraceEnd.TheVariants.{GoesOn, Ended as TraceEnded, EndedBefore, Faulted as TraceFaulted, WriteFailed as TraceUnwritten}
 
 -- a report of these bytes, and of a command that ends so
@@ -69,10 +70,10 @@ IsTraceReport (TraceFaulted fault) file m pending report = IsReport pending (fau
 IsTraceReport TraceUnwritten file m pending report = IsReport [] [] Unwritten report
 
 -- positions of the run were told: the first part of their table was written, and this is told of the rest
-abbrev pub TraceTells : Bool → List ℕ → Standing → ℕ → ℕ → Report → Output → Output → Type 0
-TraceTells drawn file start from steps report before after =
+abbrev pub TraceTells : View → List ℕ → Standing → ℕ → ℕ → Report → Output → Output → Type 0
+TraceTells view file start from steps report before after =
     (end : TraceEnd) × (last : Standing) × (pending : List ℕ)
-    × HasTraced end drawn start from steps last before after pending × IsTraceReport end file last pending report
+    × HasTraced end view start from steps last before after pending × IsTraceReport end file last pending report
 
 -- ---- a listing
 
@@ -98,8 +99,8 @@ MistakeTells file text report =
 
 abbrev pub ProgramTells : Task → List ℕ → Compiled → Report → Output → Output → Type 0
 ProgramTells Run file unit report before after = RunTells file (start_of unit) report before after
-ProgramTells (Trace from steps drawn) file unit report before after =
-    TraceTells drawn file (start_of unit) from steps report before after
+ProgramTells (Trace from steps view) file unit report before after =
+    TraceTells view file (start_of unit) from steps report before after
 ProgramTells Check file unit report before after =
     IsReport [] (warning_lines file unit.tree.text.items) Success report × (after ≡ before)
 ProgramTells (Listing names) file unit report before after = ListTells names unit report × (after ≡ before)
@@ -122,14 +123,14 @@ abbrev pub StartWrites : Compiled → Output → Output → Type 0
 StartWrites unit before after = (after ≡ before) ⊎ WritesRun (start_of unit) before after
 
 -- a part of a trace of a program was written, or nothing
-abbrev pub StartTraces : Bool → Compiled → ℕ → ℕ → Output → Output → Type 0
-StartTraces drawn unit from steps before after =
-    (after ≡ before) ⊎ HasPart drawn (start_of unit) from steps before after
+abbrev pub StartTraces : View → Compiled → ℕ → ℕ → Output → Output → Type 0
+StartTraces view unit from steps before after =
+    (after ≡ before) ⊎ HasPart view (start_of unit) from steps before after
 
 -- what a task writes of a program
 abbrev pub ProgramWrites : Task → Compiled → Output → Output → Type 0
 ProgramWrites Run unit before after = StartWrites unit before after
-ProgramWrites (Trace from steps drawn) unit before after = StartTraces drawn unit from steps before after
+ProgramWrites (Trace from steps view) unit before after = StartTraces view unit from steps before after
 ProgramWrites Check unit before after = after ≡ before
 ProgramWrites (Listing names) unit before after = after ≡ before
 ProgramWrites Tree unit before after = after ≡ before

@@ -7,6 +7,8 @@ pub mod Running
 pub mod Loading
 -- what is drawn of a machine
 pub mod Drawing
+-- what is told of the instructions of a step
+pub mod Instructing
 -- what a trace tells of a position
 pub mod Tracing
 -- what is told of a fault

@@ -1,5 +1,5 @@
 -- The table of a trace: its head, and under it what is told of each position. Where the machine is drawn, each frame
--- has a line of its own.
+-- has a line of its own; where instructions are told, so has each of those.
 use Rattle.std.specs.Prelude.{ℕ, zero, suc, ◌-◌, ℤ, Bool, true, false, ◌||◌, ◌==◌, List, [], ◌∷◌, ◌++◌, codes, decimal, drop, map, slice_get, slice_index_or, Option, Some, None}
 use Rattle.std.specs.List.{concat, before_first}
 use Rattle.std.specs.Option.{option_map_or}
@@ -21,12 +21,22 @@ use Rattle.pl0_tool.specs.declared.drawing.FrameHead.{FrameHead}
 use Rattle.pl0_tool.specs.declared.drawing.Drawing.{Drawing}
 use Rattle.pl0_tool.specs.declared.tracing.FrameRow.{FrameRow}
 use Rattle.pl0_tool.specs.declared.tracing.Row.{Row}
+use Rattle.pl0_tool.specs.declared.tracing.View.{View}
 
-abbrev pub head : Bool → List ℕ
-head false = codes "position  place    source                          writes  frames\n"
-head true =
-    codes "position  place    source                          writes       P       B       T\n"
+abbrev pub state_head : Bool → List ℕ
+state_head false = codes "frames\n"
+state_head true =
+    codes "     P       B       T\n"
     ++ codes "              cell  static link  dynamic link  return address  frame\n"
+
+abbrev pub instructions_head : Bool → List ℕ
+instructions_head false = []
+instructions_head true = codes "                 P  instruction    operands\n"
+
+abbrev pub head : View → List ℕ
+head view =
+    codes "position  place    source                          writes  "
+    ++ (state_head view.machine ++ instructions_head view.instructions)
 
 -- ---- the step
 
@@ -113,7 +123,9 @@ state_text main row (Some d) =
     registers_line d ++ (frame_lines main row.frames.items d.heads.items ++ more_below row.hidden)
 
 abbrev pub row_text : Compiled → Row → List ℕ
-row_text unit row = step_text unit.tree.text.items row ++ state_text (program_of unit) row row.drawing
+row_text unit row =
+    step_text unit.tree.text.items row
+    ++ (state_text (program_of unit) row row.drawing ++ row.instructions.items)
 
-abbrev pub table : Compiled → Bool → List Row → List ℕ
-table unit drawn rows = head drawn ++ concat (map (row_text unit) rows)
+abbrev pub table : Compiled → View → List Row → List ℕ
+table unit view rows = head view ++ concat (map (row_text unit) rows)

@@ -1,5 +1,5 @@
 -- What a trace tells of a run.
-use Rattle.std.specs.Prelude.{◌≡◌, ◌<◌, ◌≤◌, ℕ, ◌+◌, ◌-◌, Bool, List, [], length, slice_get, Option, Some, None, option_map, option_and_then, ℤ}
+use Rattle.std.specs.Prelude.{◌≡◌, ◌<◌, ◌≤◌, ℕ, ◌+◌, ◌-◌, List, [], length, slice_get, Option, Some, None, option_map, option_and_then, ℤ}
 use Rattle.pl0_tree.specs.Tree.{Block}
 use Rattle.pl0_tree.specs.Steps.{StepAt, blocks}
 use Rattle.pl0_meaning.specs.Values.{Frame, next_step}
@@ -10,6 +10,8 @@ use Rattle.pl0_machine.specs.Machine.{Standing, program, frames, frame_of, depth
 use Rattle.pl0_tool.specs.Drawing.{IsDrawn}
 use Rattle.pl0_tool.specs.declared.tracing.FrameRow.{FrameRow}
 use Rattle.pl0_tool.specs.declared.tracing.Row.{Row}
+use Rattle.pl0_tool.specs.declared.tracing.View.{View}
+use Rattle.pl0_tool.specs.Instructing.{AreInstructions}
 
 -- a machine of the same program at another position
 abbrev pub at_position : Standing → ℕ → Standing
@@ -49,24 +51,25 @@ IsTold (Goes written c) outcome = outcome ≡ told written c
 IsTold (Faults fault) outcome = outcome ≡ Fault fault
 IsTold Stuck outcome = ⊥
 
--- a row tells the position at which a machine stands, and draws the machine if it is to
-pub record IsRow (drawn : Bool) (m : Standing) (row : Row) : Type 0 where
+-- a row tells the position at which a machine stands, and what else is to be told there
+pub record IsRow (view : View) (m : Standing) (row : Row) : Type 0 where
   pub position : row.position ≡ m.position
   pub kind : option_map (λ (s : StepAt). s.kind) (step_before m) ≡ Some row.kind
   pub place : option_map (λ (s : StepAt). s.place) (step_before m) ≡ Some row.place
   pub hidden : row.hidden ≡ depth_of m - told_frames
   pub frames : AreFrameRows m row.hidden row.frames.items
-  pub drawing : IsDrawn drawn m row.hidden row.drawing
+  pub drawing : IsDrawn view.machine m row.hidden row.drawing
   pub outcome : IsTold (outcome_of m) row.outcome
+  pub instructions : AreInstructions view.instructions m row.outcome row.instructions.items
 
 -- Rows tell the positions from one on, in order, and at most `count` of them. Where there are fewer, no frame is alive
 -- at the position after the last one: the run has ended, or faults before it.
-pub record AreRows (drawn : Bool) (m : Standing) (from count : ℕ) (rows : List Row) : Type 0 where
-  pub each : (i : ℕ) (row : Row) → slice_get rows i ≡ Some row → IsRow drawn (at_position m (from + i)) row
+pub record AreRows (view : View) (m : Standing) (from count : ℕ) (rows : List Row) : Type 0 where
+  pub each : (i : ℕ) (row : Row) → slice_get rows i ≡ Some row → IsRow view (at_position m (from + i)) row
   pub most : length rows ≤ count
   pub whole : length rows < count → depth_of (at_position m (from + length rows)) ≡ 0
 
 -- the first of these rows
-pub record AreFirstRows (drawn : Bool) (m : Standing) (from count : ℕ) (rows : List Row) : Type 0 where
-  pub each : (i : ℕ) (row : Row) → slice_get rows i ≡ Some row → IsRow drawn (at_position m (from + i)) row
+pub record AreFirstRows (view : View) (m : Standing) (from count : ℕ) (rows : List Row) : Type 0 where
+  pub each : (i : ℕ) (row : Row) → slice_get rows i ≡ Some row → IsRow view (at_position m (from + i)) row
   pub most : length rows ≤ count

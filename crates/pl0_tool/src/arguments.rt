@@ -4,8 +4,9 @@ ghost use Rattle.std.specs.Prelude.{◌≡◌, IfOk, map, false, [], codes, unwr
 ghost use Rattle.clap.specs.Lexer.{usize_max};
 ghost use Rattle.clap.specs.Words.{all_of, app_of, found_of, one_of, rows_of, rule_of};
 ghost use Rattle.pl0_tool.specs.Arguments.{IsNumber, IsParsed, IsTask, command_line};
-ghost use Rattle.pl0_tool.specs.Arguments.{files, machine_flag, most_steps, names_flag, number_option, one_file};
+ghost use Rattle.pl0_tool.specs.Arguments.{files, instructions_flag, machine_flag, most_steps, names_flag, number_option, one_file};
 
+use crate::tracing::View;
 use clap::builder::ValueParser;
 use clap::{Arg, ArgAction, ArgMatches, Command, Error};
 use std::alloc::{AllocError, Global};
@@ -14,18 +15,11 @@ use std::alloc::{AllocError, Global};
 #[derive(Clone, Copy, Debug, PartialEq, Eq)]
 pub enum Task {
     Run,
-    /// Tell this many positions of the program's run, from one on, with the machine's registers and cells where it is
-    /// drawn.
-    Trace {
-        from: u64,
-        steps: usize,
-        drawn: bool,
-    },
+    /// Tell this many positions of the program's run, from one on, with what else is to be told there.
+    Trace { from: u64, steps: usize, view: View },
     Check,
     /// Show the code under each line, or the table of names.
-    List {
-        names: bool,
-    },
+    List { names: bool },
     /// Draw the program's tree.
     Tree,
 }
@@ -102,7 +96,10 @@ fn task_of(name: &str, given: &ArgMatches<'_>) -> Task
         "trace" => Task::Trace {
             from: number(given, "from", 0),
             steps: number(given, "steps", STEPS) as usize,
-            drawn: given.get_flag("machine"),
+            view: View {
+                machine: given.get_flag("machine"),
+                instructions: given.get_flag("instructions"),
+            },
         },
         "list" => Task::List {
             names: given.get_flag("names"),
@@ -137,7 +134,8 @@ fn command_line<'a>(alloc: Global) -> Result<Command<'a>, AllocError>
         .arg(one_file(alloc))?
         .arg(from(alloc))?
         .arg(steps(alloc))?
-        .arg(machine(alloc))?;
+        .arg(machine(alloc))?
+        .arg(instructions(alloc))?;
     let check = Command::new(alloc, "check")
         .about("Tell the first mistake of each text, as FILE:LINE:COLUMN: error: ..")
         .arg(files(alloc))?;
@@ -220,6 +218,17 @@ fn machine<'a>(alloc: Global) -> Arg<'a>
         .help(
             "Show the machine: P, B and T, and of each frame its first cell, links and return address",
         )
+}
+
+/// Returns the flag by which instructions are told.
+fn instructions<'a>(alloc: Global) -> Arg<'a>
+    ensures rule { rule_of result ≡ instructions_flag }
+    ensures own { result.global ≡ false }
+{
+    Arg::new(alloc, "instructions")
+        .long("instructions")
+        .action(ArgAction::SetTrue)
+        .help("Show the instructions of each step, with the operands on the stack before each")
 }
 
 /// Returns the flag by which the names are listed.

@@ -13,9 +13,9 @@ use crate::fault::fault_report;
 use crate::listing::listing;
 use crate::report::{Ending, Report};
 use crate::running::{RunEnd, run_machine};
-use crate::table::head;
+use crate::table::put_head;
 use crate::text::load;
-use crate::tracing::{TraceEnd, trace};
+use crate::tracing::{TraceEnd, View, trace};
 use byte_streams::Sink;
 use pl0_lessons::{name_table, program_tree};
 use pl0_machine::Machine;
@@ -78,8 +78,8 @@ fn perform_program<O: Sink>(
         Task::List { names } => list_program(alloc, &unit, names),
         Task::Tree => draw_tree(alloc, &unit),
         Task::Run => run_program(rt, alloc, file, unit, output, room),
-        Task::Trace { from, steps, drawn } => {
-            trace_program(rt, alloc, file, unit, from, steps, drawn, output, room)
+        Task::Trace { from, steps, view } => {
+            trace_program(rt, alloc, file, unit, from, steps, view, output, room)
         }
     }
 }
@@ -153,25 +153,26 @@ fn trace_program<O: Sink>(
     unit: Unit,
     from: u64,
     steps: usize,
-    drawn: bool,
+    view: View,
     output: &mut O,
     room: usize,
 ) -> Result<Report, AllocError>
     ensures { MatchResult result
-        (λ report. TraceTells drawn file.now (start_of unit) from steps report
+        (λ report. TraceTells view file.now (start_of unit) from steps report
         (O.output output.old) (O.output output.new))
-        (λ _. StartTraces drawn unit from steps
+        (λ _. StartTraces view unit from steps
         (O.output output.old) (O.output output.new)) }
 {
     let mut machine = first_machine(alloc, unit)?;
-    let mut page = Vec::from_slice(alloc, head(drawn).as_bytes())?;
+    let mut page = Vec::new(alloc);
+    put_head(&mut page, view)?;
     let end = trace(
         rt,
         alloc,
         &mut machine,
         from,
         steps,
-        drawn,
+        view,
         output,
         &mut page,
         room,

@@ -132,7 +132,7 @@ fn above(machine: &Machine, frame: usize, base: usize) -> Result<usize, AllocErr
 }
 
 /// Returns the address at which the code goes on after the call that made a frame. The main block's frame has none.
-fn return_address(machine: &Machine, frame: usize) -> usize
+pub fn return_address(machine: &Machine, frame: usize) -> usize
     requires { frame < depth_of machine.now }
     ensures { IsReturn machine.now frame result }
 {

@@ -6,8 +6,8 @@
 //! writes by its meaning, each on a line of its own, up to its end or to the step that faults, or a prefix of them,
 //! where the output fails ([`run_machine`]), and at the end of each slice none are kept back ([`run_slice`]); of a
 //! fault the newest frames are told. [`trace`] tells positions of a run in order, each with the frames, the step and
-//! the number that the meaning has there, and draws the machine, if it is to, as the meaning's frames lie in its cells;
-//! it writes its table as it goes. The table of a trace, and a listing, are as defined. [`run`] is all of the program
+//! the number that the meaning has there, and draws the machine, if it is to, as the meaning's frames lie in its cells,
+//! and tells the step's instructions with their operands; it writes its table as it goes. The table of a trace, and a listing, are as defined. [`run`] is all of the program
 //! `pl0` but its `main`, which hands it the arguments, the files and the streams.
 #![tactic(auto)]
 
@@ -19,6 +19,7 @@ mod commands;
 mod drawing;
 mod fault;
 mod files;
+mod instructions;
 mod lines;
 mod listing;
 mod output;
@@ -38,4 +39,4 @@ pub use program::{execute, run};
 pub use report::{Ending, Report};
 pub use running::{RunEnd, run_machine, run_slice};
 pub use text::load;
-pub use tracing::{FrameRow, Row, TraceEnd, trace};
+pub use tracing::{FrameRow, Row, TraceEnd, View, trace};

@@ -35,9 +35,8 @@ impl<O: Write + Drop> WatchedOutput<O> {
     }
 }
 
-impl<O: Write + IsTerminal + Drop> WatchedOutput<O> {
-    /// Whether the output is a terminal.
-    pub fn is_terminal(&self) -> bool {
+impl<O: Write + IsTerminal + Drop> IsTerminal for WatchedOutput<O> {
+    fn is_terminal(&self) -> bool {
         self.inner.is_terminal()
     }
 }

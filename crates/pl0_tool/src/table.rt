@@ -7,12 +7,12 @@ ghost use Rattle.pl0_tree.specs.Plain.{plain_name};
 ghost use Rattle.pl0_machine.specs.Machine.{program_of};
 ghost use Rattle.pl0_lessons.specs.Columns.{column, left, right};
 ghost use Rattle.pl0_tool.specs.TextLines.{text_lines};
-ghost use Rattle.pl0_tool.specs.Table.{table, head, row_text, step_text, place_text, source, ends_source, written_text, state_text, frames_line, more_before, barred, registers_line, frame_lines, frame_line, frame_text, variables_text, more_below};
+ghost use Rattle.pl0_tool.specs.Table.{table, head, state_head, instructions_head, row_text, step_text, place_text, source, ends_source, written_text, state_text, frames_line, more_before, barred, registers_line, frame_lines, frame_line, frame_text, variables_text, more_below};
 
 use crate::blocks::frame_name;
 use crate::drawing::{Drawing, FrameHead};
 use crate::lines::first_line;
-use crate::tracing::{FrameRow, Row};
+use crate::tracing::{FrameRow, Row, View};
 use pl0_lessons::{put_left_column, put_right, put_right_column};
 use pl0_machine::StepOutcome;
 use pl0_syntax::block;
@@ -20,13 +20,18 @@ use pl0_tree::{Name, Place, StepKind};
 use pl0_unit::Unit;
 use std::alloc::{AllocError, Global};
 
-/// The first line of the table.
-const HEAD: &str = "position  place    source                          writes  frames\n";
+/// What stands above the columns of a step.
+const STEP_HEAD: &str = "position  place    source                          writes  ";
 
-/// The first two lines where the machine is drawn.
-const MACHINE_HEAD: &str =
-    "position  place    source                          writes       P       B       T
+/// What stands above the frames.
+const FRAMES_HEAD: &str = "frames\n";
+
+/// What stands above the registers and frames where the machine is drawn.
+const MACHINE_HEAD: &str = "     P       B       T
               cell  static link  dynamic link  return address  frame\n";
+
+/// What stands above instructions.
+const INSTRUCTIONS_HEAD: &str = "                 P  instruction    operands\n";
 
 /// The width of the column of a position.
 const POSITION_WIDTH: usize = 8;
@@ -55,13 +60,41 @@ const DYNAMIC_LINK_WIDTH: usize = 12;
 /// The width of the column of a return address.
 const RETURN_ADDRESS_WIDTH: usize = 14;
 
-/// Returns the head of the table of a trace: position, place and source of the step that comes next, the number that it
+/// Appends the head of the table of a trace: position, place and source of the step that comes next, the number that it
 /// writes, and the frames before it, with their variables. They stand in the same line, the oldest first, or under it,
-/// the newest first, where the machine is drawn.
-pub fn head(drawn: bool) -> &'static str
-    ensures { result.now ≡ head drawn }
+/// the newest first, where the machine is drawn. Under that stand instructions, where they are told.
+///
+/// # Errors
+///
+/// `AllocError`, where an allocation failed.
+pub fn put_head(page: &mut Vec<u8>, view: View) -> Result<(), AllocError>
+    ensures { OnOk result (page.new.items ≡ page.old.items ++ head view) }
 {
-    if drawn { MACHINE_HEAD } else { HEAD }
+    put_text(page, STEP_HEAD)?;
+    put_text(page, state_head(view.machine))?;
+    put_text(page, instructions_head(view.instructions))?;
+    Ok(())
+}
+
+/// Appends a text.
+fn put_text(page: &mut Vec<u8>, text: &str) -> Result<(), AllocError>
+    ensures { OnOk result (page.new.items ≡ page.old.items ++ text.now) }
+{
+    page.extend_from_slice(text.as_bytes())
+}
+
+/// Returns what stands above the state of a machine.
+fn state_head(drawn: bool) -> &'static str
+    ensures { result.now ≡ state_head drawn }
+{
+    if drawn { MACHINE_HEAD } else { FRAMES_HEAD }
+}
+
+/// Returns what stands above instructions, where they are told.
+fn instructions_head(told: bool) -> &'static str
+    ensures { result.now ≡ instructions_head told }
+{
+    if told { INSTRUCTIONS_HEAD } else { "" }
 }
 
 /// Appends what is told of a position.
@@ -73,6 +106,15 @@ pub fn put_row(alloc: Global, page: &mut Vec<u8>, unit: &Unit, row: &Row) -> Res
     ensures { OnOk result (page.new.items ≡ page.old.items ++ row_text unit.now row.now) }
 {
     put_step(alloc, page, unit.tree.text.as_slice(), row)?;
+    put_state(alloc, page, unit, row)?;
+    page.extend_from_slice(row.instructions.as_slice())
+}
+
+/// Appends the state before the step of a row: the machine, where it is drawn, or else the frames.
+fn put_state(alloc: Global, page: &mut Vec<u8>, unit: &Unit, row: &Row) -> Result<(), AllocError>
+    ensures { OnOk result (page.new.items ≡ page.old.items
+        ++ state_text (program_of unit.now) row.now row.now.drawing) }
+{
     match &row.drawing {
         Some(drawing) => put_machine(alloc, page, unit, row, drawing),
         None => put_frames(alloc, page, unit, row),

@@ -7,6 +7,7 @@ ghost use Rattle.pl0_tool.specs.Tracing.{IsFrameRow, AreFrameRows, IsRow, at_pos
 ghost use Rattle.pl0_tool.specs.Table.{head};
 
 use crate::drawing::{Drawing, draw_if};
+use crate::instructions::{begin_if, finish};
 use crate::output::spill;
 use crate::table::put_row;
 use byte_streams::{Sink, WriteFailed};
@@ -28,6 +29,15 @@ pub struct FrameRow {
     pub numbers: Vec<i64>,
 }
 
+/// What is told of a position besides its step and frames.
+#[derive(Clone, Copy, Debug, PartialEq, Eq)]
+pub struct View {
+    /// The machine's registers, and the first cells of its frames.
+    pub machine: bool,
+    /// The instructions of the step, each with the operands on the stack.
+    pub instructions: bool,
+}
+
 /// What is told of a position: the step that comes next, the frames before it is taken, and what it does.
 #[derive(Drop)]
 pub struct Row {
@@ -41,6 +51,8 @@ pub struct Row {
     /// The machine before the step, with the heads of those frames, where it is drawn.
     pub drawing: Option<Drawing>,
     pub outcome: StepOutcome,
+    /// The lines of the step's instructions, where they are told.
+    pub instructions: Vec<u8>,
 }
 
 /// How a trace ended.
@@ -72,18 +84,18 @@ pub fn trace<O: Sink>(
     machine: &mut Machine,
     from: u64,
     count: usize,
-    drawn: bool,
+    view: View,
     output: &mut O,
     page: &mut Vec<u8>,
     room: usize,
 ) -> Result<TraceEnd, AllocError>
     requires alive { 0 < depth_of machine.old }
     requires within { machine.old.position ≤ from }
-    requires head { page.old.items ≡ head drawn }
+    requires head { page.old.items ≡ head view }
     ensures told { MatchResult result
-        (λ end. HasTraced end drawn machine.old from count machine.new
+        (λ end. HasTraced end view machine.old from count machine.new
         (O.output output.old) (O.output output.new) page.new.items)
-        (λ _. HasPart drawn machine.old from count
+        (λ _. HasPart view machine.old from count
         (O.output output.old) (O.output output.new)) }
     ensures few { IfOk result (λ _. (length page.new.items ≤ room) ⊎ (page.new.items ≡ page.old.items)) }
 {
@@ -91,7 +103,7 @@ pub fn trace<O: Sink>(
         return Ok(end);
     }
     for index in 0..count {
-        match tell_row(rt, alloc, machine, drawn, output, page, room) {
+        match tell_row(rt, alloc, machine, view, output, page, room) {
             Ok(None) => return Ok(TraceEnd::WriteFailed),
             Ok(Some(StepOutcome::Went(_))) => {}
             Ok(Some(StepOutcome::Done)) => return Ok(TraceEnd::Ended),
@@ -108,20 +120,20 @@ fn tell_row<O: Sink>(
     rt: &impl Wait,
     alloc: Global,
     machine: &mut Machine,
-    drawn: bool,
+    view: View,
     output: &mut O,
     page: &mut Vec<u8>,
     room: usize,
 ) -> Result<Option<StepOutcome>, AllocError>
     requires { 0 < depth_of machine.old }
     ensures told { MatchResult result
-        (λ told. PutsRow told drawn machine.old machine.new page.old.items page.new.items
+        (λ told. PutsRow told view machine.old machine.new page.old.items page.new.items
         (O.output output.old) (O.output output.new))
         (λ _. O.output output.new
         ≡ O.output output.old) }
     ensures few { IfOk result (λ _. length page.new.items ≤ room) }
 {
-    let row = next_row(alloc, machine, drawn)?;
+    let row = next_row(alloc, machine, view)?;
     let unit: &Unit = machine.unit();
     put_row(alloc, page, unit, &row)?;
     match spill(rt, output, page, room) {
@@ -151,9 +163,9 @@ fn go_to(rt: &impl Wait, machine: &mut Machine, position: u64) -> Option<TraceEn
 }
 
 /// Tells the position of a machine, and takes its step.
-fn next_row(alloc: Global, machine: &mut Machine, drawn: bool) -> Result<Row, AllocError>
+fn next_row(alloc: Global, machine: &mut Machine, view: View) -> Result<Row, AllocError>
     requires { 0 < depth_of machine.old }
-    ensures { IfOk result (λ row. IsRow drawn machine.old row
+    ensures { IfOk result (λ row. IsRow view machine.old row
         × Stepped (outcome_of machine.old) machine.old row.outcome machine.new) }
 {
     let unit: &Unit = machine.unit();
@@ -161,8 +173,11 @@ fn next_row(alloc: Global, machine: &mut Machine, drawn: bool) -> Result<Row, Al
     let position = machine.position();
     let hidden = machine.depth().saturating_sub(TOLD_FRAMES);
     let frames = newest_frames(alloc, machine, hidden)?;
-    let drawing = draw_if(drawn, alloc, machine, hidden)?;
+    let drawing = draw_if(view.machine, alloc, machine, hidden)?;
+    let begun = begin_if(view.instructions, alloc, machine)?;
     let outcome = machine.step();
+    let behind: &Unit = machine.unit();
+    let instructions = finish(alloc, behind.code.as_slice(), outcome, begun)?;
     Ok(Row {
         position,
         kind: step.kind,
@@ -171,6 +186,7 @@ fn next_row(alloc: Global, machine: &mut Machine, drawn: bool) -> Result<Row, Al
         frames,
         drawing,
         outcome,
+        instructions,
     })
 }
 

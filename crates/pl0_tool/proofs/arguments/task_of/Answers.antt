@@ -4,16 +4,23 @@ use Rattle.clap.proofs.WalkLemmas.{one_text-rows}
 use Rattle.pl0_tool.proofs.arguments.task_of.Goals as goal
 
 pub returns-in-trace : goal.returns-in-trace
-returns-in-trace c = let same = one_text-rows (found_of c.args.given.now) (codes "machine") in (
-  c.in-trace.is,
-  c.number.ensures,
-  c.number-in-trace.ensures,
-  (
-    (λ given. c.get_flag.ensures.value (same ∙ given)),
-    (λ given. c.get_flag.ensures.other (same ∙ given)),
-    (λ given. c.get_flag.ensures.none (same ∙ given)),
-  ),
-)
+returns-in-trace c =
+    let machine = one_text-rows (found_of c.args.given.now) (codes "machine") in
+    let instructions = one_text-rows (found_of c.args.given.now) (codes "instructions") in (
+      c.in-trace.is,
+      c.number.ensures,
+      c.number-in-trace.ensures,
+      (
+        (λ given. c.get_flag.ensures.value (machine ∙ given)),
+        (λ given. c.get_flag.ensures.other (machine ∙ given)),
+        (λ given. c.get_flag.ensures.none (machine ∙ given)),
+      ),
+      (
+        (λ given. c.get_flag-in-trace.ensures.value (instructions ∙ given)),
+        (λ given. c.get_flag-in-trace.ensures.other (instructions ∙ given)),
+        (λ given. c.get_flag-in-trace.ensures.none (instructions ∙ given)),
+      ),
+    )
 
 pub returns-in-list : goal.returns-in-list
 returns-in-list c = let same = one_text-rows (found_of c.args.given.now) (codes "names") in (

@@ -21,5 +21,5 @@ returns-in-Run g c =
 
 pub returns-in-Trace : goal.returns-in-Trace
 returns-in-Trace g c =
-    traced_program c.args.task c.in-Trace.from c.in-Trace.steps c.in-Trace.drawn c.args.file.now c.args.unit
+    traced_program c.args.task c.in-Trace.from c.in-Trace.steps c.in-Trace.view c.args.file.now c.args.unit
     c.trace_program.result _ _ c.in-Trace.is c.trace_program.ensures

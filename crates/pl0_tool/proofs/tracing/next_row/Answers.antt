@@ -1,7 +1,9 @@
-use Rattle.pl0_tool.proofs.Common.{arith, frames, IsNext, program_of, subst, sym, top_of, ◌∙◌, ◌≡◌}
+use Rattle.pl0_tool.specs.Instructing.{finished}
+use Rattle.pl0_tool.proofs.Common.{ap, arith, frames, IsNext, program_of, subst, sym, top_of, ◌∙◌, ◌≡◌}
 use Rattle.pl0_unit.specs.declared.unit.Unit.{Unit as Compiled}
 use Rattle.pl0_tool.proofs.TracedFrames.{next_within, next_kind, next_place, IsKindOf, IsPlaceOf}
-use Rattle.pl0_tool.proofs.TracedRows.{told_so}
+use Rattle.pl0_tool.proofs.ToldInstructions.{told_whole}
+use Rattle.pl0_tool.proofs.TracedRows.{same_unit as stays, told_so}
 use Rattle.pl0_tool.proofs.tracing.next_row.Goals as goal
 use Rattle.pl0_tool.proofs.tracing.next_row.Goals.{After-next_step}
 
@@ -39,6 +41,12 @@ returns c =
         frames = c.in_ok-frames.ensures;
         drawing = c.in_ok-drawing.ensures;
         outcome = told_so m c.step-outcome.new.self c.step-outcome.result c.step-outcome.ensures;
+        instructions = told_whole c.args.view.instructions m c.step-outcome.result c.in_ok-begun.begun _ _
+            (c.deref-behind.ensures ∙ c.unit-2.ensures
+            ∙ stays m c.step-outcome.new.self c.step-outcome.result c.step-outcome.ensures)
+            c.in_ok-begun.ensures
+            (c.in_ok-instructions.ensures
+            ∙ ap (λ code. finished code c.step-outcome.result c.in_ok-begun.begun) c.as_slice.ensures.value);
       },
       c.step-outcome.ensures,
     )

@@ -7,7 +7,7 @@ abbrev pub invariant-loop-index : goal.invariant-loop-index
 invariant-loop-index g l =
     (0 < depth_of l.machine)
     × (l.machine ≡ at_position l.initial.machine (l.from + l.index))
-    × Tells l.drawn l.initial.machine l.from l.index
+    × Tells l.view l.initial.machine l.from l.index
     (g.O.Sink.output l.initial.output)
     (g.O.Sink.output l.output) l.page.items
     × ((length l.page.items ≤ l.room) ⊎ (l.page.items ≡ l.initial.page.items))
