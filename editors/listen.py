@@ -8,7 +8,7 @@ is `-`, as for Kate, it is standard input and output. The adapter PROGRAM gets w
 nothing is left out, and the order is kept. This is passed on otherwise than it came:
 
 - A launch that is refused for a mistake in the text says what `pl0 check` says of it, if that can be started, also on
-  standard error.
+  standard error. After a launch of a text of which it warns, one more output says the warnings.
 - A breakpoint that is refused is told by one more output, with the reason in words.
 - A stop at a fault has a `description`: its name in words.
 - Each breakpoint of an answer gets an `id` and its `source`: CodeLite drops those from its list that have none.
@@ -47,7 +47,8 @@ from typing import BinaryIO, NamedTuple
 LENGTH = re.compile(rb"^Content-Length: ([0-9]+)\r$", re.MULTILINE)
 FROM_ONE = {"linesStartAt1": True, "columnsStartAt1": True}
 ANY_THREAD, THE_THREAD = -1, 1
-CHECKER, HAS_MISTAKE, CHECKING = "pl0", 2, 10  # the program, its status, and the seconds that it gets
+CHECKER, CHECKING = "pl0", 10  # the program, and the seconds that it gets
+IS_RIGHT, HAS_MISTAKE = 0, 2  # its status
 STANDARD = "-"
 WRONG_USAGE, NO_PORT, NO_ADAPTER = 4, 5, 6
 # How many frames wait at most, so that as many outputs are joined, and the rest after an output, in seconds.
@@ -94,17 +95,18 @@ def framed(content: bytes) -> bytes:
     return b"Content-Length: %d\r\n\r\n%s" % (len(content), content)
 
 
-def mistake(program: str) -> str | None:
-    """What is said of the mistake in a program's text, with its place; None where nothing can be said."""
+def checked(program: str, status: int) -> str:
+    """What `pl0 check` says of a program's text if it ends with this status: the mistake, or warnings. Empty where it
+    ends otherwise, says nothing, or can't be asked."""
     checker = shutil.which(CHECKER)
     if checker is None:
-        return None
+        return ""
     try:
         run = subprocess.run([checker, "check", program], stdin=subprocess.DEVNULL, capture_output=True, text=True,
                              timeout=CHECKING)
     except (OSError, ValueError, subprocess.TimeoutExpired):
-        return None
-    return run.stderr.strip() if run.returncode == HAS_MISTAKE else None
+        return ""
+    return run.stderr.strip() if run.returncode == status else ""
 
 
 class Session:
@@ -144,7 +146,7 @@ class Session:
         """A content of the adapter's as the editor gets it, and what is told after it."""
         if b'"command":"setBreakpoints"' in content:
             change = self.with_names
-        elif b'"command":"launch"' in content and b'"success":false' in content:
+        elif b'"command":"launch"' in content:
             change = self.with_words
         elif b'"event":"stopped"' in content and b'"reason":"exception"' in content:
             change = self.with_fault
@@ -165,9 +167,13 @@ class Session:
         return [f"The breakpoint at line {line} stops nothing: {REFUSALS.get(code, code)}\n" for line, code in refused]
 
     def with_words(self, answer: dict) -> list[str]:
-        """Lets the refusal of a launch say what is wrong in words, and prints it, where the words can be had."""
+        """Lets the refusal of a launch say what is wrong in words, and prints it, where the words can be had. Tells the
+        warnings where it isn't refused."""
+        if answer["success"]:
+            warnings = checked(self.program, IS_RIGHT)
+            return [f"{warnings}\n"] if warnings else []
         is_folder = self.is_codelite and os.path.isdir(self.program)
-        if words := f"{self.program}: {IS_FOLDER}" if is_folder else mistake(self.program):
+        if words := f"{self.program}: {IS_FOLDER}" if is_folder else checked(self.program, HAS_MISTAKE):
             print(words, file=sys.stderr, flush=True)
             answer["message"] = words
         return []

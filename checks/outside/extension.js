@@ -69,7 +69,7 @@ const editor = {
   Range,
   Diagnostic,
   DebugAdapterExecutable,
-  DiagnosticSeverity: { Error: 0 },
+  DiagnosticSeverity: { Error: 0, Warning: 1 },
   TaskScope: { Workspace: 2 },
   Uri: { file: (name) => name },
   workspace: {
@@ -98,7 +98,7 @@ function write(said, status) {
   fs.writeFileSync(CHECKER, `#!/bin/sh\necho "$2:${said}" >&2\nexit ${status}\n`, { mode: 0o755 });
 }
 
-/** What becomes of launches where a text has a mistake, where it has none, and where `pl0` isn't there. */
+/** What becomes of launches where a text has a mistake, a warning, or none, and where `pl0` isn't there. */
 async function launches() {
   const launch = { type: "pl0", request: "launch", name: "PL/0", program: "/tmp/a.pl0" };
   const resolve = (given) => offered["debug pl0"].resolveDebugConfigurationWithSubstitutedVariables(undefined, given);
@@ -112,6 +112,9 @@ async function launches() {
   assert.strictEqual(await resolve({ ...launch, program: "/tmp/b.pl0" }), undefined);
   assert.deepStrictEqual(marked["/tmp/a.pl0"], [new Diagnostic(word, "`;` is missing", 0)]);
   assert.deepStrictEqual(marked["/tmp/b.pl0"][0].range.at, [2, 8, 2, 9]);
+  write("3:9: warning: no statement", 0);
+  assert.deepStrictEqual(await resolve(launch), launch);
+  assert.deepStrictEqual(marked["/tmp/a.pl0"], [new Diagnostic(word, "no statement", 1)]);
   write("3:9: error: no text", 3);
   await offered.save(document);
   assert.deepStrictEqual(marked["/tmp/a.pl0"], []);
@@ -190,10 +193,11 @@ async function main() {
     "The current file is no PL/0 program.",
   ]);
 
-  const { regexp, file, line, column, message } = contributed.problemMatchers[0].pattern;
+  const { regexp, file, line, column, severity, message } = contributed.problemMatchers[0].pattern;
   const found = new RegExp(regexp).exec("/home/a b/gcd.pl0:3:9: error: `;` is missing");
   assert.deepStrictEqual([found[file], found[line], found[column], found[message]], ["/home/a b/gcd.pl0", "3", "9", "`;` is missing"]);
   assert.notStrictEqual(new RegExp(regexp).exec("gcd.pl0:3:9: fault: overflow"), null);
+  assert.strictEqual(new RegExp(regexp).exec("gcd.pl0:3:9: warning: no statement")[severity], "warning");
   assert.strictEqual(new RegExp(regexp).exec("pl0dap: syntax 6 3 9"), null);
   console.log("the extension offers what package.json says");
 }

@@ -245,15 +245,20 @@
              (line-number-at-pos) (1+ (current-column))))))
 
 (defun drive-mistake ()
-  "A program with a mistake that isn't saved: Emacs saves it, says the mistake in words, and launches it once it is mended."
+  "A program with a mistake that isn't saved: Emacs saves it, says the mistake in words, and launches it once it is mended.
+It warns of what is left."
   (let ((program (expand-file-name "typed.pl0" (make-temp-file "pl0dap" t))))
     (drive-start program)
-    (insert "var x;\nbegin\n  x = 5;\n  ! x\nend.\n")
+    (insert "var x;\nbegin\n  x = 5;\n  ! x;\n  if x = 0 then;\nend.\n")
     (drive-show "%s" (or (drive-shown-mistake) "it is launched"))
     (drive-go-to-line 3)
     (search-forward "=")
     (replace-match ":=")
-    (drive-show "%s" (or (drive-shown-mistake) "it is launched"))
+    (let (warned)
+      (cl-letf (((symbol-function 'display-warning) (lambda (_type text &rest _) (setq warned text))))
+        (drive-show "%s" (or (drive-shown-mistake) "it is launched"))
+        (drive-wait "a warning" warned))
+      (drive-show "%s" (string-replace program "FILE" warned)))
     (drive-wait "the end" (not (dap--session-running (dap--cur-session))))
     (drive-show-output)))
 

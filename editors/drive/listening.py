@@ -50,7 +50,8 @@ PROGRAM = os.path.join(TOP, "examples", "factorial.pl0")
 MISTAKE = os.path.join(TOP, "crates", "check_runs", "data", "mistake.pl0")
 WRITES = "var n; while 0 = 0 do begin n := n + 1; ! n end."
 WORDS = "FILE:2:9: error: words"
-CHECKER = f"#!/bin/sh\necho '{WORDS}' >&2\nexit 2\n"
+WARNING = "FILE:1:13: warning: words"
+CHECKER = f"#!/bin/sh\ncase $2 in {MISTAKE}) echo '{WORDS}' >&2; exit 2;; esac\necho '{WARNING}' >&2\n"
 SOURCE = {"path": PROGRAM, "name": "factorial.pl0"}
 # What is sent, and its arguments before and after; first as only CodeLite needs it.
 FOR_CODELITE = (
@@ -379,6 +380,18 @@ def wrong_launch(program: str, launched: str, path: str, message: str, said: str
     yield from different("the end after it", (0, said), session.end())
 
 
+def wrong_warning(program: str, path: str, is_codelite: bool) -> Iterator[str]:
+    """Where a launch isn't followed by what is said of its text, or otherwise than by an output."""
+    session = Editor(is_codelite, program, path=path)
+    session.send("initialize")
+    session.send("launch", program=PROGRAM)
+    _, answer, told = (session.receive() for _ in range(3))
+    yield from different("a launch with a warning", True, answer["success"])
+    yield from different("a warning", {"category": "console", "output": WARNING + "\n"}, told.get("body"))
+    yield from different("after the warning", "initialized", name_of(session.receive()))
+    yield from different("the end after it", (0, ""), session.end())
+
+
 def wrong_port() -> Iterator[str]:
     """Where a port that is taken isn't refused in words."""
     with socket.create_server(("127.0.0.1", 0)) as taken:
@@ -442,6 +455,7 @@ def all_wrong(program: str, folder: str) -> Iterator[str]:
             yield from compared.session(place, is_codelite, folder)
         yield from wrong_session(program, is_codelite)
         yield from wrong_fault(program, folder, is_codelite)
+        yield from wrong_warning(program, f"{folder}:/usr/bin:/bin", is_codelite)
         yield from wrong_flood(program, folder, is_codelite)
     compared.tell()
     yield from wrong_port()

@@ -71,25 +71,28 @@
 
 (defconst pl0-status-of-mistake 2 "The status of `pl0 check' where a text has a mistake.")
 
-(defun pl0-mistake (program)
-  "What `pl0-command' tells of the mistake in the file PROGRAM.
-Nil where there is none, and where it can't be asked."
+(defun pl0-checked (program)
+  "The status of `pl0-command' after a check of the file PROGRAM, and what it told.
+Nil where it can't be asked."
   (when (and (executable-find pl0-command) (file-regular-p program))
     (with-temp-buffer
-      (when (equal pl0-status-of-mistake (call-process pl0-command nil t nil "check" program))
-        (string-trim (buffer-string))))))
+      (cons (call-process pl0-command nil t nil "check" program)
+            (string-trim (buffer-string))))))
 
 (defun pl0-dap-look (program)
   "Save the buffer of the file PROGRAM, and look for a mistake in the text.
-It is an error, and its place is that of the next one."
+It is an error, and its place is that of the next one.  Warnings are shown."
   (let ((buffer (find-buffer-visiting program)))
     (with-current-buffer (or buffer (current-buffer))
       (when (and buffer (buffer-modified-p))
         (save-buffer))
-      (when-let ((mistake (pl0-mistake program)))
-        (when buffer
-          (pl0-check))
-        (user-error "%s" mistake)))))
+      (pcase-let ((`(,status . ,told) (pl0-checked program)))
+        (cond ((equal status pl0-status-of-mistake)
+               (when buffer
+                 (pl0-check))
+               (user-error "%s" told))
+              ((and (equal status 0) (not (string-empty-p told)))
+               (display-warning 'pl0 told)))))))
 
 (defun pl0-dap-configuration (configuration)
   "CONFIGURATION with what it leaves out: the adapter and the program.

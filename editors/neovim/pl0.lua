@@ -15,13 +15,17 @@ if not is_there then
   return
 end
 
--- Goes to the mistake in the text of a program and says it, if there is one, and if pl0 is there to be asked.
+-- Goes to the mistake in the text of a program and says it, if there is one, and if pl0 is there to be asked. Says warnings.
 local function has_mistake(program)
   if vim.fn.executable("pl0") == 0 then
     return false
   end
   local said = vim.fn.systemlist({ "pl0", "check", program })
-  if vim.v.shell_error ~= 2 then
+  local status = vim.v.shell_error
+  if status == 0 and #said > 0 then
+    vim.notify(table.concat(said, "\n"), vim.log.levels.WARN)
+  end
+  if status ~= 2 then
     return false
   end
   vim.fn.setqflist({}, " ", { title = "pl0 check", lines = said, efm = places })

@@ -16,8 +16,8 @@ const TASKS = {
 /** What is debugged where no launch.json says it. */
 const LAUNCH = { type: "pl0", request: "launch", name: "PL/0", program: "${file}" };
 
-/** How `pl0 check` says a mistake, and the status with which it ends then. */
-const MISTAKE = /^(?<all>.*:(?<line>\d+):(?<column>\d+): error: (?<words>.*))$/m;
+/** How `pl0 check` says a mistake or a warning, and the status with which it ends after a mistake. */
+const TOLD = /^(?<all>.*:(?<line>\d+):(?<column>\d+): (?<kind>error|warning): (?<words>.*))$/gm;
 const HAS_MISTAKE = 2;
 const CHECKING = { timeout: 10000 }; // in milliseconds
 
@@ -26,27 +26,28 @@ const pathOf = (program) => vscode.workspace.getConfiguration("pl0.path").get(pr
 
 let mistakes;
 
-/** What is said of the mistake in the text of a file, if there is one, and if it can be asked. */
-function mistakeIn(file) {
+/** What is said of the text of a file, if it can be asked: a mistake, or warnings. */
+function toldOf(file) {
   return new Promise((resolve) => {
     execFile(pathOf("pl0"), ["check", file], CHECKING, (error, _output, said) => {
-      resolve(error && error.code === HAS_MISTAKE ? MISTAKE.exec(said)?.groups : undefined);
+      const isChecked = !error || error.code === HAS_MISTAKE;
+      resolve(isChecked ? Array.from(said.matchAll(TOLD), ({ groups }) => groups) : []);
     });
   });
 }
 
-/** Marks the mistake in the text of a file, and returns it, if there is one. */
+/** Marks what is said of the text of a file, and returns the mistake, if there is one. */
 async function check(file) {
-  const mistake = await mistakeIn(file);
-  const marked = [];
-  if (mistake) {
-    const start = new vscode.Position(mistake.line - 1, mistake.column - 1);
-    const document = vscode.workspace.textDocuments.find((one) => one.fileName === file);
+  const told = await toldOf(file);
+  const document = vscode.workspace.textDocuments.find((one) => one.fileName === file);
+  const { Error: error, Warning: warning } = vscode.DiagnosticSeverity;
+  const marked = told.map(({ line, column, kind, words }) => {
+    const start = new vscode.Position(line - 1, column - 1);
     const range = document?.getWordRangeAtPosition(start) || new vscode.Range(start, start.translate(0, 1));
-    marked.push(new vscode.Diagnostic(range, mistake.words, vscode.DiagnosticSeverity.Error));
-  }
+    return new vscode.Diagnostic(range, words, { error, warning }[kind]);
+  });
   mistakes.set(vscode.Uri.file(file), marked);
-  return mistake;
+  return told.find(({ kind }) => kind === "error");
 }
 
 const configurations = {
