@@ -147,9 +147,9 @@ ends_of (phase.Configuring a stop_on_entry) = refl
 ends_of (phase.Stopped a) = refl
 ends_of phase.NoProgram = refl
 
-loaded_as : {S : Type 0} (arguments : Option Data) (loaded : Result S (List ℕ)) (p : Phase S) (stood stands : Standing S)
-    (reply : PlainReply) → stood.phase ≡ p → owed p ≡ 0 → LoadsAs arguments loaded stood reply stands
-    → owed stands.phase + ends_told reply.events ≡ owed p
+loaded_as : {S : Type 0} (arguments : Option Data) (loaded : Result S (List ℕ)) (p : Phase S)
+    (stood stands : Standing S) (reply : PlainReply) → stood.phase ≡ p → owed p ≡ 0
+    → LoadsAs arguments loaded stood reply stands → owed stands.phase + ends_told reply.events ≡ owed p
 loaded_as arguments (Ok program) p stood stands reply at none is =
     replied stands _ reply _ 0 is.reply_is is.phase_is refl ∙ sym none
 loaded_as arguments (Err mistake) p stood stands reply at none is = quiet stood stands reply _ p is.0 refl is.1 at

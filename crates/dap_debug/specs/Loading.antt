@@ -24,7 +24,7 @@ abbrev pub LoadsAs : {S : Type 0} → Option Data → Result S (List ℕ) → St
 LoadsAs arguments (Ok program) stood reply stands = IsLoaded arguments program reply stands
 LoadsAs arguments (Err mistake) stood reply stands = IsQuiet (refusal mistake) stood reply stands
 
--- What the file gave is a text, which is all that it gave; or it is none. Or the file couldn't be opened or read.
+-- What a file gave, or nothing where it couldn't be opened or read. Where it is UTF-8, the language reads all of it.
 abbrev pub LoadsGiven : {S : Type 0} → (List ℕ → Result S (List ℕ) → Type 0) → Option Data → Option (List ℕ)
     → Standing S → PlainReply → Standing S → Type 0
 LoadsGiven begins arguments None stood reply stands =
@@ -33,7 +33,7 @@ LoadsGiven {S} begins arguments (Some bytes) stood reply stands =
     (IsUtf8 bytes × (loaded : Result S (List ℕ)) × begins bytes loaded × LoadsAs arguments loaded stood reply stands)
     ⊎ ((¬ IsUtf8 bytes) × IsQuiet (refusal (codes "the program isn't UTF-8")) stood reply stands)
 
--- the file at a path, which has to be given, gave something
+-- a path has to be given; no word is said of what the file there gives
 abbrev pub LoadsAt : {S : Type 0} → (List ℕ → Result S (List ℕ) → Type 0) → Option Data → Option (List ℕ) → Standing S
     → PlainReply → Standing S → Type 0
 LoadsAt begins arguments None stood reply stands = IsQuiet (refusal (codes "`program` is missing")) stood reply stands
