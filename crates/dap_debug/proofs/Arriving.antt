@@ -49,7 +49,10 @@ ended : {S I K : Type 0} (know : I → K) (works : Works S) (busy : S → Bool) 
     → WorkerEnds works busy (given know gives) (found know polls) inbox left result replies b rest adapter written later
     → WorkerEnds works busy gives polls (know inbox) (know left) result replies b rest adapter written later
 ended know works busy gives polls inbox left result replies b rest adapter written later (inl is) =
-    inl (is.0, ended_at know is.0 (busy b.adapter) gives polls inbox left result replies b rest adapter written later is.1)
+    inl (
+      is.0,
+      ended_at know is.0 (busy b.adapter) gives polls inbox left result replies b rest adapter written later is.1,
+    )
 ended know works busy gives polls inbox left result replies b rest adapter written later (inr is) = inr is
 
 debugged_over : {S I K : Type 0} (know : I → K) (known : Known S) (gives : Gives K) (polls : Polls K)

@@ -34,9 +34,9 @@ pub record Debugged {S I : Type 0} (known : Known S) (gives : Gives I) (polls : 
   pub served :
       ServedWorker (replied_by known) (worked_by known) runs_in gives polls unused last inbox left written later result
 
--- The thread that reads couldn't be started, and nothing is written; or a client was served what reads of an input gave,
--- from its beginning on. `taken` is what they gave up to the item that was taken last: of an input that is known, the
--- front.
+-- The thread that reads couldn't be started, and nothing is written; or a client was served over what reads of an input
+-- gave, from its beginning on. `taken` is what they gave up to the item that was taken last: of an input whose bytes
+-- are known, the front.
 abbrev pub DebuggedByReader : {S : Type 0} → Known S → Option (List ℕ) → StreamLog → StreamLog
     → Result Ending ServeFault → Type 0
 DebuggedByReader known first written later result =

@@ -15,12 +15,16 @@ use Rattle.dap_reader.specs.declared.place.Place.TheVariants.{Unused, Takes, Sen
 
 -- ---- the ends
 
-at_one : {A : Type 0} (a v : A) (pass : ℕ) → get_elem? (a ∷ []) pass ≡ some v → (pass ≡ 0) × (a ≡ v)
+-- the pass is the one at this place, where this view stands
+abbrev IsAt : {A : Type 0} → ℕ → A → ℕ → A → Type 0
+IsAt pass v place end = (pass ≡ place) × (end ≡ v)
+
+at_one : {A : Type 0} (a v : A) (pass : ℕ) → get_elem? (a ∷ []) pass ≡ some v → IsAt pass v 0 a
 at_one a v zero at = (refl, some-injective a v at)
 at_one a v (suc pass) at = absurd (some-ne-none v (sym at))
 
 at_two : {A : Type 0} (a b v : A) (pass : ℕ) → get_elem? (a ∷ b ∷ []) pass ≡ some v
-    → ((pass ≡ 0) × (a ≡ v)) ⊎ ((pass ≡ 1) × (b ≡ v))
+    → IsAt pass v 0 a ⊎ IsAt pass v 1 b
 at_two a b v zero at = inl (refl, some-injective a v at)
 at_two a b v (suc zero) at = inr (refl, some-injective b v at)
 at_two a b v (suc (suc pass)) at = absurd (some-ne-none v (sym at))
@@ -65,8 +69,9 @@ parts pass v s unused inside ends (inl new) at =
       subst (λ l. Given Comes s (map plain_item l) s) (sym new.1) refl,
     )
 parts pass v s unused inside ends (inr (taken, sent, apart, given)) at =
-    ⊎_elim (λ (here : (pass ≡ 0) × (Takes (known taken) ≡ v)). no is_new (Takes (known taken)) v here.1 refl (ap is_new unused))
-    (λ (here : (pass ≡ 1) × (Sends (known sent) ≡ v)). no is_new (Sends (known sent)) v here.1 refl (ap is_new unused))
+    ⊎_elim
+    (λ (here : IsAt pass v 0 (Takes (known taken))). no is_new (Takes (known taken)) v here.1 refl (ap is_new unused))
+    (λ (here : IsAt pass v 1 (Sends (known sent))). no is_new (Sends (known sent)) v here.1 refl (ap is_new unused))
     (at_two _ _ v pass (subst (λ l. get_elem? l pass ≡ some v) apart at))
 
 pub pushes : (n pass : ℕ) (v : Place) (x : Item) (s : Supply) → is_sender v ≡ true
@@ -75,8 +80,8 @@ pushes n pass v x s sends now inside ends room (inl new) at =
     let here = at_one Unused v pass (subst (λ l. get_elem? l pass ≡ some v) new.0 at) in
     no is_sender Unused v here.1 refl sends
 pushes n pass v x s sends now inside ends room (inr (taken, sent, apart, given)) at =
-    ⊎_elim (λ (here : (pass ≡ 0) × (Takes (known taken) ≡ v)). no is_sender (Takes (known taken)) v here.1 refl sends)
-    (λ (here : (pass ≡ 1) × (Sends (known sent) ≡ v)). (
+    ⊎_elim (λ (here : IsAt pass v 0 (Takes (known taken))). no is_sender (Takes (known taken)) v here.1 refl sends)
+    (λ (here : IsAt pass v 1 (Sends (known sent))). (
       Sends (known s),
       inr (
         taken,
@@ -93,7 +98,7 @@ pushes n pass v x s sends now inside ends room (inr (taken, sent, apart, given))
 pub pops : (pass : ℕ) (v : Place) → is_taker v ≡ true → Pops Carries pass v (Took v)
 pops pass v takes x inside ends (inl new) at = no_item x inside new.1
 pops pass v takes x inside ends (inr (taken, sent, apart, (mid, now, later))) at =
-    ⊎_elim (λ (here : (pass ≡ 0) × (Takes (known taken) ≡ v)). (
+    ⊎_elim (λ (here : IsAt pass v 0 (Takes (known taken))). (
       Takes (known mid),
       inr (
         mid,
@@ -103,7 +108,7 @@ pops pass v takes x inside ends (inr (taken, sent, apart, (mid, now, later))) at
       ),
       (refl, subst (λ e. Comes (through e) (plain_item x) mid) here.1 now),
     ))
-    (λ (here : (pass ≡ 1) × (Sends (known sent) ≡ v)). no is_taker (Sends (known sent)) v here.1 refl takes)
+    (λ (here : IsAt pass v 1 (Sends (known sent))). no is_taker (Sends (known sent)) v here.1 refl takes)
     (at_two _ _ v pass (subst (λ l. get_elem? l pass ≡ some v) apart at))
 
 -- of an input of which nothing was read, all that was read is its own

@@ -17,7 +17,7 @@
 //! ```
 //!
 //! [`Arrivals`] promises of its items what a source promises of its own (`Reads` of `dap_server`), from the input's beginning
-//! on: what was taken is what reads gave, in order, each item once, and no end or failure that no read told. So what
+//! on: each byte that reads gave, once and in order, and an end or a failure only where a read found one. So what
 //! `ServedWorker` and `ServedInbox` say over it is of the bytes that were read. Nothing is promised of when an item comes.
 #![tactic(auto)]
 

@@ -15,7 +15,7 @@ use std::io::Read;
 /// How many items may wait for the session. The reader waits while there are as many.
 const MOST_WAITING: usize = 64;
 
-/// Makes a queue for what reads of an input will give. Returns both of its ends.
+/// Makes a queue for what reads of an input will give, and returns both of its ends. It reads nothing itself.
 ///
 /// # Errors
 ///
