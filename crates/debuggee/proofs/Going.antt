@@ -1,27 +1,9 @@
--- A run goes on by one step more, and two runs are joined.
-use Rattle.std.proofs.Common.{◌≡◌, ℕ, Bool, true, false, List, ◌++◌, ◌∙◌, refl, sym, ap, subst, map, append_assoc, append-nil, Option, None, Some, if◌then◌else◌}
-use Rattle.std.specs.List.{list_any}
+-- Two runs, one after another, are one.
+use Rattle.std.proofs.Common.{List, ◌++◌, ◌∙◌, sym, ap, subst, append_assoc, append-nil, Option, None}
 use Rattle.debuggee.specs.declared.mode.Mode.{Mode}
-use Rattle.debuggee.specs.Plain.{PlainBreakpoint, PlainHalt, AtBreakpoint, AtStep, AtEnd, AtFault, PlainOutput}
-use Rattle.debuggee.specs.Due.{Sight, counted, stops, is_asked, due, logs}
-use Rattle.debuggee.specs.Runs.{Meaning, Moves, Advances, Passes, Stays, Then, Runs, Arrives, Added, Takes}
-
--- ---- a run
-
-pub runs_by : {S : Type 0} (takes : Meaning S) (see : Sight S) (mode : Mode) (a m b : S)
-    (old mid new : List PlainBreakpoint) (halt : Option PlainHalt) (told before between after : List PlainOutput)
-    → Passes takes see mode a old m mid told → between ≡ before ++ told
-    → Added (Advances takes see mode m mid halt b new) between after
-    → Runs takes see mode a old halt b new before after
-runs_by takes see mode a m b old mid new halt told before between after passes first last = (
-  m,
-  mid,
-  told,
-  last.0,
-  passes,
-  last.1,
-  last.2 ∙ ap (λ l. l ++ last.0) first ∙ append_assoc before told last.0,
-)
+use Rattle.debuggee.specs.Plain.{PlainBreakpoint, PlainHalt, PlainOutput}
+use Rattle.debuggee.specs.Due.{Sight}
+use Rattle.debuggee.specs.Runs.{Meaning, Passes, Stays, Then, Runs}
 
 passes_join : {S : Type 0} (takes : Meaning S) (see : Sight S) (mode : Mode) (a m : S) (old mid : List PlainBreakpoint)
     (told : List PlainOutput) (b : S) (new : List PlainBreakpoint) (more : List PlainOutput)

@@ -1,4 +1,6 @@
 -- What is due where a program comes to, of one breakpoint and of all.
 mod Counting
--- A run goes on by one step more, and two runs are joined.
+-- Two runs, one after another, are one.
 mod Going
+-- Marks of places: where there is none, no breakpoint is.
+mod Marking

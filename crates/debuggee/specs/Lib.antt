@@ -4,6 +4,8 @@ pub mod Plain
 pub mod Due
 -- where a run halts, and what is told: the contract of `run`
 pub mod Runs
+-- marks of places, for private contracts
+pub mod Marks
 -- worked examples
 pub mod WorkedRuns
 -- runs, one after another

@@ -4,11 +4,13 @@ ghost use Rattle.std.specs.Prelude.{◌≡◌, IfOk, map, option_map, string_byt
 ghost use Rattle.std.specs.List.{flat_map};
 ghost use Rattle.debuggee.specs.Plain.{plain_breakpoint, plain_halt, plain_output, plain_part};
 ghost use Rattle.debuggee.specs.Due.{accepts, arrives, is_asked, part_text};
+ghost use Rattle.debuggee.specs.Marks.{AreMarked, halt_by_mode};
 ghost use Rattle.debuggee.specs.Runs.{Arrives, ArrivesAt, ArrivesAll};
 
 use crate::breakpoint::{Breakpoint, Part};
 use crate::debuggee::{Debuggee, Evaluated};
 use crate::halt::{Halt, Output};
+use crate::marks::{MARKS, is_marked};
 use crate::mode::Mode;
 use std::alloc::{AllocError, Global};
 
@@ -32,17 +34,44 @@ pub fn arrive<D: Debuggee>(
     if arrive_all(alloc, debuggee, breakpoints, told)? {
         return Ok(Some(Halt::AtBreakpoint));
     }
-    if is_asked(debuggee, mode) {
-        return Ok(Some(Halt::AtStep));
+    Ok(halt_by_mode(debuggee, mode))
+}
+
+/// Does the same as `arrive`, and looks at breakpoints only where the place has a mark.
+pub(crate) fn arrive_by_marks<D: Debuggee>(
+    alloc: Global,
+    debuggee: &D,
+    breakpoints: &mut Vec<Breakpoint>,
+    marks: &[bool; MARKS],
+    mode: Mode,
+    told: &mut Vec<Output>,
+) -> Result<Option<Halt>, AllocError>
+    requires { AreMarked marks.now (map plain_breakpoint breakpoints.old.items) }
+    ensures { IfOk result (λ halt. Arrives D.sees mode debuggee.now (map plain_breakpoint breakpoints.old.items)
+        (option_map plain_halt halt) (map plain_breakpoint breakpoints.new.items) (map plain_output told.old.items)
+        (map plain_output told.new.items)) }
+{
+    if is_marked(debuggee, marks) {
+        return arrive(alloc, debuggee, breakpoints, mode, told);
     }
-    Ok(None)
+    Ok(halt_by_mode(debuggee, mode))
+}
+
+/// Returns why the program is to stop where no breakpoint stops it, if it is.
+fn halt_by_mode<D: Debuggee>(debuggee: &D, mode: Mode) -> Option<Halt>
+    ensures { option_map plain_halt result ≡ halt_by_mode D.sees mode debuggee.now }
+{
+    if is_asked(debuggee, mode) {
+        return Some(Halt::AtStep);
+    }
+    None
 }
 
 /// Whether the mode asks for the state where the program is.
 fn is_asked<D: Debuggee>(debuggee: &D, mode: Mode) -> bool
     ensures { result ≡ is_asked D.sees mode debuggee.now }
 {
-    debuggee.place().is_some() && mode.asks(debuggee.depth())
+    mode.asks(debuggee.depth()) && debuggee.place().is_some()
 }
 
 /// Counts the arrivals at all breakpoints, and returns whether one stops the program.

@@ -14,6 +14,7 @@ mod breakpoint;
 mod debuggee;
 mod halt;
 mod laws;
+mod marks;
 mod mode;
 mod running;
 

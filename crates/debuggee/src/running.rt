@@ -2,18 +2,20 @@
 
 ghost use Rattle.std.specs.Prelude.{IfOk, map, option_map};
 ghost use Rattle.debuggee.specs.Plain.{plain_breakpoint, plain_halt, plain_output};
+ghost use Rattle.debuggee.specs.Marks.{AreMarked, Begins};
 ghost use Rattle.debuggee.specs.Runs.{Added, Takes, Advances, Runs};
 
-use crate::arriving::arrive;
+use crate::arriving::arrive_by_marks;
 use crate::breakpoint::Breakpoint;
 use crate::debuggee::{Debuggee, Step};
 use crate::halt::{Halt, Output};
+use crate::marks::{MARKS, is_marked, marks_of};
 use crate::mode::Mode;
 use std::alloc::{AllocError, Global};
 
-/// How many times a slice looks at a breakpoint at most, and how many steps it takes at most. It keeps short what a
-/// request waits for, also where each look evaluates a condition.
-const LOOKS: usize = 1000;
+/// How many steps a slice takes at most, and how many times it looks at a breakpoint: then it takes one step more. It
+/// keeps short what a request waits for, also where each look evaluates a condition.
+const SLICE: usize = 1000;
 
 /// Runs a program for a slice: to the first state in which it is due, to its end or its fault; `None` where the slice ends
 /// before. Adds what is told.
@@ -32,14 +34,42 @@ pub fn run<D: Debuggee>(
         (option_map plain_halt halt) debuggee.new (map plain_breakpoint breakpoints.new.items)
         (map plain_output told.old.items) (map plain_output told.new.items)) }
 {
-    let steps = LOOKS / breakpoints.len().max(1);
-    for _ in 1..steps {
-        match advance(alloc, debuggee, breakpoints, mode, told)? {
+    let marks = marks_of(breakpoints);
+    match begin(alloc, debuggee, breakpoints, &marks, mode, told)? {
+        Some(halt) => Ok(Some(halt)),
+        None => advance(alloc, debuggee, breakpoints, &marks, mode, told),
+    }
+}
+
+/// Runs a program up to the last step of a slice.
+fn begin<D: Debuggee>(
+    alloc: Global,
+    debuggee: &mut D,
+    breakpoints: &mut Vec<Breakpoint>,
+    marks: &[bool; MARKS],
+    mode: Mode,
+    told: &mut Vec<Output>,
+) -> Result<Option<Halt>, AllocError>
+    requires { AreMarked marks.now (map plain_breakpoint breakpoints.old.items) }
+    ensures { IfOk result (λ halt. Begins D.takes D.sees mode marks.now debuggee.old
+        (map plain_breakpoint breakpoints.old.items) (option_map plain_halt halt) debuggee.new
+        (map plain_breakpoint breakpoints.new.items) (map plain_output told.old.items)
+        (map plain_output told.new.items)) }
+{
+    let mut looks: usize = 0;
+    for _ in 1..SLICE {
+        if looks >= SLICE {
+            return Ok(None);
+        }
+        match advance(alloc, debuggee, breakpoints, marks, mode, told)? {
             Some(halt) => return Ok(Some(halt)),
             None => {}
         }
+        if is_marked(debuggee, marks) {
+            looks = looks.saturating_add(breakpoints.len());
+        }
     }
-    advance(alloc, debuggee, breakpoints, mode, told)
+    Ok(None)
 }
 
 /// Takes a step, and returns why the run halts after it, if it does.
@@ -47,16 +77,18 @@ fn advance<D: Debuggee>(
     alloc: Global,
     debuggee: &mut D,
     breakpoints: &mut Vec<Breakpoint>,
+    marks: &[bool; MARKS],
     mode: Mode,
     told: &mut Vec<Output>,
 ) -> Result<Option<Halt>, AllocError>
+    requires { AreMarked marks.now (map plain_breakpoint breakpoints.old.items) }
     ensures { IfOk result (λ halt. Added (Advances D.takes D.sees mode debuggee.old
         (map plain_breakpoint breakpoints.old.items) (option_map plain_halt halt) debuggee.new
         (map plain_breakpoint breakpoints.new.items)) (map plain_output told.old.items) (map plain_output told.new.items)) }
 {
     match take(alloc, debuggee, told)? {
         Some(halt) => Ok(Some(halt)),
-        None => arrive(alloc, debuggee, breakpoints, mode, told),
+        None => arrive_by_marks(alloc, debuggee, breakpoints, marks, mode, told),
     }
 }
 

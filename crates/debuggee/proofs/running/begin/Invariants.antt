@@ -1,7 +1,8 @@
 use Rattle.std.proofs.Common.{◌≡◌, ◌++◌, List, map}
 use Rattle.debuggee.specs.Plain.{PlainOutput, plain_breakpoint, plain_output}
+use Rattle.debuggee.specs.Marks.{AreMarked}
 use Rattle.debuggee.specs.Runs.{Passes}
-use Rattle.debuggee.proofs.running.run.Given as goal
+use Rattle.debuggee.proofs.running.begin.Given as goal
 
 abbrev pub invariant-loop : goal.invariant-loop
 invariant-loop g l = record {
@@ -9,4 +10,5 @@ invariant-loop g l = record {
   passes : Passes g.D.Debuggee.takes g.D.Debuggee.sees l.mode l.initial.debuggee
       (map plain_breakpoint l.initial.breakpoints.items) l.debuggee (map plain_breakpoint l.breakpoints.items) told;
   added : map plain_output l.told.items ≡ map plain_output l.initial.told.items ++ told;
+  marked : AreMarked l.marks (map plain_breakpoint l.breakpoints.items);
 }
