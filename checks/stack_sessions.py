@@ -23,15 +23,17 @@ from lib.plain_stack import VARIABLES, Mistake, State, read, step
 
 MOST_STEPS = 3000
 NAMES = "aabcnn"
-NUMBERS = ["0", "1", "2", "3", "-1", "7", "+10", "9223372036854775807", "-9223372036854775808", "3037000500"]
-OPERATORS = ["add", "add", "sub", "sub", "mul", "div"]
+NUMBERS = ["0", "1", "2", "3", "5", "-1", "-4", "-7", "+10"]
+LARGE_NUMBERS = ["9223372036854775807", "-9223372036854775808", "3037000500"]
+OPERATORS = ["add", "sub", "mul", "div"]
 MISTAKES = ["push", "push 9223372036854775808", "push 1 2", "load aa", "load A", "jump 0", "call -1", "add 1", "pop",
             "push 1 ; one", "jump 18446744073709551616", "ret 1", "push 0x1", "store é"]
 LINES = ["", "  ", "; a comment", ";", "\t", "push 5", "print", "ret", "load n", "store n", "add", "jump 1", "call 2",
          "jzero 3", "jump 999", "push 1", "call 1"]
 EXPRESSIONS = ["n", "a", "b", "c", "z", "n", "a", "", "nn", "N", "1", " n", "é"]
-RULES = ["", "1", "2", "3", "=1", "=2", "=3", "%2", "%3", "% 2", " 2 ", "0", "=0", "%0", "x", "-1", "%", "=",
-         "18446744073709551615", "18446744073709551616"]
+RULES = ["2", "2", "3", "=2", "%2", "%3"]
+OTHER_RULES = ["", "1", "=1", "% 2", " 2 ", "0", "=0", "%0", "x", "-1", "%", "=", "18446744073709551615",
+               "18446744073709551616"]
 MESSAGES = ["here", "n is {n}", "{a}{b}", "{", "}", "{zz}", "a { b", "{n} and {n", "", "{}", "é {n}"]
 SOME_VALUES = [None, True, 0, 1, 2, 17, -1, 1.5, 2**63, 2**64, "", "n", [], {}, [1]]
 
@@ -58,13 +60,21 @@ class Text:
     def block(self, depth: int) -> None:
         """A few pieces, one after another."""
         for _ in range(self.make.randint(1, 3)):
-            self.make.choice((self.assign, self.calculate, self.show, self.call, self.loop, self.choose))(depth)
+            self.make.choice((self.assign, self.show, self.call, self.choose, *[self.calculate, self.loop] * 2))(depth)
 
     def assign(self, depth: int) -> None:
-        self.add(f"push {self.make.choice(NUMBERS[:6] if self.make.random() < 0.9 else NUMBERS)}", f"store {self.name()}")
+        self.set(self.name())
+
+    def set(self, name: str) -> None:
+        self.add(f"push {self.make.choice(NUMBERS if self.make.random() < 0.95 else LARGE_NUMBERS)}", f"store {name}")
 
     def calculate(self, depth: int) -> None:
-        self.add(f"load {self.name()}", f"load {self.name()}", self.make.choice(OPERATORS), f"store {self.name()}")
+        """Keeps what two numbers make, or prints it."""
+        after = self.make.choice((f"store {self.name()}", "print"))
+        self.add(self.operand(), self.operand(), self.make.choice(OPERATORS), after)
+
+    def operand(self) -> str:
+        return self.make.choice((f"load {self.name()}", f"push {self.make.choice(NUMBERS)}"))
 
     def show(self, depth: int) -> None:
         self.add(f"load {self.name()}", "print")
@@ -78,7 +88,7 @@ class Text:
         if depth == 0:
             return
         counter = self.name()
-        self.add(f"push {self.make.randint(1, 4)}", f"store {counter}")
+        self.add(f"push {self.make.randint(1, 5)}", f"store {counter}")
         first = len(self.lines) + 1
         self.add(f"load {counter}", "jzero ?")
         out = len(self.lines) - 1
@@ -97,6 +107,10 @@ class Text:
         self.lines[out] = f"jzero {len(self.lines) + 1}"
 
     def whole(self) -> str:
+        for name in self.make.sample("abcn", self.make.randint(0, 4)):
+            self.set(name)
+        if self.make.random() < 0.5:
+            self.call(2)
         self.block(2)
         self.add("ret")
         firsts = []
@@ -233,8 +247,12 @@ class Player:
 
     def one(self) -> tuple:
         phase = self.make.choice(sorted(self.model.phases()))
-        timely = {"none": ["launch"], "configuring": ["setBreakpoints", "setBreakpoints", "configurationDone"], "running": ["pause"],
-                  "stopped": [*RESUMING, *RESUMING, "continue", "continue", *INSPECTING, "setBreakpoints"]}.get(phase, ["threads"])
+        timely = {
+            "none": ["launch"],
+            "configuring": [*["setBreakpoints"] * 3, "configurationDone"],
+            "running": ["pause"],
+            "stopped": [*["continue", "next", "stepIn"] * 3, *RESUMING, *INSPECTING, "setBreakpoints"],
+        }.get(phase, ["threads"])
         any_time = ["launch", "setBreakpoints", "configurationDone", "pause", "threads", "terminate", "restart",
                     "initialize", *RESUMING, *INSPECTING]
         command = self.make.choice(timely if self.make.random() < 0.85 else any_time)
@@ -250,7 +268,7 @@ class Player:
         if command == "setBreakpoints":
             here = {"path": make.choice(sorted(world.path for world in self.model.worlds))}
             source = make.choice([here] * 8 + [{"path": "q.stk"}, {}, None])
-            return {"source": source, "breakpoints": [self.breakpoint() for _ in range(make.randint(0, 4))]}
+            return {"source": source, "breakpoints": [self.breakpoint() for _ in range(make.randint(0, 8))]}
         if command == "stackTrace":
             return {"threadId": 1} | self.perhaps("startFrame", [0, 1, 2, 1000]) | self.perhaps("levels", [0, 1, 2, 20])
         if command == "scopes":
@@ -271,8 +289,8 @@ class Player:
         one: dict = {"line": make.randint(0, self.lines() + 1)}
         if make.random() < 0.2:
             one["condition"] = make.choice(EXPRESSIONS)
-        if make.random() < 0.25:
-            one["hitCondition"] = make.choice(RULES)
+        if make.random() < 0.4:
+            one["hitCondition"] = make.choice(RULES if make.random() < 0.8 else OTHER_RULES)
         if make.random() < 0.25:
             one["logMessage"] = make.choice(MESSAGES)
         return one
