@@ -89,6 +89,7 @@ PARTS = [
     tests("adapter_tests"),
     tests("program_tests"),
     tests("plan_tests"),
+    tests("debuggee_tests"),
     tests("runner_tests"),
     tests("session_tests"),
     program("pl0"),
