@@ -1,10 +1,9 @@
 -- What the machine asks at a mark is the condition of the breakpoint there.
-use Rattle.std.proofs.Common.{◌≡◌, ℕ, zero, suc, ◌-◌, ◌<◌, Bool, true, false, List, [], ◌∷◌, length, slice_get, Option, Some, None, Result, Ok, Err, ℤ, All, refl, sym, ap, ◌∙◌, subst, arith}
-use Rattle.std.specs.Prelude.{IsSome, IfSome}
+use Rattle.std.proofs.Common.{◌≡◌, ℕ, zero, suc, ◌-◌, ◌<◌, true, List, [], ◌∷◌, length, slice_get, Option, Some, None, Ok, ℤ, refl, sym, ap, ◌∙◌, subst, arith}
+use Rattle.std.specs.Prelude.{IsSome, IfSome, option_map}
 use Rattle.std.specs.Result.{result_unwrap_or}
 use Rattle.pl0_tree.specs.Tree.{Block}
 use Rattle.pl0_tree.specs.Steps.{step_path}
-use Rattle.pl0_meaning.specs.declared.RunFault.{RunFault}
 use Rattle.pl0_meaning.specs.Values.{Frame, Configuration, frame_at, number_of, or_zero, after, comparison}
 use Rattle.pl0_meaning.specs.Frames.{AreLinked}
 use Rattle.pl0_meaning.specs.Laws.{FramesAreLinked}
@@ -15,17 +14,17 @@ use Rattle.pl0_machine.specs.declared.mark.Comparison.{Comparison}
 use Rattle.pl0_machine.specs.declared.mark.Question.{Question}
 use Rattle.pl0_machine.specs.declared.mark.Question.TheVariants.{Nothing, Comparison as AComparison, Condition as ACondition}
 use Rattle.pl0_machine.specs.Machine.{Standing, program, configuration, frames, frames_of, depth_of, top_of, variables_of, IsNext, number_up}
-use Rattle.pl0_machine.specs.Stretches.{operand_in, Compares, IsMet, HasOperand, CanAsk}
-use Rattle.dbg_plan.specs.Breakpoints.{plain_breakpoints}
-use Rattle.dbg_plan.specs.Comparisons.{expression_of, condition_of, IsOnlyOne, IsOfOnlyOne}
-use Rattle.dbg_plan.specs.Plans.{Listed, IsPlanOf, IsBoundAt, those_of}
-use Rattle.dbg_plan.specs.Counting.{IsMetHere}
+use Rattle.pl0_machine.specs.Stretches.{operand_in, answer_in, HasOperand, CanAsk}
+use Rattle.dbg_plan.specs.declared.breakpoint.BoundCondition.{BoundCondition}
+use Rattle.dbg_plan.specs.declared.breakpoint.Breakpoint.{Breakpoint}
+use Rattle.dbg_plan.specs.Breakpoints.{text_condition, plain_breakpoint}
+use Rattle.dbg_plan.specs.Comparisons.{expression_of, condition_of, Asks}
+use Rattle.dbg_plan.specs.Plans.{IsBoundAt}
+use Rattle.dbg_plan.specs.Counting.{holds_in, holds_now, IsMetHere}
 use Rattle.pl0_machine.specs.LocatedValues.{bound_value, bound_truth, CanRead, CanTest}
-use Rattle.dbg_plan.specs.Running.{has_arrival}
-use Rattle.dbg_plan.proofs.Here.{are_met}
-use Rattle.dbg_plan.proofs.Unwatched.{none_by_one}
+use Rattle.dbg_plan.specs.Table.{AsksFor}
 use Rattle.dbg_plan.proofs.ValuesLinks.{leads_to_main}
-use Rattle.dbg_plan.proofs.ValuesMet.{IsTested, stands_in, tested_here, unmet_told}
+use Rattle.dbg_plan.proofs.ValuesMet.{IsTested, stands_in, tested_here, holds_bound}
 
 -- ---- operands
 
@@ -46,24 +45,18 @@ module _ (c : Configuration) (i depth : ℕ) (is : frame_at c i ≡ top_of c)
   has_operand (Variable k) can = variable_within (top_of c) k (subst (λ f. IsSome (number_of f k)) is can)
   has_operand (Main k) can = variable_within (frame_at c 0) k (subst (λ v. IsSome v) (up k) can)
 
-  operand_value : (o : Operand) (x : ℤ) → operand_in c o ≡ Some x → bound_value c i (expression_of depth o) ≡ Ok x
-  operand_value (Number n) x e = let same : n ≡ x = cc in ap Ok same
-  operand_value (Variable k) x e =
-      ap (λ f. Ok (or_zero (number_of f k))) is ∙ ap (λ number. Ok (or_zero number)) e
-  operand_value (Main k) x e = ap (λ number. Ok (or_zero number)) (up k ∙ e)
+  operand_value : (o : Operand) → bound_value c i (expression_of depth o) ≡ Ok (or_zero (operand_in c o))
+  operand_value (Number n) = refl
+  operand_value (Variable k) = ap (λ f. Ok (or_zero (number_of f k))) is
+  operand_value (Main k) = ap (λ number. Ok (or_zero number)) (up k)
 
-  comparison_truth : (q : Comparison) (holds : Bool) → Compares c q holds
-      → bound_truth c i (condition_of depth q) ≡ Ok holds
-  comparison_truth q holds told =
+  comparison_truth : (q : Comparison) → bound_truth c i (condition_of depth q)
+      ≡ Ok (comparison q.relation (or_zero (operand_in c q.left)) (or_zero (operand_in c q.right)))
+  comparison_truth q =
       ap
       (λ r. after r (λ x. after (bound_value c i (expression_of depth q.right)) (λ y. Ok (comparison q.relation x y))))
-      (operand_value q.left told.0 told.2)
-      ∙ ap (λ r. after r (λ y. Ok (comparison q.relation told.0 y))) (operand_value q.right told.1 told.3)
-      ∙ ap Ok (sym told.4)
-
-is_false : (r : Result Bool RunFault) → result_unwrap_or r true ≡ false → r ≡ Ok false
-is_false (Ok holds) e = ap Ok e
-is_false (Err fault) e = cc
+      (operand_value q.left)
+      ∙ ap (λ r. after r (λ y. Ok (comparison q.relation (or_zero (operand_in c q.left)) y))) (operand_value q.right)
 
 -- ---- the newest frame
 
@@ -88,69 +81,71 @@ linked_at laws m = by_place (configuration m) refl
     by_place None e = tt
     by_place (Some c) e = laws (program m) m.position c e
 
-there_at : (m : Standing) (n : ℕ) → IsNext (program m) (top_of (frames m)) n → configuration m ≡ Some (frames m)
+pub there_at : (m : Standing) (n : ℕ) → IsNext (program m) (top_of (frames m)) n → configuration m ≡ Some (frames m)
 there_at m n next = by_place (configuration m) next
   where
     by_place : (o : Option Configuration) → IsNext (program m) (top_of (frames_of o)) n → o ≡ Some (frames_of o)
     by_place None next = absurd next
     by_place (Some c) next = refl
 
--- ---- the condition of a breakpoint that is alone at its step
+-- ---- the condition of a breakpoint of the machine's step
 
-module _ (laws : FramesAreLinked) (m : Standing) (plan : Listed) (fits : IsPlanOf m.unit plan) (n : ℕ)
-    (next : IsNext (program m) (top_of (frames m)) n) where
-  module _ (q : Question) (only : IsOnlyOne (those_of n plan.breakpoints) q) where
-    here : IsMetHere m only.breakpoint
-    here =
-        let met : All (IsMetHere m) (only.breakpoint ∷ []) =
-        subst (λ bs. All (IsMetHere m) bs) only.one (are_met m n next plan.breakpoints fits.bound) in
-        met 0 only.breakpoint (omega arith)
+module _ (laws : FramesAreLinked) (m : Standing) (b : Breakpoint) (here : IsMetHere m b) where
+  abbrev deep : ℕ
+  deep = length (step_path (program m) b.step)
 
-    abbrev deep : ℕ
-    deep = length (step_path (program m) only.breakpoint.step)
+  newest : frame_at (frames m) (depth_of m - 1) ≡ top_of (frames m)
+  newest = newest_at (program m) (frames m) b.step here.next
 
-    tests : IsTested (program m) (frames m) (depth_of m - 1) only.guard
-    tests =
-        tested_here m only.breakpoint only.guard (depth_of m) here only.guarded ∣ linked_at laws m ∣₁ refl
+  up : (k : ℕ) → number_up (frames m) deep k (depth_of m - 1) ≡ number_of (frame_at (frames m) 0) k
+  up = main_up (program m) (frames m) b.step (linked_at laws m) here.next
 
-    newest : frame_at (frames m) (depth_of m - 1) ≡ top_of (frames m)
-    newest = newest_at (program m) (frames m) n next
+  module _ (guard : BoundCondition) (guarded : b.condition ≡ Some guard) where
+    tests : IsTested (program m) (frames m) (depth_of m - 1) guard
+    tests = tested_here m b guard (depth_of m) here guarded ∣ linked_at laws m ∣₁ refl
 
-    up : (k : ℕ) → number_up (frames m) deep k (depth_of m - 1) ≡ number_of (frame_at (frames m) 0) k
-    up = main_up (program m) (frames m) only.breakpoint.step (linked_at laws m) here.next
-
-    -- the condition of which this is the truth doesn't hold
-    none_there : bound_truth (frames m) (depth_of m - 1) only.guard.located.value ≡ Ok false
-        → has_arrival (plain_breakpoints plan.breakpoints) m ≡ false
-    none_there is =
-        none_by_one m n next plan.breakpoints only.breakpoint only.one
-        (unmet_told m only.breakpoint only.guard (depth_of m - 1) (there_at m n next) only.guarded tests is)
-
-    compared : (c : Comparison) → only.guard.asked ≡ Some c → only.guard.located.value ≡ condition_of deep c
+    compared : (c : Comparison) → guard.asked ≡ Some c → guard.located.value ≡ condition_of deep c
     compared c is =
-        let bound = subst (λ g. IsBoundAt (program m) only.breakpoint.step g) only.guarded here.bound in
-        subst (λ o. IfSome o (λ c. only.guard.located.value ≡ condition_of deep c)) is bound.1
+        let bound = subst (λ g. IsBoundAt (program m) b.step g) guarded here.bound in
+        subst (λ o. IfSome o (λ c. guard.located.value ≡ condition_of deep c)) is bound.1
 
-  pub can_ask : (q : Question) → IsOfOnlyOne (those_of n plan.breakpoints) q → CanAsk (frames m) q
-  can_ask Nothing only = tt
-  can_ask (AComparison c) only =
-      let q = AComparison c in
-      let can = subst (λ k. CanTest (frames m) (depth_of m - 1) k) (compared q only c only.asks) (tests q only).0 in (
-        has_operand (frames m) (depth_of m - 1) (deep q only) (newest q only) (up q only) c.left can.0,
-        has_operand (frames m) (depth_of m - 1) (deep q only) (newest q only) (up q only) c.right can.1,
-      )
-  can_ask (ACondition p) only =
-      subst (λ k. CanTest (frames m) (depth_of m - 1) k) (sym only.asks) (tests (ACondition p) only).0
+    can_test : (q : Question) → Asks guard q → CanAsk (frames m) q
+    can_test Nothing asks = absurd asks
+    can_test (AComparison c) asks =
+        let can = subst (λ k. CanTest (frames m) (depth_of m - 1) k) (compared c asks) tests.0 in (
+          has_operand (frames m) (depth_of m - 1) deep newest up c.left can.0,
+          has_operand (frames m) (depth_of m - 1) deep newest up c.right can.1,
+        )
+    can_test (ACondition p) asks = subst (λ k. CanTest (frames m) (depth_of m - 1) k) (sym asks) tests.0
 
-  pub unmet : (q : Question) → IsOfOnlyOne (those_of n plan.breakpoints) q → IsMet (frames m) true q false
-      → has_arrival (plain_breakpoints plan.breakpoints) m ≡ false
-  unmet Nothing only met = let other : false ≡ true = met in cc
-  unmet (AComparison c) only met =
-      let q = AComparison c in
-      none_there q only
-      (ap (λ k. bound_truth (frames m) (depth_of m - 1) k) (compared q only c only.asks)
-      ∙ comparison_truth (frames m) (depth_of m - 1) (deep q only) (newest q only) (up q only) c false met)
-  unmet (ACondition p) only met =
-      none_there (ACondition p) only
-      (ap (λ k. bound_truth (frames m) (depth_of m - 1) k) (sym only.asks)
-      ∙ is_false (bound_truth (frames m) (depth_of m - 1) p.value) (sym met))
+    truth_asked : (q : Question) → Asks guard q
+        → answer_in (frames m) q ≡ result_unwrap_or (bound_truth (frames m) (depth_of m - 1) guard.located.value) true
+    truth_asked Nothing asks = absurd asks
+    truth_asked (AComparison c) asks =
+        sym (ap (λ k. result_unwrap_or (bound_truth (frames m) (depth_of m - 1) k) true) (compared c asks)
+        ∙ ap (λ r. result_unwrap_or r true) (comparison_truth (frames m) (depth_of m - 1) deep newest up c))
+    truth_asked (ACondition p) asks =
+        ap (λ k. result_unwrap_or (bound_truth (frames m) (depth_of m - 1) k) true) asks
+
+  -- what the machine is asked for the breakpoint can be asked, and is answered by whether its condition holds
+  pub can_ask : (q : Question) → AsksFor b.condition q → CanAsk (frames m) q
+  can_ask q asks = by_condition b.condition refl asks
+    where
+      by_condition : (o : Option BoundCondition) → b.condition ≡ o → AsksFor o q → CanAsk (frames m) q
+      by_condition None is asks = subst (λ x. CanAsk (frames m) x) (sym asks) tt
+      by_condition (Some guard) is asks = can_test guard is q asks
+
+  pub answer_is : (q : Question) → AsksFor b.condition q → answer_in (frames m) q ≡ holds_now m b
+  answer_is q asks = by_condition b.condition refl asks
+    where
+      there : configuration m ≡ Some (frames m)
+      there = there_at m b.step here.next
+
+      by_condition : (o : Option BoundCondition) → b.condition ≡ o → AsksFor o q
+          → answer_in (frames m) q ≡ holds_now m b
+      by_condition None is asks =
+          ap (λ x. answer_in (frames m) x) asks
+          ∙ ap (λ g. holds_in (program m) (Some (frames m)) (option_map text_condition g)) (sym is)
+          ∙ ap (λ o. holds_in (program m) o (plain_breakpoint b).condition) (sym there)
+      by_condition (Some guard) is asks =
+          truth_asked guard is q asks ∙ holds_bound m b guard (depth_of m - 1) there is (tests guard is)

@@ -1,16 +1,16 @@
 -- The walk along the breakpoints of a step finds those that are met; for `count_arrivals`.
 pub mod Walk
--- What the counts are after a walk along the breakpoints of a step; for the functions of `counting`, `debuggee` and
--- `running`.
+-- What the counts are after a walk along the breakpoints of a step; for the functions of `counting` and
+-- `debuggee`.
 pub mod Tally
 -- A breakpoint that is met stops the program if it has no message, and logs if it has one; for the functions of
--- `counting`, `debuggee` and `running`.
+-- `counting` and `debuggee`.
 pub mod Doings
--- The step at which the program stands is found by its place; for the functions of `counting`, `debuggee` and
--- `running`.
+-- The step at which the program stands is found by its place; for the functions of `counting` and
+-- `debuggee`.
 pub mod Places
 -- What considering one more position does to the counts, and whether that position is due; for the functions of
--- `counting`, `debuggee` and `running`.
+-- `counting` and `debuggee`.
 pub mod Here
 -- The counts of a debuggee with a new plan, or with none, are right; for `Debuggee::new`, `Debuggee::recount`,
 -- `Debuggee::set_plan` and others.
@@ -30,9 +30,9 @@ pub mod SameTexts
 pub mod HitNumbers
 -- A list of breakpoints in the order of their steps is cut into a part for each step; for `starts_of` and others.
 pub mod Parts
--- A table of the comparisons that stand alone at their steps is also one of other breakpoints that are the same there,
--- and is read by a step; for `Plan::new`, `Plan::marks` and `run_quietly`.
-pub mod OnlyOnes
+-- The machine's counters count as the breakpoints do of which they are; for `Plan::new`, `Plan::marks` and
+-- `Debuggee::run_quietly`.
+pub mod Counters
 -- Lines that are answered one after another give the whole resolution; for `resolve_at`, `resolve_line` and `resolve`.
 pub mod Lines
 -- A mark is set exactly at the addresses where steps with breakpoints begin; for the functions of `counting`,
@@ -67,12 +67,14 @@ pub mod ValuesMet
 pub mod BoundHomes
 -- A name that was looked up for a frame's block has its number in that frame; for `name_value`.
 pub mod ValuesNamed
--- Where there is no arrival, none is counted and nothing is due or logged; for `has_arrival` and
--- others.
+-- Where no breakpoint is met, nothing is due or logged; for `Debuggee::run_quietly` and `dbg_runner`.
 pub mod Unwatched
--- What the machine asks at a mark is the condition of the breakpoint there; for `run_quietly`.
+-- What the machine asks at a mark is the condition of a breakpoint there; for `Debuggee::run_quietly`.
 pub mod Asked
--- Steps that write nothing and lead to no breakpoint, turn by turn; for `run_quietly`.
+-- Where the machine counts, it counts as the plan does, and an arrival is due where a breakpoint is met; for
+-- `Debuggee::run_quietly`.
+pub mod Counted
+-- A quiet step goes on and leads to where no breakpoint is met; for `Debuggee::run_quietly`.
 pub mod Quiet
 -- The counts of a debuggee are right after quiet steps of its machine, and perhaps one more; for
 -- `Debuggee::run_quietly` and `Debuggee::run`.

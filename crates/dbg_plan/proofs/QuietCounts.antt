@@ -1,24 +1,29 @@
 -- A debuggee whose machine took quiet steps, and perhaps one more.
-use Rattle.std.proofs.Common.{◌≡◌, ℕ, zero, suc, ◌+◌, ◌<◌, ◌≤◌, true, false, List, [], ◌∷◌, ◌++◌, Option, Some, None, ℤ, refl, sym, ap, ◌∙◌, subst, arith, append-nil}
+use Rattle.std.proofs.Common.{◌≡◌, ℕ, zero, suc, ◌+◌, ◌<◌, ◌≤◌, Bool, true, false, ⊎_elim, List, [], ◌∷◌, ◌++◌, Option, Some, None, ℤ, refl, sym, ap, ◌∙◌, subst, arith, append-nil}
 use Rattle.pl0_unit.specs.declared.unit.Unit.{Unit as Compiled}
 use Rattle.pl0_meaning.specs.declared.RunFault.{RunFault}
+use Rattle.pl0_meaning.specs.Laws.{FramesAreLinked}
 use Rattle.pl0_meaning.specs.Runs.{Outcome, Goes, Faults, Stuck, written_by}
 use Rattle.pl0_machine.specs.declared.outcome.StepOutcome.{StepOutcome}
 use Rattle.pl0_machine.specs.declared.outcome.StepOutcome.TheVariants.{Went, Done, Fault}
-use Rattle.pl0_machine.specs.Machine.{Standing, outcome_of, depth_of, Stepped}
+use Rattle.pl0_machine.specs.declared.mark.Marks.{Marks}
+use Rattle.pl0_machine.specs.Machine.{Standing, program, outcome_of, depth_of, Stepped}
 use Rattle.dbg_plan.specs.declared.debuggee.Debuggee.TheInside.{Inside}
 use Rattle.dbg_plan.specs.declared.debuggee.Advance.TheVariants as advance
-use Rattle.dbg_plan.specs.Plans.{breakpoints_of}
+use Rattle.dbg_plan.specs.Breakpoints.{Breakpoint}
+use Rattle.dbg_plan.specs.Counting.{AreCounts}
+use Rattle.dbg_plan.specs.Plans.{listed_of, breakpoints_of}
 use Rattle.dbg_plan.specs.Counts.{IsCounting, debugged_of, plan_of, next_at, next_of}
 use Rattle.dbg_plan.specs.Kept.{trail_of}
 use Rattle.dbg_plan.specs.declared.mode.Mode.{Mode}
 use Rattle.dbg_plan.specs.Debugged.{Debugged, machine_of, IsNext, IsRunning}
-use Rattle.pl0_machine.specs.Stretches.{ahead}
+use Rattle.pl0_machine.specs.Stretches.{ahead, AreCounted, IsUnseen, Stretches, EndsRun, RanOn}
 use Rattle.dbg_plan.specs.Advances.{considered_at}
-use Rattle.dbg_plan.specs.Running.{IsQuiet, RanFrom}
-use Rattle.dbg_plan.specs.Quiet.{Ends, EndsAt, RanByMachine, RanTo, considered_after}
-use Rattle.dbg_plan.proofs.Unwatched.{uncounted}
+use Rattle.dbg_plan.specs.Running.{has_hit, IsQuiet, RanFrom}
+use Rattle.dbg_plan.specs.Quiet.{Watches, EndsAt, RanTo, considered_after}
+use Rattle.dbg_plan.proofs.Counted.{same_length, hit_is, counted_on}
 use Rattle.dbg_plan.proofs.Further.{was_considered, stays_counting}
+use Rattle.dbg_plan.proofs.Quiet.{is_told}
 use Rattle.dbg_plan.proofs.Stepping.{same_unit, went_on, stays_there, goes_on, after_fault, not_fault}
 
 went_goes : (written : Option ℤ) (fault : RunFault) → Went written ≡ Fault fault → ⊥
@@ -27,122 +32,213 @@ went_goes written fault e = cc
 done_goes : (fault : RunFault) → Done ≡ Fault fault → ⊥
 done_goes fault e = cc
 
-module _ (d : Inside) (was : IsCounting d) (behind : next_of d ≡ d.machine.position + 1) (limit outer : ℕ)
-    (outcome : Option StepOutcome) (new : Standing) (ran : RanByMachine limit outer (plan_of d) d.machine outcome new)
-  where
-    some_alive : (m : Standing) → outer < depth_of m → IsRunning m
-    some_alive m more = omega (arith, more)
+module _ (laws : FramesAreLinked) (d : Inside) (was : IsCounting d) (behind : next_of d ≡ d.machine.position + 1)
+    (limit outer : ℕ) (marks : Option Marks) (watches : Watches (plan_of d) marks) where
+  abbrev breakpoints : List Breakpoint
+  breakpoints = breakpoints_of (plan_of d)
 
-    abbrev at : ℕ → Inside
-    at k = record d { machine = ahead d.machine k }
+  some_alive : (m : Standing) → outer < depth_of m → IsRunning m
+  some_alive m more = omega (arith, more)
 
-    considered : d.considered ≡ true
-    considered = was_considered d.machine.position d.considered behind
+  considered : d.considered ≡ true
+  considered = was_considered d.machine.position d.considered behind
 
-    behind_at : (k : ℕ) → next_of (at k) ≡ (at k).machine.position + 1
-    behind_at k = ap (λ b. next_at (d.machine.position + k) b) considered
+  -- the debuggee with another machine and other counts
+  abbrev with_machine : Standing → List ℕ → Inside
+  with_machine m counts = record d { machine = m; counts = counts }
 
-    counts_on : (k : ℕ) → IsCounting (at k) → IsQuiet outer (breakpoints_of (plan_of d)) (ahead d.machine k)
-        → IsCounting (record d { machine = ahead (ahead d.machine k) 1 })
-    counts_on k now q =
-        let next = ahead (ahead d.machine k) 1 in
-        stays_counting (at k) now (behind_at k) next refl (some_alive next q.running) d.counts false []
-        (λ first le are. uncounted next first le (plan_of d) d.counts q.unmet are) was.room
+  behind_at : (m : Standing) (counts : List ℕ) → next_of (with_machine m counts) ≡ m.position + 1
+  behind_at m counts = ap (λ b. next_at m.position b) considered
 
-    counting_at : (k : ℕ) → k ≤ ran.steps → IsCounting (at k)
+  -- it counts up to where the machine stands
+  module _ (m : Standing) (same : m.unit ≡ d.machine.unit) (counts : List ℕ)
+      (now : IsCounting (with_machine m counts)) where
+    abbrev next : Standing
+    next = ahead m 1
+
+    begun : d.counted_from ≤ next.position
+    begun = let le = now.begun in let e = behind_at m counts in omega (arith, le, e)
+
+    counts_now : AreCounts (program next) (listed_of (plan_of d)) d.counted_from next.position counts
+    counts_now =
+        subst (λ n. AreCounts (program next) (listed_of (plan_of d)) d.counted_from n counts) (behind_at m counts)
+        now.counts
+
+    hit_at : (due : Bool) (new : List ℕ) → AreCounted marks next counts due new
+        → has_hit breakpoints d.counted_from next ≡ due
+    hit_at due new counted =
+        hit_is laws (plan_of d) counts now.room next now.fits marks watches due new counted d.counted_from begun
+        counts_now
+
+    is_quiet : (new : List ℕ) → IsUnseen outer marks m counts new → IsQuiet outer breakpoints d.counted_from m
+    is_quiet new u = record { silent = u.silent; running = u.running; unmet = hit_at false new u.undue }
+
+    counts_on : (new : List ℕ) → IsUnseen outer marks m counts new → IsCounting (with_machine next new)
+    counts_on new u =
+        let on = counted_on laws (plan_of d) counts now.room next now.fits marks watches new u.undue in
+        stays_counting (with_machine m counts) now (behind_at m counts) next refl (some_alive next u.running) new on.hit
+        on.logs on.on (same_length marks next counts false new u.undue ∙ now.room)
+
+  module _ (last : Standing) (after : List ℕ) (s : Stretches outer marks d.machine last d.counts after) where
+    counting_at : (k : ℕ) → k ≤ s.steps → IsCounting (with_machine (ahead d.machine k) (s.left k))
     counting_at zero le =
         let e : d.machine.position ≡ d.machine.position + 0 = omega arith in
-        subst (λ (p : ℕ). IsCounting (record d { machine = record d.machine { position = p } })) e was
+        subst (λ counts. IsCounting (with_machine (ahead d.machine 0) counts)) (sym s.begun)
+        (subst (λ (p : ℕ). IsCounting (with_machine (record d.machine { position = p }) d.counts)) e was)
     counting_at (suc k) le =
+        let more : k + 1 ≡ suc k = omega arith in
         let e : d.machine.position + k + 1 ≡ d.machine.position + suc k = omega arith in
-        subst (λ (p : ℕ). IsCounting (record d { machine = record d.machine { position = p } })) e
-        (counts_on k (counting_at k (omega (arith, le))) (ran.quiet k (omega (arith, le))))
+        subst (λ (p : ℕ). IsCounting (with_machine (record d.machine { position = p }) (s.left (suc k)))) e
+        (subst (λ j. IsCounting (with_machine (ahead (ahead d.machine k) 1) (s.left j))) more
+        (counts_on (ahead d.machine k) refl (s.left k) (counting_at k (omega (arith, le))) (s.left (k + 1))
+        (s.passed k (omega (arith, le)))))
 
-    stands : IsCounting (at ran.steps)
-    stands = counting_at ran.steps (omega arith)
+    quiet_at : (k : ℕ) → k < s.steps → IsQuiet outer breakpoints d.counted_from (ahead d.machine k)
+    quiet_at k lt =
+        is_quiet (ahead d.machine k) refl (s.left k) (counting_at k (omega (arith, lt))) (s.left (k + 1))
+        (s.passed k lt)
 
-    pub counting_after : IsCounting (record d { machine = new; considered = considered_after outcome })
-    counting_after = by_outcome outcome ran.ends
+    stands : IsCounting (with_machine last after)
+    stands =
+        subst (λ m. IsCounting (with_machine m after)) (sym s.led)
+        (subst (λ counts. IsCounting (with_machine (ahead d.machine s.steps) counts)) s.ended
+        (counting_at s.steps (omega arith)))
+
+    same_there : last.unit ≡ d.machine.unit
+    same_there = ap (λ (m : Standing). m.unit) s.led
+
+    place : last.position ≡ d.machine.position + s.steps
+    place = ap (λ (m : Standing). m.position) s.led
+
+    -- the step after them isn't quiet, where a run ends
+    not_quiet : (outcome : StepOutcome) (new : Standing) → Stepped (outcome_of last) last outcome new
+        → (outcome ≡ Went None → EndsRun outer marks new after) → ¬ IsQuiet outer breakpoints d.counted_from last
+    not_quiet outcome new stepped ends quiet =
+        let told = is_told outer breakpoints d.counted_from last new outcome stepped quiet in
+        let went = went_on last new outcome stepped None told.0 in
+        ⊎_elim (λ few. let more = told.1 in absurd (omega (arith, few, more)))
+        (λ counted.
+        let met : has_hit breakpoints d.counted_from (ahead last 1) ≡ true =
+        hit_at last same_there after stands true after (subst (λ m. AreCounted marks m after true after) went.0 counted)
+        in
+        let unmet : has_hit breakpoints d.counted_from (ahead last 1) ≡ false =
+        subst (λ m. has_hit breakpoints d.counted_from m ≡ false) went.0 told.2 in
+        differ (has_hit breakpoints d.counted_from (ahead last 1)) met unmet) (ends told.0)
       where
-        by_outcome : (o : Option StepOutcome) → Ends limit outer (breakpoints_of (plan_of d)) (ahead d.machine
-            ran.steps) o new
-            → IsCounting (record d { machine = new; considered = considered_after o })
-        by_outcome None ends =
-            subst (λ m. IsCounting (record d { machine = m; considered = true })) (sym ends.0)
-            (subst (λ b. IsCounting (record (at ran.steps) { considered = b })) considered stands)
-        by_outcome (Some (Went written)) ends =
-            not_fault (at ran.steps) stands new (Went written) ends.2 (behind_at ran.steps) (went_goes written)
-        by_outcome (Some Done) ends = not_fault (at ran.steps) stands new Done ends.2 (behind_at ran.steps) done_goes
-        by_outcome (Some (Fault fault)) ends =
-            after_fault (at ran.steps) stands new (Fault fault) ends.2 (behind_at ran.steps) fault refl (some_alive
-            (ahead d.machine ran.steps) ran.running)
+        differ : (b : Bool) → b ≡ true → b ≡ false → ⊥
+        differ b met unmet = cc
 
-    abbrev after : Option StepOutcome → Debugged
-    after o = debugged_of (record d { machine = new; considered = considered_after o })
+  -- how the steps end at a machine, from which one more leads to another
+  abbrev EndsThere : StepOutcome → Standing → Standing → Type 0
+  EndsThere outcome new m =
+      (m.position < limit) × (¬ IsQuiet outer breakpoints d.counted_from m) × Stepped (outcome_of m) m outcome new
 
-    abbrev seen : Compiled → ℕ → Debugged
-    seen u n =
+  abbrev seen : Standing → Compiled → ℕ → Debugged
+  seen new u n =
+      record {
+        unit = u;
+        position = new.position;
+        breakpoints = breakpoints;
+        counted_from = d.counted_from;
+        next = n;
+        trail = trail_of d.trail;
+      }
+
+  with_unit : (new : Standing) (u : Compiled) (n m : ℕ) → new.unit ≡ u → n ≡ m → seen new new.unit n ≡ seen new u m
+  with_unit new u n m is same = ap (λ (v : Compiled). seen new v n) is ∙ ap (λ (k : ℕ). seen new u k) same
+
+  abbrev left_by : Standing → List ℕ → Option StepOutcome → Inside
+  left_by new after outcome =
+      record d { machine = new; counts = after; considered = considered_after outcome }
+
+  module _ (new : Standing) (after : List ℕ) where
+    pub counting_after : (outcome : Option StepOutcome) → RanOn limit outer marks d.machine outcome new d.counts after
+        → IsCounting (left_by new after outcome)
+    counting_after None ran =
+        subst (λ b. IsCounting (record (with_machine new after) { considered = b })) considered
+        (stands new after ran.0)
+    counting_after (Some (Went written)) ran =
+        not_fault (with_machine ran.0 after) (stands ran.0 after ran.1) new (Went written) ran.3
+        (behind_at ran.0 after) (went_goes written)
+    counting_after (Some Done) ran =
+        not_fault (with_machine ran.0 after) (stands ran.0 after ran.1) new Done ran.3 (behind_at ran.0 after)
+        done_goes
+    counting_after (Some (Fault fault)) ran =
+        after_fault (with_machine ran.0 after) (stands ran.0 after ran.1) new (Fault fault) ran.3
+        (behind_at ran.0 after) fault refl (some_alive ran.0 ran.1.running)
+
+    -- quiet steps, and where they end
+    quietly : (outcome : Option StepOutcome) (last : Standing) (s : Stretches outer marks d.machine last d.counts after)
+        → last.position ≤ limit
+        → EndsAt limit outer (considered_at (debugged_of d) ((debugged_of d).position + s.steps)) outcome
+        (debugged_of (left_by new after outcome))
+        → RanTo limit outer (debugged_of d) outcome (debugged_of (left_by new after outcome))
+    quietly outcome last s within ends =
+        let there = place last after s in
         record {
-          unit = u;
-          position = new.position;
-          breakpoints = breakpoints_of (plan_of d);
-          counted_from = d.counted_from;
-          next = n;
-          trail = trail_of d.trail;
+          steps = s.steps;
+          quiet = quiet_at last after s;
+          running = subst (λ m. outer < depth_of m) s.led s.running;
+          within = omega (arith, there, within);
+          ends = ends;
         }
 
-    with_unit : (u : Compiled) (n m : ℕ) → new.unit ≡ u → n ≡ m → seen new.unit n ≡ seen u m
-    with_unit u n m is same = ap (λ (v : Compiled). seen v n) is ∙ ap (λ (k : ℕ). seen u k) same
+    ends_there : (outcome : StepOutcome) (ran : RanOn limit outer marks d.machine (Some outcome) new d.counts after)
+        → EndsThere outcome new (ahead d.machine ran.1.steps)
+    ends_there outcome ran =
+        subst (λ m. EndsThere outcome new m) ran.1.led
+        (ran.2, not_quiet ran.0 after ran.1 outcome new ran.3 ran.4, ran.3)
 
-    pub ran_to : RanTo limit outer (debugged_of d) outcome (after outcome)
-    ran_to = record {
-      steps = ran.steps;
-      quiet = ran.quiet;
-      running = ran.running;
-      within = ran.within;
-      ends = by_outcome
-          outcome ran.ends;
-    }
-      where
-        by_outcome : (o : Option StepOutcome) → Ends limit outer (breakpoints_of (plan_of d)) (ahead d.machine
-            ran.steps) o new
-            → EndsAt limit outer (considered_at (debugged_of d) ((debugged_of d).position + ran.steps)) o (after o)
-        by_outcome None ends = (ap (λ m. debugged_of (record d { machine = m; considered = true })) ends.0, ends.1)
-        by_outcome (Some (Went written)) ends = (
+    pub ran_to : (outcome : Option StepOutcome) → RanOn limit outer marks d.machine outcome new d.counts after
+        → RanTo limit outer (debugged_of d) outcome (debugged_of (left_by new after outcome))
+    ran_to None ran =
+        let reached = ran.1 in
+        let there = place new after ran.0 in
+        quietly None new ran.0 (omega (arith, reached)) (
+          ap (λ m. debugged_of (record d { machine = m; considered = true })) ran.0.led,
+          omega (arith, reached, there),
+        )
+    ran_to (Some (Went written)) ran =
+        let below = ran.2 in
+        let ends = ends_there (Went written) ran in
+        let last = ahead d.machine ran.1.steps in
+        quietly (Some (Went written)) ran.0 ran.1 (omega (arith, below)) (
           ends.0,
           ends.1,
           ends.2,
-          with_unit d.machine.unit _ _
-              (same_unit (ahead d.machine ran.steps) new (Went written) ends.2)
-              (goes_on (ahead d.machine ran.steps) new (Went written) ends.2 (went_goes written)),
+          with_unit new d.machine.unit _ _ (same_unit last new (Went written) ends.2)
+              (goes_on last new (Went written) ends.2 (went_goes written)),
         )
-        by_outcome (Some Done) ends = (
+    ran_to (Some Done) ran =
+        let below = ran.2 in
+        let ends = ends_there Done ran in
+        let last = ahead d.machine ran.1.steps in
+        quietly (Some Done) ran.0 ran.1 (omega (arith, below)) (
           ends.0,
           ends.1,
           ends.2,
-          with_unit d.machine.unit _ _ (same_unit (ahead d.machine ran.steps) new Done ends.2)
-              (goes_on (ahead d.machine ran.steps) new Done ends.2 done_goes),
+          with_unit new d.machine.unit _ _ (same_unit last new Done ends.2) (goes_on last new Done ends.2 done_goes),
         )
-        by_outcome (Some (Fault fault)) ends =
-            let same = stays_there (ahead d.machine ran.steps) new (Fault fault) ends.2 fault refl in (
-              ends.0,
-              ends.1,
-              ends.2,
-              with_unit d.machine.unit _ _
-                  (same_unit (ahead d.machine ran.steps) new (Fault fault) ends.2)
-                  (ap (λ (m : Standing). m.position + 1) same),
-            )
+    ran_to (Some (Fault fault)) ran =
+        let below = ran.2 in
+        let ends = ends_there (Fault fault) ran in
+        let last = ahead d.machine ran.1.steps in
+        let same = stays_there last new (Fault fault) ends.2 fault refl in
+        quietly (Some (Fault fault)) ran.0 ran.1 (omega (arith, below)) (
+          ends.0,
+          ends.1,
+          ends.2,
+          with_unit new d.machine.unit _ _ (same_unit last new (Fault fault) ends.2)
+              (ap (λ (m : Standing). m.position + 1) same),
+        )
 
     -- where the last step went on, its position is the next to be considered
-    pub is_next : (written : Option ℤ) → outcome ≡ Some (Went written) → IsNext (after outcome)
-    is_next written is =
-        let ends = subst (λ o. Ends limit outer (breakpoints_of (plan_of d)) (ahead d.machine ran.steps) o new) is
-        ran.ends in
-        subst (λ o. IsNext (after o)) (sym is)
-        (record {
-          here = refl;
-          running = (went_on (ahead d.machine ran.steps) new (Went written) ends.2 written refl).1;
-        })
+    pub is_next : (outcome : Option StepOutcome) → RanOn limit outer marks d.machine outcome new d.counts after
+        → (written : Option ℤ) → outcome ≡ Some (Went written) → IsNext (debugged_of (left_by new after outcome))
+    is_next outcome ran written is =
+        let went = subst (λ o. RanOn limit outer marks d.machine o new d.counts after) is ran in
+        subst (λ o. IsNext (debugged_of (left_by new after o))) (sym is)
+        (record { here = refl; running = (went_on went.0 new (Went written) went.3 written refl).1 })
 
 -- ---- a run whose last step faults
 

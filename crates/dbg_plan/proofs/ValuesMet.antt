@@ -1,5 +1,5 @@
 -- A condition of the machine's next step, in the newest frame.
-use Rattle.std.proofs.Common.{◌≡◌, ℕ, zero, suc, ◌-◌, ◌<◌, Bool, true, false, List, [], ◌∷◌, ◌++◌, length, slice_get, Option, Some, None, Result, Ok, Err, refl, sym, ap, ◌∙◌, subst, arith}
+use Rattle.std.proofs.Common.{◌≡◌, ℕ, zero, suc, ◌-◌, ◌<◌, Bool, true, List, [], ◌∷◌, ◌++◌, length, slice_get, Option, Some, None, Result, Ok, Err, refl, sym, ap, ◌∙◌, subst, arith}
 use Rattle.std.specs.Prelude.{option_map}
 use Rattle.std.specs.Option.{option_map_or}
 use Rattle.std.specs.Result.{result_unwrap_or}
@@ -135,11 +135,19 @@ holds_told m b guard top r result there is t value e =
     ∙ ap (λ g. holds_in (program m) (Some (frames m)) (option_map text_condition g)) (sym is)
     ∙ ap (λ o. holds_in (program m) o (plain_breakpoint b).condition) (sym there)
 
--- a condition that doesn't hold
-pub unmet_told : (m : Standing) (b : Breakpoint) (guard : BoundCondition) (top : ℕ) → configuration m ≡ Some (frames m)
+unless_fault : (r : Result Bool RunFault) → result_unwrap_or r true ≡ true_or_faulty r
+unless_fault (Ok b) = refl
+unless_fault (Err fault) = refl
+
+-- the truth of a bound condition is whether it holds
+pub holds_bound : (m : Standing) (b : Breakpoint) (guard : BoundCondition) (top : ℕ) → configuration m ≡ Some (frames m)
     → b.condition ≡ Some guard → IsTested (program m) (frames m) top guard
-    → bound_truth (frames m) top guard.located.value ≡ Ok false → holds_now m b ≡ false
-unmet_told m b guard top there is t fails = sym (holds_told m b guard top (Ok false) false there is t fails refl)
+    → result_unwrap_or (bound_truth (frames m) top guard.located.value) true ≡ holds_now m b
+holds_bound m b guard top there is t =
+    unless_fault (bound_truth (frames m) top guard.located.value)
+    ∙ ap true_or_faulty t.1
+    ∙ ap (λ g. holds_in (program m) (Some (frames m)) (option_map text_condition g)) (sym is)
+    ∙ ap (λ o. holds_in (program m) o (plain_breakpoint b).condition) (sym there)
 
 -- a breakpoint's condition can be tested in the newest frame
 pub tested_here : (m : Standing) (b : Breakpoint) (guard : BoundCondition) (depth : ℕ) → IsMetHere m b

@@ -1,7 +1,6 @@
 -- What the machine is asked in its loop for a condition.
-use Rattle.std.specs.Prelude.{◌≡◌, ℕ, List, [], ◌∷◌, Some}
+use Rattle.std.specs.Prelude.{◌≡◌, ℕ, Some}
 use Rattle.dbg_plan.specs.declared.breakpoint.BoundCondition.{BoundCondition}
-use Rattle.dbg_plan.specs.declared.breakpoint.Breakpoint.{Breakpoint}
 use Rattle.pl0_machine.specs.declared.mark.Comparison.{Comparison}
 use Rattle.pl0_machine.specs.declared.mark.Question.{Question}
 use Rattle.pl0_machine.specs.declared.mark.Question.TheVariants.{Nothing, Comparison as AComparison, Condition as ACondition}
@@ -27,16 +26,3 @@ abbrev pub Asks : BoundCondition → Question → Type 0
 Asks guard Nothing = ⊥
 Asks guard (AComparison c) = guard.asked ≡ Some c
 Asks guard (ACondition p) = p.value ≡ guard.located.value
-
--- there is one breakpoint, and this is what is asked for its condition
-pub record IsOnlyOne (breakpoints : List Breakpoint) (q : Question) : Type 0 where
-  pub breakpoint : Breakpoint
-  pub guard : BoundCondition
-  pub one : breakpoints ≡ breakpoint ∷ []
-  pub guarded : breakpoint.condition ≡ Some guard
-  pub asks : Asks guard q
-
--- nothing is asked, or else the condition of the only one of these breakpoints
-abbrev pub IsOfOnlyOne : List Breakpoint → Question → Type 0
-IsOfOnlyOne breakpoints Nothing = Unit {0}
-IsOfOnlyOne breakpoints q = IsOnlyOne breakpoints q

@@ -1,5 +1,5 @@
 -- How arrivals are counted: of each breakpoint only what its rule needs to know.
-use Rattle.std.specs.Prelude.{◌≡◌, ℕ, ◌+◌, ◌-◌, ◌%◌, min, Bool, true, false, ◌&&◌, nat_eq, nat_lt, is_none, if◌then◌else◌, List, [], ◌∷◌, ◌++◌, option_to_list, slice_index, slice_set, Option, Some, None}
+use Rattle.std.specs.Prelude.{◌≡◌, ℕ, ◌+◌, ◌-◌, ◌%◌, min, Bool, false, ◌&&◌, nat_le, nat_lt, is_none, if◌then◌else◌, List, [], ◌∷◌, ◌++◌, option_to_list, slice_index, slice_set, Option, Some, None}
 use Rattle.pl0_tree.specs.Tree.{Block}
 use Rattle.pl0_meaning.specs.Values.{Configuration}
 use Rattle.pl0_unit.specs.declared.unit.Unit.{Unit as Compiled}
@@ -13,23 +13,23 @@ use Rattle.dbg_plan.specs.Due.{holds, arrivals, stops}
 use Rattle.dbg_plan.specs.Logs.{Log, log_in, logs}
 use Rattle.dbg_plan.specs.Plans.{Listed, IsPlanOf, IsBoundAt, IsMessageBoundAt}
 
+-- how many arrivals are passed before one is due
+abbrev pub passes : Option Rule → ℕ
+passes None = 0
+passes (Some (From k)) = k - 1
+passes (Some (Every k)) = k - 1
+
 -- what is kept of a number of arrivals
 abbrev pub reduced : Option Rule → ℕ → ℕ
 reduced None n = 0
-reduced (Some (From k)) n = min n k
+reduced (Some (From k)) n = min n (k - 1)
 reduced (Some (Every k)) n = n % k
 
 -- what is kept of one more
 abbrev pub increased : Option Rule → ℕ → ℕ
 increased None n = n
-increased (Some (From k)) n = if nat_lt n k then n + 1 else n
+increased (Some (From k)) n = if nat_lt n (k - 1) then n + 1 else n
 increased (Some (Every k)) n = if nat_lt n (k - 1) then n + 1 else 0
-
--- the arrival of which this is kept is due
-abbrev pub is_due : Option Rule → ℕ → Bool
-is_due None n = true
-is_due (Some (From k)) n = nat_eq n k
-is_due (Some (Every k)) n = nat_eq n 0
 
 abbrev pub holds_in : Block → Option Configuration → Option TextCondition → Bool
 holds_in main None condition = false
@@ -59,7 +59,7 @@ counted f (b ∷ bs) counts = counted f bs (counted_at f b counts)
 
 -- it arrives and is due
 abbrev pub due_at : (Breakpoint → Bool) → Breakpoint → List ℕ → Bool
-due_at f b counts = f b && is_due b.rule (increased_at counts b)
+due_at f b counts = f b && nat_le (passes b.rule) (slice_index counts b.number)
 
 -- those of these breakpoints that arrive and are due, in order
 abbrev pub those_due : (Breakpoint → Bool) → List Breakpoint → List ℕ → List Breakpoint

@@ -2,10 +2,10 @@
 use Rattle.std.specs.Prelude.{◌≡◌, ℕ, ◌+◌, ◌<◌, ◌≤◌, ◌++◌, ℤ, Bool, false, List, [], Option, Some, None}
 use Rattle.std.specs.List.{list_any}
 use Rattle.pl0_meaning.specs.Runs.{written_by}
-use Rattle.pl0_machine.specs.Machine.{Standing, program, configuration, outcome_of, depth_of}
+use Rattle.pl0_machine.specs.Machine.{Standing, program, outcome_of, depth_of}
 use Rattle.pl0_machine.specs.Stretches.{ahead}
 use Rattle.dbg_plan.specs.Breakpoints.{Breakpoint}
-use Rattle.dbg_plan.specs.Due.{arrives_in, reason_of}
+use Rattle.dbg_plan.specs.Due.{is_hit, reason_of}
 use Rattle.dbg_plan.specs.declared.mode.Mode.{Mode}
 use Rattle.dbg_plan.specs.declared.debuggee.Advance.{Advance}
 use Rattle.dbg_plan.specs.Logs.{Log}
@@ -14,28 +14,29 @@ use Rattle.dbg_plan.specs.Advances.{considered_at, Advanced}
 
 -- ---- quiet steps
 
--- the program has arrived at one of these breakpoints, whether that is due there or not
-abbrev pub has_arrival : List Breakpoint → Standing → Bool
-has_arrival breakpoints m = list_any (λ b. arrives_in (program m) b (configuration m)) breakpoints
+-- one of these breakpoints, counted from position t, is met at the machine's position
+abbrev pub has_hit : List Breakpoint → ℕ → Standing → Bool
+has_hit breakpoints t m = list_any (is_hit (program m) t m.position) breakpoints
 
 -- the mode alone makes no position due where more than `outer` frames are alive
 abbrev pub IsUndueAbove : Mode → ℕ → Type 0
 IsUndueAbove mode outer = (depth : ℕ) → outer < depth → reason_of mode depth ≡ None
 
--- The step writes nothing, more than `outer` frames are alive where it leads, and that is no arrival at a breakpoint.
-pub record IsQuiet (outer : ℕ) (breakpoints : List Breakpoint) (m : Standing) : Type 0 where
+-- The step writes nothing, more than `outer` frames are alive where it leads, and no breakpoint is met there, counted
+-- from position t.
+pub record IsQuiet (outer : ℕ) (breakpoints : List Breakpoint) (t : ℕ) (m : Standing) : Type 0 where
   pub silent : written_by (outcome_of m) ≡ []
   pub running : outer < depth_of (ahead m 1)
-  pub unmet : has_arrival breakpoints (ahead m 1) ≡ false
+  pub unmet : has_hit breakpoints t (ahead m 1) ≡ false
 
 -- Quiet steps were taken, up to the position `limit` at most. `Ends` says of their number how the run ended there.
-pub record RanQuietly (limit outer : ℕ) (breakpoints : List Breakpoint) (old : Standing) (Ends : ℕ → Type 0) : Type 0
-  where
-    pub steps : ℕ
-    pub quiet : (k : ℕ) → k < steps → IsQuiet outer breakpoints (ahead old k)
-    pub running : outer < depth_of (ahead old steps)
-    pub within : old.position + steps ≤ limit
-    pub ends : Ends steps
+pub record RanQuietly (limit outer : ℕ) (breakpoints : List Breakpoint) (t : ℕ) (old : Standing) (Ends : ℕ → Type 0)
+    : Type 0 where
+  pub steps : ℕ
+  pub quiet : (k : ℕ) → k < steps → IsQuiet outer breakpoints t (ahead old k)
+  pub running : outer < depth_of (ahead old steps)
+  pub within : old.position + steps ≤ limit
+  pub ends : Ends steps
 
 -- ---- of a debuggee
 
@@ -45,11 +46,11 @@ abbrev pub Closes : ℕ → ℕ → Mode → Debugged → List ℤ → Option Ad
 Closes limit outer mode d before None new after logged =
     (new ≡ d) × (after ≡ before) × (limit ≤ d.position) × (logged ≡ [])
 Closes limit outer mode d before (Some advance) new after logged =
-    (d.position < limit) × (¬ IsQuiet outer d.breakpoints (machine_of d)) × Advanced mode d advance new logged
-    × (after ≡ before ++ written_by (outcome_of (machine_of d)))
+    (d.position < limit) × (¬ IsQuiet outer d.breakpoints d.counted_from (machine_of d))
+    × Advanced mode d advance new logged × (after ≡ before ++ written_by (outcome_of (machine_of d)))
 
 -- Quiet steps were taken, and before the limit one more, as `advance` takes it.
 abbrev pub RanFrom : ℕ → ℕ → Mode → Debugged → List ℤ → Option Advance → Debugged → List ℤ → List Log → Type 0
 RanFrom limit outer mode old before advance new after logged =
-    RanQuietly limit outer old.breakpoints (machine_of old)
+    RanQuietly limit outer old.breakpoints old.counted_from (machine_of old)
     (λ steps. Closes limit outer mode (considered_at old (old.position + steps)) before advance new after logged)

@@ -5,31 +5,52 @@ ghost use Rattle.std.specs.Prelude.{◌≡◌, IfOk, IfSome, length};
 ghost use Rattle.pl0_tree.specs.Steps.{step_path};
 ghost use Rattle.pl0_machine.specs.Machine.{program_of};
 ghost use Rattle.pl0_machine.specs.declared.located.LocatedExpression.TheVariants.{Variable};
-ghost use Rattle.dbg_plan.specs.Comparisons.{expression_of, condition_of, Asks, IsOfOnlyOne};
+ghost use Rattle.dbg_plan.specs.Comparisons.{expression_of, condition_of, Asks};
+ghost use Rattle.dbg_plan.specs.Table.{IsCounterOf, AreCountersOf};
 
 use crate::breakpoint::{BoundCondition, Breakpoint};
-use pl0_machine::{Comparison, LocatedCondition, LocatedExpression, Operand, Question, step_depth};
+use crate::counting::passes_of;
+use pl0_machine::{
+    Comparison, Counter, LocatedCondition, LocatedExpression, Operand, Question, step_depth,
+};
 use pl0_tree::StepNumber;
 use pl0_unit::Unit;
-use std::alloc::AllocError;
+use std::alloc::{AllocError, Global};
 use std::sync::Arc;
 
-/// Returns what is asked for the condition of the only one of these breakpoints; nothing if there isn't just one, or if it
-/// has no condition.
+/// Returns the machine's counters of the arrivals at these breakpoints.
+///
+/// # Errors
+///
+/// Out of memory, or the count of a condition's shares is full.
+pub fn counters_for(alloc: Global, breakpoints: &[Breakpoint]) -> Result<Vec<Counter>, AllocError>
+    ensures { IfOk result (λ counters. AreCountersOf breakpoints.now counters.items) }
+{
+    let mut counters = Vec::with_capacity(alloc, breakpoints.len())?;
+    for breakpoint in breakpoints {
+        let counter = counter_for(breakpoint)?;
+        counters.push(counter)?;
+    }
+    Ok(counters)
+}
+
+/// Returns the machine's counter of the arrivals at a breakpoint.
 ///
 /// # Errors
 ///
 /// The count of the condition's shares is full.
-pub fn only_question(breakpoints: &[Breakpoint]) -> Result<Question, AllocError>
-    ensures { IfOk result (IsOfOnlyOne breakpoints.now) }
+fn counter_for(breakpoint: &Breakpoint) -> Result<Counter, AllocError>
+    ensures { IfOk result (IsCounterOf breakpoint.now) }
 {
-    let [breakpoint] = breakpoints else {
-        return Ok(Question::Nothing);
+    let question = match &breakpoint.condition {
+        None => Question::Nothing,
+        Some(condition) => question_of(condition)?,
     };
-    match &breakpoint.condition {
-        None => Ok(Question::Nothing),
-        Some(condition) => question_of(condition),
-    }
+    Ok(Counter {
+        question,
+        number: breakpoint.number,
+        passes: passes_of(breakpoint.rule),
+    })
 }
 
 /// Returns what is asked for a condition.

@@ -7,7 +7,7 @@ ghost use Rattle.dbg_plan.specs.Plans.{breakpoint_limit, listed_of};
 ghost use Rattle.dbg_plan.specs.declared.mode.Reason.TheVariants as reason;
 ghost use Rattle.dbg_plan.specs.Due.{reason_of, depth_at};
 ghost use Rattle.dbg_plan.specs.Debugged.{IsRunning};
-ghost use Rattle.dbg_plan.specs.Counting.{increased, is_due, holds_now, counted, counted_at, those_due, any_stops, logged, logged_after, due_at, AreCounts, CountsOn, MayBePlanOf, IsMetHere};
+ghost use Rattle.dbg_plan.specs.Counting.{increased, passes, holds_now, counted, counted_at, those_due, any_stops, logged, logged_after, due_at, AreCounts, CountsOn, MayBePlanOf, IsMetHere};
 
 use crate::breakpoint::{Breakpoint, Rule};
 use crate::evaluation::is_met;
@@ -18,31 +18,28 @@ use crate::plan::Plan;
 use pl0_machine::Machine;
 use std::sync::Arc;
 
+/// Returns how many arrivals are passed before one is due.
+pub fn passes_of(rule: Option<Rule>) -> u32
+    ensures { result ≡ passes rule }
+{
+    match rule {
+        None => 0,
+        Some(Rule::From(k)) => k.saturating_sub(1),
+        Some(Rule::Every(k)) => k.saturating_sub(1),
+    }
+}
+
 /// Returns the count after one more arrival. The rule decides how far it counts.
 fn increase(rule: Option<Rule>, count: u32) -> u32
     ensures { result ≡ increased rule count }
 {
+    if count < passes_of(rule) {
+        return count + 1;
+    }
     match rule {
         None => count,
-        Some(Rule::From(k)) => { if count < k { count + 1 } else { count } }
-        Some(Rule::Every(k)) => {
-            if count < k.saturating_sub(1) {
-                count + 1
-            } else {
-                0
-            }
-        }
-    }
-}
-
-/// Whether the arrival after which this is the count is due.
-fn is_accepted(rule: Option<Rule>, count: u32) -> bool
-    ensures { result ≡ is_due rule count }
-{
-    match rule {
-        None => true,
-        Some(Rule::From(k)) => count == k,
-        Some(Rule::Every(_)) => count == 0,
+        Some(Rule::From(_)) => count,
+        Some(Rule::Every(_)) => 0,
     }
 }
 
@@ -58,9 +55,9 @@ fn count_arrival(machine: &Machine, breakpoint: &Breakpoint, counts: &mut [u32])
     if !is_met(machine, breakpoint) {
         return false;
     }
-    let count = increase(breakpoint.rule, counts[breakpoint.number]);
-    counts[breakpoint.number] = count;
-    is_accepted(breakpoint.rule, count)
+    let count = counts[breakpoint.number];
+    counts[breakpoint.number] = increase(breakpoint.rule, count);
+    passes_of(breakpoint.rule) <= count
 }
 
 /// Counts an arrival at a breakpoint and logs its message if it is due, and returns whether the breakpoint stops the

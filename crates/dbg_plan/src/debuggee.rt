@@ -13,10 +13,10 @@ use crate::evaluation::{EvalFault, evaluate};
 use crate::logs::Logs;
 use crate::mode::{Mode, Reason};
 use crate::plan::Plan;
-use crate::running::{run_quietly, stays_considered};
+use crate::running::{marks_of, stays_considered};
 use crate::trail::Trail;
 use pl0_machine::{Machine, StepOutcome};
-use pl0_meaning::RunFault;
+use pl0_meaning::{RunFault, configuration_laws};
 use pl0_tree::Expression;
 use std::alloc::Global;
 use std::marker::Model;
@@ -224,7 +224,7 @@ impl Debuggee {
         }
     }
 
-    /// Takes steps that write nothing, lead to no arrival at a breakpoint and leave more than `outer` frames alive, up to the
+    /// Takes steps that write nothing, lead to no arrival that is due and leave more than `outer` frames alive, up to the
     /// position `limit`, and returns `None` there. Any other step is the last one, and what it did is returned; the position
     /// that it leads to isn't considered.
     #[inline(always)]
@@ -235,13 +235,15 @@ impl Debuggee {
         ensures ran { RanTo limit outer self.old result self.new }
         ensures next { (written : Option ℤ) → result ≡ Some (Went written) → IsNext self.new }
     {
-        let outcome = run_quietly(&mut self.machine, limit, outer, &self.plan);
+        configuration_laws();
+        let marks = marks_of(&self.plan);
+        let outcome = self.machine.run(limit, outer, marks, &mut self.counts);
         self.considered = stays_considered(outcome);
         outcome
     }
 
-    /// Advances up to the position `limit`, while the steps write nothing, lead to no arrival at a breakpoint and leave more
-    /// than `outer` frames alive, and returns `None` there. Any other step is the last one, taken as `advance` takes it, and
+    /// Advances up to the position `limit`, while the steps write nothing, lead to no arrival that is due and leave more than
+    /// `outer` frames alive, and returns `None` there. Any other step is the last one, taken as `advance` takes it, and
     /// where it led is returned. `logs` is empty before, and holds what the last position logs afterwards.
     #[inline(always)]
     pub fn run(

@@ -10,7 +10,7 @@ ghost use Rattle.dbg_plan.specs.Plans.{breakpoints_of};
 use crate::breakpoint::Breakpoint;
 use crate::message::Part;
 use crate::same::same_breakpoints;
-use crate::table::{questions_of, starts_of, watched_of};
+use crate::table::{counters_of, starts_of, watched_of};
 use pl0_machine::Marks;
 use pl0_tree::StepNumber;
 use std::alloc::{AllocError, Global};
@@ -22,8 +22,7 @@ use std::sync::Arc;
 pub struct Plan {
     ordered: Vec<Breakpoint>,
     starts: Vec<usize>,
-    // The addresses at which a step with a breakpoint begins. The condition of a step's breakpoint is asked there, if the
-    // step has just one.
+    // The addresses at which a step with a breakpoint begins, and what the machine counts there.
     marks: Marks,
 }
 
@@ -73,13 +72,13 @@ impl Plan {
         ordered.sort_by_key(|breakpoint| breakpoint.step)?;
         let starts = starts_of(alloc, &ordered, steps)?;
         let watched = watched_of(alloc, lines, &starts)?;
-        let questions = questions_of(alloc, &ordered, &starts, steps)?;
+        let counters = counters_of(alloc, &ordered, &starts, steps)?;
         Ok(Plan {
             ordered,
             starts,
             marks: Marks {
                 marked: watched,
-                asked: questions,
+                counters,
             },
         })
     }

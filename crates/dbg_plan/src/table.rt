@@ -4,11 +4,11 @@ ghost use Rattle.std.specs.Prelude.{◌≡◌, ℕ, ◌+◌, ◌<◌, ◌≤◌,
 ghost use Rattle.std.specs.List.{prefix_len};
 ghost use Rattle.std.specs.List.Sorted.{IsNonDecreasingBy};
 ghost use Rattle.dbg_plan.specs.Plans.{is_of, those_of};
-ghost use Rattle.dbg_plan.specs.Table.{AreOnlyOnes, IsPart, has_part};
+ghost use Rattle.dbg_plan.specs.Table.{AreCounters, IsPart, has_part};
 
 use crate::breakpoint::Breakpoint;
-use crate::comparison::only_question;
-use pl0_machine::Question;
+use crate::comparison::counters_for;
+use pl0_machine::Counter;
 use pl0_tree::StepNumber;
 use std::alloc::{AllocError, Global};
 
@@ -50,28 +50,28 @@ fn end_of(ordered: &[Breakpoint], start: usize, step: StepNumber) -> usize
             .count()
 }
 
-/// Returns for each step what is asked for the condition of its breakpoint, if it has just one. Those of a step stand in
-/// `ordered` from its start up to the next.
+/// Returns for each step the machine's counters of the arrivals at its breakpoints. Those of a step stand in `ordered` from
+/// its start up to the next.
 ///
 /// # Errors
 ///
-/// Out of memory.
-pub fn questions_of(
+/// Out of memory, or the count of a condition's shares is full.
+pub fn counters_of(
     alloc: Global,
     ordered: &[Breakpoint],
     starts: &[usize],
     steps: usize,
-) -> Result<Vec<Question>, AllocError>
+) -> Result<Vec<Vec<Counter>>, AllocError>
     requires long { length starts.now ≡ steps + 1 }
     requires parts { (s : ℕ) → s < steps → IsPart ordered.now starts.now s (those_of s ordered.now) }
-    ensures { IfOk result (λ questions. AreOnlyOnes ordered.now steps questions.items) }
+    ensures { IfOk result (λ counters. AreCounters ordered.now steps counters.items) }
 {
-    let mut questions = Vec::with_capacity(alloc, steps)?;
+    let mut counters = Vec::with_capacity(alloc, steps)?;
     for step in 0..steps {
-        let question = only_question(&ordered[starts[step]..starts[step + 1]])?;
-        questions.push(question)?;
+        let of_step = counters_for(alloc, &ordered[starts[step]..starts[step + 1]])?;
+        counters.push(of_step)?;
     }
-    Ok(questions)
+    Ok(counters)
 }
 
 /// Returns for each address whether the step that begins there has a breakpoint. `lines` says which step that is.

@@ -28,7 +28,7 @@ pub fn go_back(debuggee: &mut Debuggee, outputs: &mut Outputs, to: u64) -> bool
     due.is_some()
 }
 
-/// Goes on to the next arrival at a breakpoint or the next number, at most to the position `limit`, where the program
+/// Goes on to the next arrival that is due or the next number, at most to the position `limit`, where the program
 /// still runs. Returns whether a breakpoint is due there.
 fn hop(debuggee: &mut Debuggee, outputs: &mut Outputs, limit: u64) -> bool
     requires considered { IsConsidered debuggee.old }

@@ -1,12 +1,12 @@
 //! Where a run of many steps ends.
 
-ghost use Rattle.std.specs.Prelude.{◌≡◌, ◌<◌, ◌≤◌, ◌+◌, ℕ, true, None, Some, length, slice_get, slice_index_or, option_map};
+ghost use Rattle.std.specs.Prelude.{◌≡◌, ◌<◌, ◌≤◌, ◌+◌, ℕ, All, true, if◌then◌else◌, Some, length, slice_get, option_map};
 ghost use Rattle.std.specs.Result.{result_unwrap_or};
 ghost use Rattle.pl0_meaning.specs.Values.{comparison};
 ghost use Rattle.pl0_machine.specs.Room.{BeginsStep};
-ghost use Rattle.pl0_machine.specs.Asking.{IsInFrame, AreInFrame, MayBeInFrame, IsAnswer, IsWithin, IsMark, marked_in, number_there};
+ghost use Rattle.pl0_machine.specs.Asking.{IsInFrame, AreInFrame, MayBeInFrame, MayCount, answer_there, IsWithin, IsMark, marked_in, number_there};
+ghost use Rattle.pl0_machine.specs.Counting.{counters_of, is_due, any_due, passed_at, passed, IsCounted};
 ghost use Rattle.pl0_machine.specs.LocatedValues.{truth_by, CanTestBy, numbers_there};
-ghost use Rattle.pl0_machine.specs.declared.mark.Question.TheVariants.{Nothing};
 
 use crate::located::{LocatedCondition, truth_of};
 use pl0_meaning::compare;
@@ -30,22 +30,30 @@ pub struct Comparison {
     pub right: Operand,
 }
 
-/// What is asked at a mark. A condition of another shape than a comparison's holds where it faults.
+/// What has to hold for an arrival. A condition of another shape than a comparison's holds where it faults.
 #[derive(Drop)]
 pub enum Question {
-    /// Nothing: the run ends there.
+    /// Nothing has to.
     Nothing,
     Comparison(Comparison),
     Condition(Arc<LocatedCondition>),
 }
 
-/// The marks of a program: a run ends where a step leads to a marked address, unless what is asked there doesn't hold.
+/// Counts arrivals: what has to hold for one, the number of the count, and how many are passed before one is due.
+#[derive(Drop)]
+pub struct Counter {
+    pub question: Question,
+    pub number: usize,
+    pub passes: u32,
+}
+
+/// The marks of a program: a run ends where a step leads to a marked address at which an arrival is due.
 #[derive(Drop)]
 pub struct Marks {
     /// For each address of the code, whether it is marked.
     pub marked: Vec<bool>,
-    /// For each step, what is asked where it comes next and its address is marked.
-    pub asked: Vec<Question>,
+    /// For each step, the counters of arrivals where it comes next and its address is marked.
+    pub counters: Vec<Vec<Counter>>,
 }
 
 /// Returns the table of the marked addresses, if there is one.
@@ -99,7 +107,7 @@ fn compares(cells: &[i64], base: usize, asked: &Comparison) -> bool
 /// Whether a condition holds where the newest frame begins at `base`, or faults. It isn't inlined, so that a comparison
 /// doesn't wait for registers.
 #[inline(never)]
-fn holds(cells: &[i64], base: usize, top: usize, asked: &LocatedCondition) -> bool
+fn holds_or_faults(cells: &[i64], base: usize, top: usize, asked: &LocatedCondition) -> bool
     requires within { top ≤ length cells.now }
     requires can { CanTestBy (numbers_there cells.now base top) asked.now }
     ensures { result ≡ result_unwrap_or (truth_by (numbers_there cells.now base top) asked.now) true }
@@ -107,29 +115,146 @@ fn holds(cells: &[i64], base: usize, top: usize, asked: &LocatedCondition) -> bo
     truth_of(cells, base, top, asked).unwrap_or(true)
 }
 
-/// Whether a run ends at a marked address, where the newest frame begins at `base`.
+/// Whether what is asked holds where the newest frame begins at `base`.
+#[inline(always)]
+fn holds(cells: &[i64], base: usize, top: usize, question: &Question) -> bool
+    requires within { top ≤ length cells.now }
+    requires fits { MayBeInFrame cells.now base top question.now }
+    ensures { result ≡ answer_there cells.now base top question.now }
+{
+    match question {
+        Question::Nothing => true,
+        Question::Comparison(comparison) => compares(cells, base, comparison),
+        Question::Condition(condition) => holds_or_faults(cells, base, top, condition),
+    }
+}
+
+/// Counts an arrival, if there is one, and returns whether it is due. One that is due isn't counted.
+#[inline(always)]
+fn arrive(counter: &Counter, counts: &mut [u32], cells: &[i64], base: usize, top: usize) -> bool
+    requires within { top ≤ length cells.now }
+    requires fits { MayCount cells.now base top (length counts.old) counter.now }
+    ensures due { result ≡ is_due (answer_there cells.now base top) counts.old counter.now }
+    ensures counts { counts.new ≡ (if result then counts.old
+        else passed_at (answer_there cells.now base top) counter.now counts.old) }
+{
+    if !holds(cells, base, top, &counter.question) {
+        return false;
+    }
+    let count = counts[counter.number];
+    if counter.passes <= count {
+        return true;
+    }
+    counts[counter.number] = count + 1;
+    false
+}
+
+/// Whether there is an arrival that is due.
+fn is_due(counter: &Counter, counts: &[u32], cells: &[i64], base: usize, top: usize) -> bool
+    requires within { top ≤ length cells.now }
+    requires fits { MayCount cells.now base top (length counts.now) counter.now }
+    ensures { result ≡ is_due (answer_there cells.now base top) counts.now counter.now }
+{
+    holds(cells, base, top, &counter.question) && counter.passes <= counts[counter.number]
+}
+
+/// Whether one of these arrivals is due.
+fn any_due(counters: &[Counter], counts: &[u32], cells: &[i64], base: usize, top: usize) -> bool
+    requires within { top ≤ length cells.now }
+    requires fits { All (MayCount cells.now base top (length counts.now)) counters.now }
+    ensures { result ≡ any_due (answer_there cells.now base top) counters.now counts.now }
+{
+    counters
+        .iter()
+        .any(|counter| is_due(counter, counts, cells, base, top))
+}
+
+/// Counts an arrival, if there is one that isn't due.
+fn pass(counter: &Counter, counts: &mut [u32], cells: &[i64], base: usize, top: usize)
+    requires within { top ≤ length cells.now }
+    requires fits { MayCount cells.now base top (length counts.old) counter.now }
+    ensures { counts.new ≡ passed_at (answer_there cells.now base top) counter.now counts.old }
+{
+    let count = counts[counter.number];
+    if holds(cells, base, top, &counter.question) && count < counter.passes {
+        counts[counter.number] = count + 1;
+    }
+}
+
+/// Counts the arrivals that there are and that aren't due.
+fn pass_all(counters: &[Counter], counts: &mut [u32], cells: &[i64], base: usize, top: usize)
+    requires within { top ≤ length cells.now }
+    requires fits { All (MayCount cells.now base top (length counts.old)) counters.now }
+    ensures { counts.new ≡ passed (answer_there cells.now base top) counters.now counts.old }
+{
+    for counter in counters {
+        pass(counter, counts, cells, base, top);
+    }
+}
+
+/// Counts the arrivals that there are, unless one is due, and returns whether one is.
+#[inline(never)]
+fn arrive_at_several(
+    counters: &[Counter],
+    counts: &mut [u32],
+    cells: &[i64],
+    base: usize,
+    top: usize,
+) -> bool
+    requires within { top ≤ length cells.now }
+    requires fits { All (MayCount cells.now base top (length counts.old)) counters.now }
+    ensures { IsCounted (answer_there cells.now base top) counters.now counts.old result counts.new }
+{
+    if any_due(counters, counts, cells, base, top) {
+        return true;
+    }
+    pass_all(counters, counts, cells, base, top);
+    false
+}
+
+/// Does the same as `arrive_at_several`, at once for one counter.
+#[inline(always)]
+fn arrive_at(
+    counters: &[Counter],
+    counts: &mut [u32],
+    cells: &[i64],
+    base: usize,
+    top: usize,
+) -> bool
+    requires within { top ≤ length cells.now }
+    requires fits { All (MayCount cells.now base top (length counts.old)) counters.now }
+    ensures { IsCounted (answer_there cells.now base top) counters.now counts.old result counts.new }
+{
+    if let [counter] = counters {
+        return arrive(counter, counts, cells, base, top);
+    }
+    arrive_at_several(counters, counts, cells, base, top)
+}
+
+/// Counts the arrivals at a marked address, where the newest frame begins at `base`, unless one is due, and returns whether
+/// one is.
 #[inline(always)]
 pub fn is_met(
-    asked: &[Question],
+    counters: &[Vec<Counter>],
     begun_steps: &[Option<StepNumber>],
     at: usize,
+    counts: &mut [u32],
     cells: &[i64],
     base: usize,
     top: usize,
 ) -> bool
     requires begins { BeginsStep (slice_get begun_steps.now at) }
     requires within { top ≤ length cells.now }
-    requires asked { (n : ℕ) → slice_get begun_steps.now at ≡ Some (Some n)
-        → MayBeInFrame cells.now base top (slice_index_or asked.now n Nothing) }
+    requires fits { (n : ℕ) → slice_get begun_steps.now at ≡ Some (Some n)
+        → All (MayCount cells.now base top (length counts.old)) (counters_of counters.now n) }
     ensures { (n : ℕ) → slice_get begun_steps.now at ≡ Some (Some n)
-        → IsAnswer cells.now base top (slice_index_or asked.now n Nothing) result }
+        → IsCounted (answer_there cells.now base top) (counters_of counters.now n) counts.old result counts.new }
 {
     let Some(step) = begun_steps[at] else {
-        return true;
+        return false;
     };
-    match asked.get(step) {
-        Some(Question::Comparison(comparison)) => compares(cells, base, comparison),
-        Some(Question::Condition(condition)) => holds(cells, base, top, condition),
-        _ => true,
+    match counters.get(step) {
+        Some(counters) => arrive_at(counters, counts, cells, base, top),
+        None => false,
     }
 }

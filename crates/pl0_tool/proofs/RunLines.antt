@@ -48,7 +48,8 @@ on_some : (r : Result ℤ RunFault) (f : Frame) (below : Configuration)
 on_some (Err fault) f below = tt
 on_some (Ok v) f below = tt
 
-on_none : {A : Type 0} (r : Result A RunFault) (g : A → Configuration) → WritesFirst (on_value r (λ v. Goes None (g v)))
+on_none : {A : Type 0} (r : Result A RunFault) (g : A → Configuration)
+    → WritesFirst (on_value r (λ v. Goes None (g v)))
 on_none (Err fault) g = tt
 on_none (Ok v) g = tt
 
@@ -165,15 +166,17 @@ ran_after old new told n silent stepped =
       led = more.1 ∙ ahead-ahead old n more.0;
     }
 
-pub ran_stretch : (old mid new : Standing) (told : StepOutcome) → Stretches 0 None old mid
+pub ran_stretch : {counts after : List ℕ} (old mid new : Standing) (told : StepOutcome)
+    → Stretches 0 None old mid counts after
     → Stepped (outcome_of mid) mid told new → Ran old new told
-ran_stretch old mid new told s stepped =
+ran_stretch {counts} {after} old mid new told s stepped =
     ran_after old new told s.steps (λ k lt. (s.passed k lt).silent)
     (subst (λ (m : Standing). Stepped (outcome_of m) m told new) s.led stepped)
 
-pub ran_on : (limit : ℕ) (old new : Standing) (told : StepOutcome) → RanOn limit 0 None old (Some told) new
+pub ran_on : {counts after : List ℕ} (limit : ℕ) (old new : Standing) (told : StepOutcome)
+    → RanOn limit 0 None old (Some told) new counts after
     → Ran old new told
-ran_on limit old new told r = ran_stretch old r.0 new told r.1 r.3
+ran_on {counts} {after} limit old new told r = ran_stretch old r.0 new told r.1 r.3
 
 -- ---- the last step
 
@@ -306,9 +309,10 @@ pub running_on : (now new : Standing) (number : Option ℤ) → Ran now new (Wen
 running_on now new number r = runs_on (ahead now r.before) new number r.last
 
 -- a run that goes on or ends before a limit is no further
-pub before_limit : (limit : ℕ) (old new : Standing) (told : StepOutcome) → RanOn limit 0 None old (Some told) new
+pub before_limit : {counts after : List ℕ} (limit : ℕ) (old new : Standing) (told : StepOutcome)
+    → RanOn limit 0 None old (Some told) new counts after
     → new.position ≤ limit
-before_limit limit old new told r = by_outcome (outcome_of r.0) r.3
+before_limit {counts} {after} limit old new told r = by_outcome (outcome_of r.0) r.3
   where
     by_outcome : (o : Outcome) → Stepped o r.0 told new → new.position ≤ limit
     by_outcome (Goes number c) s =
@@ -320,15 +324,16 @@ before_limit limit old new told r = by_outcome (outcome_of r.0) r.3
 -- ---- slices
 
 -- steps that write nothing leave all as it was
-abbrev StretchesOn : Standing → Standing → Standing → Type 0
-StretchesOn start new m =
-    Stretches 0 None m new → Came start new × (lines_between start new ≡ lines_between start m)
+abbrev StretchesOn : Standing → Standing → List ℕ → List ℕ → Standing → Type 0
+StretchesOn start new counts after m =
+    Stretches 0 None m new counts after → Came start new × (lines_between start new ≡ lines_between start m)
 
-pub stretched_on : (start now new : Standing) → Came start now → Stretches 0 None now new
+pub stretched_on : {counts after : List ℕ} (start now new : Standing) → Came start now
+    → Stretches 0 None now new counts after
     → Came start new × (lines_between start new ≡ lines_between start now)
-stretched_on start now new came s = subst (StretchesOn start new) (sym came.1) at s
+stretched_on {counts} {after} start now new came s = subst (StretchesOn start new counts after) (sym came.1) at s
   where
-    at : StretchesOn start new (ahead start came.0)
+    at : StretchesOn start new counts after (ahead start came.0)
     at s =
         let le : start.position ≤ start.position + came.0 = omega arith in (
           (came.0 + s.steps, s.led ∙ ahead-ahead start came.0 s.steps),
@@ -338,25 +343,27 @@ stretched_on start now new came s = subst (StretchesOn start new) (sym came.1) a
         )
 
 -- what is pending stays so over them
-pub held_still : (start now new : Standing) (before out : Output) (pending : List ℕ) → Came start now
-    → Stretches 0 None now new → Holds before out pending (lines_between start now)
+pub held_still : {counts after : List ℕ} (start now new : Standing) (before out : Output) (pending : List ℕ)
+    → Came start now
+    → Stretches 0 None now new counts after → Holds before out pending (lines_between start now)
     → Holds before out pending (lines_between start new)
-held_still start now new before out pending came s held =
+held_still {counts} {after} start now new before out pending came s held =
     subst (Holds before out pending) (sym (stretched_on start now new came s).1) held
 
 -- a slice of a run is over, and all was written, or the output failed in it
-pub slice_over : (start now new : Standing) (result : Option RunEnd) (before after : Output) → Came start now
-    → Stretches 0 None now new → new.position ≡ start.position + slice_steps
+pub slice_over : {counts left : List ℕ} (start now new : Standing) (result : Option RunEnd)
+    (before after : Output) → Came start now
+    → Stretches 0 None now new counts left → new.position ≡ start.position + slice_steps
     → ((result ≡ None) × WritesAll (lines_between start new) before after)
     ⊎ ((result ≡ Some WriteFailed) × FailsIn (lines_between start new) before after)
     → HasRunSlice result start new before after
-slice_over start now new result before after came s whole (inl (is, wrote)) =
+slice_over {counts} {left} start now new result before after came s whole (inl (is, wrote)) =
     let came_here = (stretched_on start now new came s).0 in
     let there = ap (λ (m : Standing). m.position) came_here.1 in
     let steps : came_here.0 ≡ slice_steps = omega (arith, there, whole) in
     subst (λ r. HasRunSlice r start new before after) (sym is)
     (record { led = came_here.1 ∙ ap (λ k. ahead start k) steps; running = s.running; wrote = wrote })
-slice_over start now new result before after came s whole (inr (is, failed)) =
+slice_over {counts} {left} start now new result before after came s whole (inr (is, failed)) =
     let came_here = (stretched_on start now new came s).0 in
     subst (λ r. HasRunSlice r start new before after) (sym is) (came_here.0, came_here.1, failed)
 

@@ -141,9 +141,10 @@ came_same : (start now : Standing) (q : ℕ) → Came start now → at_position 
 came_same start now q came = ap (λ (m : Standing). at_position m q) came.1
 
 -- a machine that came to a position
-pub came_to : (start now new : Standing) (position : ℕ) → Came start now → RanOn position 0 None now None new
+pub came_to : {counts after : List ℕ} (start now new : Standing) (position : ℕ) → Came start now
+    → RanOn position 0 None now None new counts after
     → (0 < depth_of new) × (new ≡ at_position start position)
-came_to start now new position came ran =
+came_to {counts} {after} start now new position came ran =
     let more : at_position new position ≡ at_position now position =
     ap (λ (m : Standing). at_position m position) ran.0.led in (
       ran.0.running,
@@ -151,10 +152,11 @@ came_to start now new position came ran =
     )
 
 -- after a number the run goes on, and is no further
-pub goes_further : {number : Option ℤ} (start now new : Standing) (position : ℕ) (outcome : StepOutcome)
-    → outcome ≡ Went number → Came start now → RanOn position 0 None now (Some outcome) new
+pub goes_further : {number : Option ℤ} {counts after : List ℕ} (start now new : Standing) (position : ℕ)
+    (outcome : StepOutcome)
+    → outcome ≡ Went number → Came start now → RanOn position 0 None now (Some outcome) new counts after
     → (0 < depth_of new) × (new.position ≤ position) × Came start new
-goes_further {number} start now new position outcome is came ran =
+goes_further {number} {counts} {after} start now new position outcome is came ran =
     let stepped = subst (λ o. Stepped (outcome_of ran.0) ran.0 o new) is ran.3 in
     let led = ap (λ (m : Standing). m.position) (went_on ran.0 new number stepped) in
     let lt = ran.2 in (
@@ -174,15 +176,17 @@ same_place m new fault stepped = by_outcome (outcome_of m) stepped
     by_outcome Stuck s = absurd s
 
 -- the machine is where it came to
-came_there : (start now last : Standing) (position : ℕ) → Came start now → Stretches 0 None now last
+came_there : {counts after : List ℕ} (start now last : Standing) (position : ℕ) → Came start now
+    → Stretches 0 None now last counts after
     → at_position last position ≡ at_position start position
-came_there start now last position came passed =
+came_there {counts} {after} start now last position came passed =
     ap (λ (m : Standing). at_position m position) passed.led ∙ came_same start now position came
 
 -- a run that is done before a position has ended there
-pub ends_before : (start now new : Standing) (position : ℕ) → Came start now → RanOn position 0 None now (Some Done) new
+pub ends_before : {counts after : List ℕ} (start now new : Standing) (position : ℕ) → Came start now
+    → RanOn position 0 None now (Some Done) new counts after
     → StopsBefore EndedBefore start position new
-ends_before start now new position came ran =
+ends_before {counts} {after} start now new position came ran =
     let behind = ended_behind ran.0 new ran.3 in
     let led : new.position ≡ ran.0.position + 1 = ap (λ (m : Standing). m.position) behind.0 in
     let lt = ran.2 in (
@@ -194,9 +198,10 @@ ends_before start now new position came ran =
     )
 
 -- a run that faults before a position stands there
-pub faults_before : (start now new : Standing) (position : ℕ) (fault : RunFault) → Came start now
-    → RanOn position 0 None now (Some (Fault fault)) new → StopsBefore (Faulted fault) start position new
-faults_before start now new position fault came ran =
+pub faults_before : {counts after : List ℕ} (start now new : Standing) (position : ℕ) (fault : RunFault)
+    → Came start now
+    → RanOn position 0 None now (Some (Fault fault)) new counts after → StopsBefore (Faulted fault) start position new
+faults_before {counts} {after} start now new position fault came ran =
     let stays = same_place ran.0 new fault ran.3 in
     let same : new.position ≡ ran.0.position = ap (λ (m : Standing). m.position) stays in
     let lt = ran.2 in (
@@ -208,9 +213,11 @@ faults_before start now new position fault came ran =
     )
 
 -- where a run stops before a position, no frame is alive there
-pub never_there : (start now new : Standing) (position : ℕ) (outcome : StepOutcome) → Came start now
-    → RanOn position 0 None now (Some outcome) new → IsStop outcome → depth_of (at_position start position) ≡ 0
-never_there start now new position outcome came ran stop =
+pub never_there : {counts after : List ℕ} (start now new : Standing) (position : ℕ) (outcome : StepOutcome)
+    → Came start now
+    → RanOn position 0 None now (Some outcome) new counts after → IsStop outcome
+    → depth_of (at_position start position) ≡ 0
+never_there {counts} {after} start now new position outcome came ran stop =
     let last = ran.0 in
     let lt = ran.2 in
     let left : last.position + 1 + (position - (last.position + 1)) ≡ position = omega (arith, lt) in

@@ -72,7 +72,7 @@ pub fn run_slice<O: Sink>(
 {
     let limit = machine.position().saturating_add(SLICE);
     'numbers: for _ in rt.forever() {
-        match machine.run(limit, 0, None) {
+        match machine.run(limit, 0, None, &mut []) {
             None => return finish(rt, output, pending, None, RunEnd::WriteFailed),
             Some(StepOutcome::Went(None)) => {}
             Some(StepOutcome::Went(Some(number))) => {

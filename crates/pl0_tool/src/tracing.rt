@@ -152,7 +152,7 @@ fn go_to(rt: &impl Wait, machine: &mut Machine, position: u64) -> Option<TraceEn
         × (depth_of (at_position machine.old position) ≡ 0)) }
 {
     'numbers: for _ in rt.forever() {
-        match machine.run(position, 0, None) {
+        match machine.run(position, 0, None, &mut []) {
             None => return None,
             Some(StepOutcome::Went(_)) => {}
             Some(StepOutcome::Done) => return Some(TraceEnd::EndedBefore),

@@ -27,8 +27,9 @@ numbers-preserved-in-Some-Went-None g c =
     let arm = c.in-Some-Went-None in
     let before = (g.O.Sink.output c.args.output.now) in
     let out = (g.O.Sink.output c.numbers.output) in
-    let told : RanOn limit 0 None now (Some (Went None)) new =
-    subst (λ o. RanOn limit 0 None now (Some o) new) (arm.field-0-is ∙ ap Went arm.field-0-0-is) arm.ensures in
+    let told : RanOn limit 0 None now (Some (Went None)) new _ _ =
+    subst (λ o. RanOn limit 0 None now (Some o) new _ c.run.new.counts) (arm.field-0-is ∙ ap Went arm.field-0-0-is)
+    arm.ensures in
     let ran = ran_on limit now new (Went None) told in (
       running_on now new None ran,
       came_on start now new (Went None) came ran,
@@ -48,8 +49,9 @@ returns-in-Err-clause-ran g c =
     let fits : FitsSigned w64 number = search rules in
     let before = (g.O.Sink.output c.args.output.now) in
     let out = (g.O.Sink.output c.put_line.new.output) in
-    let told : RanOn limit 0 None now (Some (Went (Some number))) new =
-    subst (λ o. RanOn limit 0 None now (Some o) new) (arm.field-0-is ∙ ap Went arm.field-0-0-is) arm.ensures in
+    let told : RanOn limit 0 None now (Some (Went (Some number))) new _ _ =
+    subst (λ o. RanOn limit 0 None now (Some o) new _ c.run.new.counts) (arm.field-0-is ∙ ap Went arm.field-0-0-is)
+    arm.ensures in
     let ran = ran_on limit now new (Went (Some number)) told in
     failed_so start now new (Went (Some number)) before out came ran
     (subst (λ l. FailsIn l before out) (sym (wrote_on start now new (Went (Some number)) came ran))
@@ -68,8 +70,9 @@ numbers-preserved g c =
     let fits : FitsSigned w64 number = search rules in
     let before = (g.O.Sink.output c.args.output.now) in
     let out = (g.O.Sink.output c.put_line.new.output) in
-    let told : RanOn limit 0 None now (Some (Went (Some number))) new =
-    subst (λ o. RanOn limit 0 None now (Some o) new) (arm.field-0-is ∙ ap Went arm.field-0-0-is) arm.ensures in
+    let told : RanOn limit 0 None now (Some (Went (Some number))) new _ _ =
+    subst (λ o. RanOn limit 0 None now (Some o) new _ c.run.new.counts) (arm.field-0-is ∙ ap Went arm.field-0-0-is)
+    arm.ensures in
     let ran = ran_on limit now new (Went (Some number)) told in (
       running_on now new (Some number) ran,
       came_on start now new (Went (Some number)) came ran,
@@ -92,7 +95,8 @@ returns-in-Some-Done-clause-ran g c =
     let before = (g.O.Sink.output c.args.output.now) in
     let mid = (g.O.Sink.output c.numbers.output) in
     let ran : Ran now new Done =
-    ran_on limit now new Done (subst (λ o. RanOn limit 0 None now (Some o) new) arm.field-0-is arm.ensures) in
+    ran_on limit now new Done
+    (subst (λ o. RanOn limit 0 None now (Some o) new _ c.run.new.counts) arm.field-0-is arm.ensures) in
     slice_ended start now new c.finish-in-Some-Done.result before _ came ran
     (c.finish-in-Some-Done.ensures.written before (lines_between start new)
     (held_on start now new Done before mid c.numbers.pending.items refl came ran c.numbers.invariant.3))
@@ -109,7 +113,8 @@ returns-in-Some-Fault-clause-ran g c =
     let before = (g.O.Sink.output c.args.output.now) in
     let mid = (g.O.Sink.output c.numbers.output) in
     let ran : Ran now new (Fault fault) =
-    ran_on limit now new (Fault fault) (subst (λ o. RanOn limit 0 None now (Some o) new) arm.field-0-is arm.ensures) in
+    ran_on limit now new (Fault fault)
+    (subst (λ o. RanOn limit 0 None now (Some o) new _ c.run.new.counts) arm.field-0-is arm.ensures) in
     slice_faulted start now new fault c.finish-in-Some-Fault.result before _ came ran
     (c.finish-in-Some-Fault.ensures.written before (lines_between start new)
     (held_on start now new (Fault fault) before mid c.numbers.pending.items refl came ran c.numbers.invariant.3))

@@ -18,7 +18,7 @@ numbers-preserved g c =
 
 pub returns-in-Some-Done : goal.returns-in-Some-Done
 returns-in-Some-Done g c =
-    let ran = subst (λ o. RanOn c.args.position 0 None c.numbers.machine (Some o) c.run.new.self)
+    let ran = subst (λ o. RanOn c.args.position 0 None c.numbers.machine (Some o) c.run.new.self _ c.run.new.counts)
     c.in-Some-Done.field-0-is c.in-Some-Done.ensures in (
       ends_before c.args.machine.now c.numbers.machine c.run.new.self c.args.position c.numbers.invariant.2 ran,
       never_there c.args.machine.now c.numbers.machine c.run.new.self c.args.position Done c.numbers.invariant.2 ran tt,
@@ -27,7 +27,7 @@ returns-in-Some-Done g c =
 pub returns-in-Some-Fault : goal.returns-in-Some-Fault
 returns-in-Some-Fault g c =
     let fault = c.in-Some-Fault.fault in
-    let ran = subst (λ o. RanOn c.args.position 0 None c.numbers.machine (Some o) c.run.new.self)
+    let ran = subst (λ o. RanOn c.args.position 0 None c.numbers.machine (Some o) c.run.new.self _ c.run.new.counts)
     c.in-Some-Fault.field-0-is c.in-Some-Fault.ensures in (
       faults_before c.args.machine.now c.numbers.machine c.run.new.self c.args.position fault c.numbers.invariant.2 ran,
       never_there c.args.machine.now c.numbers.machine c.run.new.self c.args.position (Fault fault)

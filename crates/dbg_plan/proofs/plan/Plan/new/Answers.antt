@@ -3,7 +3,7 @@ use Rattle.std.specs.List.Sorted.{IsNonDecreasingBy}
 use Rattle.std.proofs.lemmas.List.Sorted.{IsNonDecreasingBy-from_sort_by_key, answers_always}
 use Rattle.dbg_plan.specs.declared.breakpoint.Breakpoint.{Breakpoint}
 use Rattle.dbg_plan.specs.Plans.{IsNumbered, those_of}
-use Rattle.dbg_plan.specs.Table.{by_number, AreOnlyOnes, IsPart, has_part}
+use Rattle.dbg_plan.specs.Table.{by_number, AreCounters, IsPart, has_part}
 use Rattle.dbg_plan.proofs.ByNumber.{stays_in_order, by_number_is, part_is, listed_is}
 use Rattle.dbg_plan.proofs.Watching.{watched_is}
 use Rattle.dbg_plan.proofs.plan.Plan.new.Goals as goal
@@ -32,10 +32,10 @@ invariant_of-result c =
       sorted = IsNonDecreasingBy-from_sort_by_key (λ (b : Breakpoint). b.step) ordered
           c.in_ok-sort_by_key.ensures.sorted (λ a r q k. search rules);
       whole = λ s. stays_in_order bs ordered stable s ∙ ap (λ l. those_of s l) (sym is);
-      questions = let steps_are : c.args.steps ≡ length c.in_ok-starts.starts.items - 1 = omega (arith, long) in
-          subst (λ n. AreOnlyOnes ordered n c.in_ok-questions.questions.items) steps_are
-          (subst (λ l. AreOnlyOnes l c.args.steps c.in_ok-questions.questions.items) c.deref-3.ensures.value
-          c.in_ok-questions.ensures);
+      counters = let steps_are : c.args.steps ≡ length c.in_ok-starts.starts.items - 1 = omega (arith, long) in
+          subst (λ n. AreCounters ordered n c.in_ok-counters.counters.items) steps_are
+          (subst (λ l. AreCounters l c.args.steps c.in_ok-counters.counters.items) c.deref-3.ensures.value
+          c.in_ok-counters.ensures);
     }
 
 pub watched_of-requires : goal.watched_of-requires

@@ -1,0 +1,292 @@
+-- Where the machine counts, it counts as the plan does.
+use Rattle.std.proofs.Common.{◌≡◌, ℕ, zero, suc, ◌+◌, ◌<◌, ◌≤◌, All, Bool, true, false, cond, get_or, nat_lt, if◌then◌else◌, slice_index, slice_set, length-set, List, [], ◌∷◌, length, slice_get, filter, Option, Some, None, refl, sym, ap, ◌∙◌, subst, arith}
+use Rattle.std.specs.Prelude.{◌&&◌}
+use Rattle.std.specs.List.{list_any}
+use Rattle.std.proofs.lemmas.Bool.{or_parts}
+use Rattle.std.proofs.lemmas.List.{length-map}
+use Rattle.std.proofs.lemmas.Option.{same_Some, slice_get-get_or}
+use Rattle.pl0_unit.specs.declared.unit.Unit.{Unit as Compiled}
+use Rattle.pl0_tree.specs.Steps.{steps}
+use Rattle.pl0_meaning.specs.Values.{Configuration}
+use Rattle.pl0_meaning.specs.Laws.{FramesAreLinked}
+use Rattle.pl0_machine.specs.declared.mark.Counter.{Counter}
+use Rattle.pl0_machine.specs.declared.mark.Marks.{Marks}
+use Rattle.pl0_machine.specs.declared.mark.Question.{Question}
+use Rattle.pl0_machine.specs.Counting.{counters_of, any_due, passed_at, passed, IsCounted}
+use Rattle.pl0_machine.specs.Machine.{Standing, program, configuration, frames, top_of, IsNext, BeginsNext}
+use Rattle.pl0_machine.specs.Stretches.{answer_in, CanCount, IsTable, AreCountedAt, AreCounted}
+use Rattle.dbg_plan.specs.declared.breakpoint.Breakpoint.{Breakpoint}
+use Rattle.dbg_plan.specs.Breakpoints.{plain_breakpoint, plain_breakpoints}
+use Rattle.dbg_plan.specs.Counting.{holds_now, IsMetHere, counted as counted_all, due_at, those_due, any_stops, logged, AreCounts, CountsOn, MayBePlanOf}
+use Rattle.dbg_plan.specs.Due.{arrives_at, arrivals, accepts, is_hit}
+use Rattle.dbg_plan.specs.Logs.{Log}
+use Rattle.dbg_plan.specs.Plans.{Listed, IsPlanOf, IsNumbered, is_of, those_of, has_breakpoint, watched_lines, listed_of, breakpoints_of}
+use Rattle.dbg_plan.specs.Quiet.{Watches}
+use Rattle.dbg_plan.specs.Running.{has_hit}
+use Rattle.dbg_plan.specs.Table.{AreCountersOf, AreMarksOf}
+use Rattle.dbg_plan.proofs.Asked.{can_ask, answer_is}
+use Rattle.dbg_plan.proofs.Counters.{AreAlike, read_is, same_due, same_passed}
+use Rattle.dbg_plan.proofs.Here.{any_plain, arrivals_rise, within, are_met, goes_on}
+use Rattle.dbg_plan.proofs.Places.{arrives_here}
+use Rattle.dbg_plan.proofs.Tally.{tally_hits, tally_due}
+use Rattle.dbg_plan.proofs.Unwatched.{fits_of, among_those}
+use Rattle.dbg_plan.proofs.Watching.{there, none_of}
+
+-- ---- by the number of the step that comes next
+
+module _ (m : Standing) (p : ℕ) (here : IsNext (program m) (top_of (frames m)) p) (bs : List Breakpoint)
+    (numbered : IsNumbered bs) (counts : List ℕ) (first : ℕ) (le : first ≤ m.position)
+    (are : AreCounts (program m) bs first m.position counts) where
+  abbrev arrives : Breakpoint → Bool
+  arrives b = arrives_at (program m) (plain_breakpoint b) m.position
+
+  abbrev before : Breakpoint → ℕ
+  before b = arrivals (program m) (plain_breakpoint b) first m.position
+
+  abbrev after : Breakpoint → ℕ
+  after b = arrivals (program m) (plain_breakpoint b) first (m.position + 1)
+
+  -- a breakpoint is met where one of the step's is due
+  pub hits_are : has_hit (plain_breakpoints bs) first m ≡ list_any (λ b. due_at (holds_now m) b counts) (those_of p bs)
+  hits_are =
+      any_plain (is_hit (program m) first m.position) bs
+      ∙ sym (tally_hits (is_of p) (holds_now m) arrives before after
+      (arrives_here (program m) m.unit.tree.in_order (configuration m) p here)
+      (λ b. arrivals_rise (program m) (plain_breakpoint b) first m.position le) bs 0 counts numbered.numbers are)
+      ∙ among_those p (λ b. due_at (holds_now m) b counts) bs
+
+  none_due : (f : Breakpoint → Bool) (more : List Breakpoint) → list_any f more ≡ false → filter f more ≡ []
+  none_due f [] none = refl
+  none_due f (b ∷ more) none =
+      let both = or_parts _ _ none in
+      ap (λ v. cond v (b ∷ filter f more) (filter f more)) both.0 ∙ none_due f more both.1
+
+  -- where none is met, none of the step's is due
+  pub none_are_due : length counts ≡ 256 → has_hit (plain_breakpoints bs) first m ≡ false
+      → those_due (holds_now m) (those_of p bs) counts ≡ []
+  none_are_due room none =
+      let few = numbered.few in
+      tally_due (is_of p) (holds_now m) arrives before after
+      (arrives_here (program m) m.unit.tree.in_order (configuration m) p here)
+      (λ b. arrivals_rise (program m) (plain_breakpoint b) first m.position le) bs 0 counts numbered.numbers
+      (omega (arith, few, room)) are
+      ∙ none_due (λ b. arrives b && accepts b.rule (after b)) bs
+      (sym (any_plain (is_hit (program m) first m.position) bs) ∙ none)
+
+-- ---- by index
+
+has_at : (bs : List Breakpoint) (k : ℕ) → k < length bs → (b : Breakpoint) × (slice_get bs k ≡ Some b)
+has_at [] k lt = absurd (omega (arith, lt))
+has_at (b ∷ bs) zero lt = (b, refl)
+has_at (b ∷ bs) (suc k) lt = has_at bs k (omega (arith, lt))
+
+at_get : (P : Breakpoint → Type 0) (bs : List Breakpoint) (k : ℕ) (b : Breakpoint) → All P bs → slice_get bs k ≡ Some b
+    → P b
+at_get P [] k b all is = absurd cc
+at_get P (x ∷ bs) zero b all is = subst P (same_Some x b is) (all 0 x (omega arith))
+at_get P (x ∷ bs) (suc k) b all is = at_get P bs k b (λ j d lt. all (suc j) d (omega (arith, lt))) is
+
+next_within : (m : Standing) (n : ℕ) → IsNext (program m) (top_of (frames m)) n → n < length (steps (program m))
+next_within m n next = by_frames (frames m) next
+  where
+    by_frames : (c : Configuration) → IsNext (program m) (top_of c) n → n < length (steps (program m))
+    by_frames [] next = absurd next
+    by_frames (f ∷ below) next = next.within
+
+-- ---- the counters of the machine's step
+
+module _ (laws : FramesAreLinked) (m : Standing) (bs : List Breakpoint) (cs : List Counter) (of : AreCountersOf bs cs)
+    (met : All (IsMetHere m) bs) where
+  can_count : (room : ℕ) → All (λ b. b.number < room) bs → All (CanCount (frames m) room) cs
+  can_count room numbers = λ k d lt.
+      let long = of.long in
+      let c = get_or cs k d in
+      let b = has_at bs k (omega (arith, lt, long)) in
+      let is = of.each k b.0 c b.1 (slice_get-get_or cs k d lt) in (
+        can_ask laws m b.0 (at_get (λ b. IsMetHere m b) bs k b.0 met b.1) c.question is.asks,
+        subst (λ n. n < room) (sym is.number) (at_get (λ b. b.number < room) bs k b.0 numbers b.1),
+      )
+
+  alike : AreAlike (answer_in (frames m)) (holds_now m) bs cs
+  alike = record {
+    long = of.long;
+    each = λ k b c here there.
+        let is = of.each k b c here there in
+        record {
+          holds = answer_is laws m b (at_get (λ b. IsMetHere m b) bs k b met here) c.question is.asks;
+          number = is.number;
+          rule = is.rule;
+        };
+  }
+
+due_is : (f : Question → Bool) (cs : List Counter) (counts : List ℕ) (due : Bool) (new : List ℕ)
+    → IsCounted f cs counts due new → any_due f cs counts ≡ due
+due_is f cs counts true new counted = counted.0
+due_is f cs counts false new counted = counted.0
+
+module _ (laws : FramesAreLinked) (plan : Option Listed) (counts : List ℕ) (room : length counts ≡ 256) where
+  -- the counters of the step that comes next are those of its breakpoints, which are met there
+  counters_there : (u : Compiled) (asked : Listed) (marks : Marks) → IsPlanOf u asked → AreMarksOf asked marks
+      → (m : Standing) → m.unit ≡ u → (n : ℕ) → IsNext (program m) (top_of (frames m)) n
+      → AreCountersOf (those_of n asked.breakpoints) (counters_of marks.counters.items n)
+      × All (IsMetHere m) (those_of n asked.breakpoints)
+  counters_there u asked marks is are m same n next =
+      let here : IsPlanOf m.unit asked = subst (λ v. IsPlanOf v asked) (sym same) is in
+      let long = are.counters.long in
+      let steps = here.steps in
+      let within = next_within m n next in (
+        read_is (those_of n asked.breakpoints) marks.counters.items n (omega (arith, long, steps, within))
+            (are.counters.each n),
+        are_met m n next asked.breakpoints here.bound,
+      )
+
+  pub has_table : (u : Compiled) (marks : Option Marks) → MayBePlanOf u plan → Watches plan marks
+      → IsTable u (length counts) marks
+  unfolding watched_lines
+  has_table u None fits watches = tt
+  has_table u (Some marks) fits watches =
+      let asked = watches.0 in
+      let are = watches.2 in
+      let is = fits_of u plan asked watches.1 fits in (
+        ap length are.marked ∙ ap length is.watched
+            ∙ length-map u.begun_steps.items (has_breakpoint asked.breakpoints),
+        λ m n same next.
+            let there = counters_there u asked marks is are m same n next in
+            can_count laws m (those_of n asked.breakpoints) (counters_of marks.counters.items n) there.0 there.1
+            (length counts) (within asked.breakpoints are.numbered n counts room),
+      )
+
+  module _ (marks : Marks) (m : Standing) (fits : MayBePlanOf m.unit plan) (watches : Watches plan (Some marks))
+      (due : Bool) (new : List ℕ) (counted : AreCounted (Some marks) m counts due new) where
+    abbrev asked : Listed
+    asked = watches.0
+
+    is : IsPlanOf m.unit asked
+    is = fits_of m.unit plan asked watches.1 fits
+
+    abbrev next : BeginsNext m counted.0
+    next = counted.1
+
+    abbrev those : List Breakpoint
+    those = those_of next.step asked.breakpoints
+
+    abbrev cs : List Counter
+    cs = counters_of marks.counters.items next.step
+
+    marked_is : list_any (is_of next.step) asked.breakpoints ≡ counted.2
+    marked_is =
+        let has_one =
+        there asked.breakpoints m.unit.begun_steps.items asked.watched counted.0 next.step is.watched next.begins in
+        same_Some _ _ (sym has_one ∙ sym (ap (λ l. slice_get l counted.0) watches.2.marked) ∙ counted.3)
+
+    all_alike : AreAlike (answer_in (frames m)) (holds_now m) those cs
+    all_alike =
+        let there = counters_there m.unit asked marks is watches.2 m refl next.step next.next in
+        alike laws m those cs there.0 there.1
+
+    due_among : list_any (λ b. due_at (holds_now m) b counts) those ≡ due
+    due_among = by_mark counted.2 marked_is counted.4
+      where
+        by_mark : (marked : Bool) → list_any (is_of next.step) asked.breakpoints ≡ marked
+            → AreCountedAt (frames m) marked cs counts due new
+            → list_any (λ b. due_at (holds_now m) b counts) those ≡ due
+        by_mark false e c =
+            ap (λ bs. list_any (λ b. due_at (holds_now m) b counts) bs) (none_of next.step asked.breakpoints e)
+            ∙ sym c.0
+        by_mark true e c =
+            sym (same_due (answer_in (frames m)) (holds_now m) those cs counts all_alike)
+            ∙ due_is (answer_in (frames m)) cs counts due new c
+
+    module _ (first : ℕ) (le : first ≤ m.position)
+        (are : AreCounts (program m) (listed_of plan) first m.position counts) where
+      are_asked : AreCounts (program m) asked.breakpoints first m.position counts
+      are_asked = subst (λ q. AreCounts (program m) (listed_of q) first m.position counts) watches.1 are
+
+      met_where_due : has_hit (plain_breakpoints asked.breakpoints) first m ≡ due
+      met_where_due =
+          hits_are m next.step next.next asked.breakpoints watches.2.numbered counts first le are_asked ∙ due_among
+
+      counts_as : due ≡ false → new ≡ counted_all (holds_now m) those counts
+      counts_as undue = by_mark counted.2 marked_is
+          (subst (λ d. AreCountedAt (frames m) counted.2 cs counts d new) undue counted.4)
+        where
+          none : those_due (holds_now m) those counts ≡ []
+          none =
+              none_are_due m next.step next.next asked.breakpoints watches.2.numbered counts first le are_asked room
+              (met_where_due ∙ undue)
+
+          by_mark : (marked : Bool) → list_any (is_of next.step) asked.breakpoints ≡ marked
+              → AreCountedAt (frames m) marked cs counts false new → new ≡ counted_all (holds_now m) those counts
+          by_mark false e c =
+              c.1 ∙ sym (ap (λ bs. counted_all (holds_now m) bs counts) (none_of next.step asked.breakpoints e))
+          by_mark true e c =
+              c.1 ∙ same_passed (answer_in (frames m)) (holds_now m) those cs counts all_alike none
+
+-- ---- the counts stay as many
+
+passed_length : (f : Question → Bool) (cs : List Counter) (counts : List ℕ)
+    → length (passed f cs counts) ≡ length counts
+passed_length f [] counts = refl
+passed_length f (c ∷ cs) counts =
+    passed_length f cs (passed_at f c counts)
+    ∙ by_arrival (f c.question && nat_lt (slice_index counts c.number) c.passes)
+  where
+    by_arrival : (v : Bool)
+        → length (if v then slice_set counts c.number (slice_index counts c.number + 1) else counts) ≡ length counts
+    by_arrival true = length-set counts c.number (slice_index counts c.number + 1)
+    by_arrival false = refl
+
+pub same_length : (marks : Option Marks) (m : Standing) (counts : List ℕ) (due : Bool) (new : List ℕ)
+    → AreCounted marks m counts due new → length new ≡ length counts
+same_length None m counts due new counted = ap length counted.1
+same_length (Some marks) m counts due new counted = by_mark counted.2 due counted.4
+  where
+    by_mark : (marked : Bool) (b : Bool)
+        → AreCountedAt (frames m) marked (counters_of marks.counters.items counted.1.step) counts b new
+        → length new ≡ length counts
+    by_mark false b c = ap length c.1
+    by_mark true true c = ap length c.1
+    by_mark true false c =
+        ap length c.1
+        ∙ passed_length (answer_in (frames m)) (counters_of marks.counters.items counted.1.step) counts
+
+-- A position where the machine counted is counted under the plan, from whatever position on.
+pub record IsCountedOn (m : Standing) (plan : Option Listed) (counts new : List ℕ) : Type 0 where
+  pub hit : Bool
+  pub logs : List Log
+  pub on : (first : ℕ) → first ≤ m.position → AreCounts (program m) (listed_of plan) first m.position counts
+      → CountsOn (program m) (listed_of plan) m.position first hit logs new
+
+module _ (laws : FramesAreLinked) (plan : Option Listed) (counts : List ℕ) (room : length counts ≡ 256) (m : Standing)
+    (fits : MayBePlanOf m.unit plan) where
+  pub hit_is : (marks : Option Marks) → Watches plan marks → (due : Bool) (new : List ℕ)
+      → AreCounted marks m counts due new → (first : ℕ) → first ≤ m.position
+      → AreCounts (program m) (listed_of plan) first m.position counts → has_hit (breakpoints_of plan) first m ≡ due
+  hit_is None watches due new counted first le are =
+      ap (λ bs. has_hit (plain_breakpoints bs) first m) watches ∙ sym counted.0
+  hit_is (Some marks) watches due new counted first le are =
+      ap (λ p. has_hit (breakpoints_of p) first m) watches.1
+      ∙ met_where_due laws plan counts room marks m fits watches due new counted first le are
+
+  pub counted_on : (marks : Option Marks) → Watches plan marks → (new : List ℕ) → AreCounted marks m counts false new
+      → IsCountedOn m plan counts new
+  counted_on None watches new counted =
+      record {
+        hit = false;
+        logs = [];
+        on = λ first le are.
+            subst (λ bs. CountsOn (program m) bs m.position first false [] new) (sym watches)
+            (record { counts = tt; due_is = refl; logs_are = refl });
+      }
+  counted_on (Some marks) watches new counted =
+      let asked = watches.0 in
+      let next : BeginsNext m counted.0 = counted.1 in
+      let those = those_of next.step asked.breakpoints in
+      record {
+        hit = any_stops (those_due (holds_now m) those counts);
+        logs = logged m (those_due (holds_now m) those counts);
+        on = λ first le are.
+            goes_on m next.step next.next plan asked watches.1 watches.2.numbered those refl counts room _ _ new refl
+            refl (counts_as laws plan counts room marks m fits watches false new counted first le are refl) first le
+            are;
+      }
