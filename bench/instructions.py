@@ -30,6 +30,7 @@ RECORD = os.path.join(HERE, "instructions.txt")
 # From how much on a figure counts as moved.
 MOVED = 0.03
 ELSEWHERE = 256
+STACK_ELSEWHERE = 64
 # In how many frames of a procedure a condition asks for a variable of the last.
 DEEP = (10, 100, 1_000)
 # How often a question is asked.
@@ -44,13 +45,15 @@ HEAD = """# Instructions a step and an answer, as callgrind counts them. Written
 
 
 class Run(NamedTuple):
-    """A run of `speed` in a mode, its text for a number of turns, two such numbers, and further arguments."""
+    """A run of `speed` in a mode, its text for a number of turns, two such numbers, further arguments, and how many
+    steps a turn has, where `speed` doesn't say how many were taken."""
 
     name: str
     mode: str
     text: object
     turns: tuple[int, int]
     more: tuple[str, ...] = ()
+    turn: int = 0
 
 
 def scaled(name: str, turns: str):
@@ -93,6 +96,18 @@ def below(frames: int):
     )
 
 
+def stack_loop(turns: int) -> str:
+    """A loop of seven steps in the stack language, behind which stand lines that are never reached."""
+    lines = [f"push {turns}", "store n", "load n", "jzero 10", "load n", "push 1", "sub", "store n", "jump 3", "ret"]
+    return "\n".join([*lines, *["print"] * STACK_ELSEWHERE])
+
+
+def in_stack_slices(count: int) -> Run:
+    """That loop in slices of `debuggee`, with so many breakpoints behind it."""
+    return Run(f"a step of the stack language, in slices, breakpoints elsewhere: {count}", "language", stack_loop,
+               (2_000, 6_000), ("10", str(count)), 7)
+
+
 def runs() -> list[Run]:
     many, few = (100_000, 300_000), (20_000, 60_000)
     count, links, divide = scaled("count", "100000000"), scaled("links", "30000000"), scaled("divide", "50000000")
@@ -116,6 +131,7 @@ def runs() -> list[Run]:
         Run("a step of `primes`, in slices", "slices", primes, (1_000, 3_000)),
         Run("a step of `primes`, in a call that `next` passes over", "next", called(primes), (1_000, 3_000)),
         Run("a step of `count`, in a procedure that `stepOut` leaves", "out", called(count), many),
+        *map(in_stack_slices, (0, 1, STACK_ELSEWHERE)),
     ]
 
 
@@ -125,7 +141,8 @@ def counted(speed: str, run: Run, turns: int, folder: str) -> tuple[int, int]:
     with open(path, "w", encoding="ascii") as file:
         file.write(run.text(turns))
     done = subprocess.run([*CALLGRIND, speed, run.mode, path, *run.more], capture_output=True, text=True, check=True)
-    return int(re.search(r"Collected : (\d+)", done.stderr)[1]), int(re.search(r"after (\d+) steps", done.stdout)[1])
+    steps = turns * run.turn or int(re.search(r"after (\d+) steps", done.stdout)[1])
+    return int(re.search(r"Collected : (\d+)", done.stderr)[1]), steps
 
 
 def a_step(speed: str, run: Run, folder: str) -> float:

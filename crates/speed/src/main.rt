@@ -6,9 +6,12 @@
 //!   FIRST on; `speed next FILE ..` runs it up to the next position of the main block, and `speed out FILE ..` as long as
 //!   there is a frame above that one's.
 //! - `speed work FILE` hands a debuggee to the runner, over a queue of orders, a gate and reports in memory.
+//! - `speed language FILE [FIRST COUNT]` runs a program of the stack language in slices of `debuggee`, under breakpoints at
+//!   COUNT lines from FIRST on, of which the first of the program is 0.
 //! - `speed session FILE` drives a session by the bytes in the file, and prints the frames that it puts.
 #![tactic(auto)]
 
+mod language;
 mod machine;
 mod session;
 mod slices;
@@ -26,7 +29,7 @@ use std::sync::Wait;
 use std::{env, fs, io};
 
 const USAGE: &str =
-    "usage: speed machine|slices|next|out|work|session FILE [FIRST COUNT [CONDITION [HIT]]]";
+    "usage: speed machine|slices|next|out|work|language|session FILE [FIRST COUNT [CONDITION [HIT]]]";
 
 fn main(rt: HostRuntime) -> Result<()> {
     let arguments = env::args(&rt)
@@ -70,7 +73,10 @@ fn print_run<R: Wait + Print + AllocGlobal>(
     text: &[u8],
     rest: &[String],
 ) -> Result<()> {
-    let line = line_of_run(rt, mode, text, rest)?;
+    let line = match mode {
+        "language" => language::run(rt.alloc(), text, rest)?,
+        mode => line_of_run(rt, mode, text, rest)?,
+    };
     println!(rt; "{line}")?;
     Ok(())
 }
