@@ -8,7 +8,7 @@ use Rattle.std.proofs.lemmas.Grind.{get_or-set_at}
 use Rattle.debuggee.specs.declared.mode.Mode.{Mode}
 use Rattle.debuggee.specs.Plain.{PlainBreakpoint, AtBreakpoint}
 use Rattle.debuggee.specs.Due.{Sight, accepts, arrives, counted, due, holds, is_at, log_of, logs, next_arrival, said, stops}
-use Rattle.debuggee.specs.Marks.{AreMarked, halt_by_mode, is_marked}
+use Rattle.debuggee.specs.Marks.{AreMarked, halt_by_mode, is_marked, mark_count}
 
 -- ---- one mark more
 
@@ -26,7 +26,7 @@ all_stay : (marks : List Bool) (i : ℕ) → i < length marks → (bs : List Pla
     → AreMarked (slice_set marks i true) bs
 all_stay marks i within [] set = set
 all_stay marks i within (b ∷ bs) set =
-    (stays marks i (b.place % 1024) within set.0, all_stay marks i within bs set.1)
+    (stays marks i (b.place % mark_count) within set.0, all_stay marks i within bs set.1)
 
 appended : (marks : List Bool) (bs : List PlainBreakpoint) (b : PlainBreakpoint) → AreMarked marks bs
     → is_marked marks (Some b.place) ≡ true → AreMarked marks (bs ++ b ∷ [])
@@ -34,13 +34,13 @@ appended marks [] b set here = (here, tt)
 appended marks (first ∷ bs) b set here = (set.0, appended marks bs b set.1 here)
 
 pub one_more : (marks : List Bool) (bs : List PlainBreakpoint) (n : ℕ) (b : PlainBreakpoint)
-    → b.place % 1024 < length marks → n < length bs → b ≡ get_or bs n b → AreMarked marks (take n bs)
-    → AreMarked (slice_set marks (b.place % 1024) true) (take (n + 1) bs)
+    → b.place % mark_count < length marks → n < length bs → b ≡ get_or bs n b → AreMarked marks (take n bs)
+    → AreMarked (slice_set marks (b.place % mark_count) true) (take (n + 1) bs)
 one_more marks bs n b within lt is set =
-    let new = slice_set marks (b.place % 1024) true in
+    let new = slice_set marks (b.place % mark_count) true in
     subst (λ l. AreMarked new l) (ap (λ x. take n bs ++ x ∷ []) is ∙ sym (take_more bs n b lt))
-    (appended new (take n bs) b (all_stay marks (b.place % 1024) within (take n bs) set)
-    (get_or-set_at marks (b.place % 1024) (b.place % 1024) true false refl within))
+    (appended new (take n bs) b (all_stay marks (b.place % mark_count) within (take n bs) set)
+    (get_or-set_at marks (b.place % mark_count) (b.place % mark_count) true false refl within))
 
 -- ---- arrivals change no place
 

@@ -5,10 +5,14 @@ use Rattle.debuggee.specs.Plain.{PlainBreakpoint, PlainHalt, AtStep, PlainOutput
 use Rattle.debuggee.specs.Due.{Sight, is_asked}
 use Rattle.debuggee.specs.Runs.{Added, Meaning, Passes, Runs}
 
--- whether a place has a mark; there are 1,024, and places whose numbers leave the same remainder share one
+-- how many marks there are
+abbrev pub mark_count : ℕ
+mark_count = 1024
+
+-- whether a place has a mark; places whose numbers leave the same remainder share one
 abbrev pub is_marked : List Bool → Option ℕ → Bool
 is_marked marks None = false
-is_marked marks (Some place) = get_or marks (place % 1024) false
+is_marked marks (Some place) = get_or marks (place % mark_count) false
 
 -- the places of all breakpoints have marks
 abbrev pub AreMarked : List Bool → List PlainBreakpoint → Type 0
