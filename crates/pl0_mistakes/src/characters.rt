@@ -61,7 +61,8 @@ fn computing_sign_hint(scene: Scene<'_>) -> Option<Hint<'_>> {
 /// Signs that word processors and other keyboards write: quotes, no-break spaces, and signs as wide as ideographs.
 fn typed_sign_hint(scene: Scene<'_>) -> Option<Hint<'_>> {
     let quoted = begins(scene, "“") || begins(scene, "”") || begins(scene, "„");
-    if quoted || begins(scene, "‘") || begins(scene, "’") || begins(scene, "«") {
+    let single = begins(scene, "‘") || begins(scene, "’") || begins(scene, "´");
+    if quoted || single || begins(scene, "«") {
         text("PL/0 has no strings")
     } else if begins(scene, "\u{a0}") {
         text("this is a no-break space: write a blank")

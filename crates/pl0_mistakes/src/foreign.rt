@@ -4,10 +4,10 @@ use crate::cases::keyword_in_front;
 use crate::found::Token;
 use crate::hint::{Hint, around, text};
 use crate::names::{Kind, kind_of};
-use crate::scene::{Scene, is_comparison};
+use crate::scene::{Scene, is_comparison, is_name};
 use crate::situation::{
-    at_opening, begins_statement_next, ends_statement, in_condition, is_new, is_new_target,
-    is_operand_of, is_operator, is_procedure, is_target, may_end,
+    at_opening, begins_statement_next, ends_statement, in_condition, is_in_expression, is_new,
+    is_new_target, is_operand_of, is_operator, is_procedure, is_target, may_end,
 };
 
 /// Words of other languages where an operand, a statement or its rest may end.
@@ -38,6 +38,10 @@ const CONSTANTS: &str = "constant constants final readonly";
 
 /// Words by which other languages declare procedures.
 const PROCEDURES: &str = "def func function fun fn void proc sub method";
+
+/// Names of functions that other languages have.
+const FUNCTIONS: &str =
+    "even abs sqr sqrt min max mod pow power square random succ pred ord trunc round length sum";
 
 /// Whether a token is another language's word that may stand behind an operand or a statement.
 pub fn is_foreign_between(token: Token<'_>) -> bool {
@@ -163,13 +167,24 @@ fn lacks_blank(scene: Scene<'_>) -> bool {
 /// Words that PL/0 has no keywords for: the token found, or the one before it.
 pub fn word_hint(scene: Scene<'_>) -> Option<Hint<'_>> {
     let last = scene.past.last;
-    if is_foreign_between(scene.found) {
+    if last.is("od") && in_condition(scene) {
+        text("perhaps `odd` is meant")
+    } else if is_function(scene) {
+        around("PL/0 has no `", last, "`")
+    } else if is_foreign_between(scene.found) {
         around("PL/0 has no keyword `", scene.found, "`")
     } else if is_foreign_in_front(scene) {
         around("PL/0 has no keyword `", last, "`")
     } else {
         None
     }
+}
+
+/// Whether the token before is the name of a function, and its operand follows.
+fn is_function(scene: Scene<'_>) -> bool {
+    let last = scene.past.last;
+    let operand = scene.found.is_number() || is_name(scene.found);
+    operand && is_in_expression(scene) && last.is_word_of(FUNCTIONS) && is_new(scene, last)
 }
 
 /// Whether the token before is another language's word with which a statement begins, or an operand.
@@ -262,10 +277,13 @@ fn is_end_of(scene: Scene<'_>) -> bool {
 
 /// A comma or a period where a `;` has to stand.
 pub fn separator_hint(scene: Scene<'_>) -> Option<Hint<'_>> {
-    let meant = ends_statement(scene) && !scene.past.last.is("end") && scene.past.begins > 0;
-    if scene.found.is_one_of(", .") && meant && begins_statement_next(scene) {
+    let open = scene.past.begins > 0;
+    let meant = ends_statement(scene) && open && begins_statement_next(scene);
+    if scene.found.is(",") && meant && !scene.past.last.is("end") {
         text("perhaps a `;` is meant")
-    } else if scene.found.is(".") && scene.past.begins > 0 && scene.next.is("end") {
+    } else if scene.found.is(".") && meant {
+        text("perhaps a `;` is meant")
+    } else if scene.found.is(".") && open && scene.next.is("end") {
         text("perhaps this `.` is one too many")
     } else {
         None

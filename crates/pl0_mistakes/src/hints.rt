@@ -19,6 +19,7 @@ pub fn hint_for(scene: Scene<'_>) -> Option<Hint<'_>> {
         .or(period_hint(scene))
         .or(comparing_hint(scene))
         .or(assigning_hint(scene))
+        .or(name_sign_hint(scene))
         .or(declared_hint(scene))
         .or(case_hint(scene))
         .or(form_hint(scene))
@@ -67,6 +68,25 @@ fn period_hint(scene: Scene<'_>) -> Option<Hint<'_>> {
         text("all numbers are whole")
     } else {
         None
+    }
+}
+
+/// What is said of a sign in a name, without a blank on either side.
+fn name_sign_hint(scene: Scene<'_>) -> Option<Hint<'_>> {
+    let last = scene.past.last;
+    let named = is_declaring(scene.past.opener) || is_target(scene) && is_new(scene, last);
+    if named && is_name(last) && scene.front.ends_with(last.bytes) && is_before_letter(scene) {
+        text("a name has only letters and digits")
+    } else {
+        None
+    }
+}
+
+/// Whether a `-` or a `.` stands at the place, right before a letter.
+fn is_before_letter(scene: Scene<'_>) -> bool {
+    match scene.onward {
+        [b'-' | b'.', letter, ..] => letter.is_ascii_alphabetic(),
+        _ => false,
     }
 }
 
@@ -248,6 +268,8 @@ fn statement_hint(scene: Scene<'_>) -> Option<Hint<'_>> {
         None
     } else if scene.found.is("end") {
         text("no `begin` is open")
+    } else if scene.found.is_one_of("then do") && scene.found.bytes == past.last.bytes {
+        around("perhaps this `", scene.found, "` is one too many")
     } else if scene.found.is_one_of("then do") {
         text("`do` belongs to a `while`, and `then` to an `if`")
     } else if scene.found.is(";") {
@@ -270,6 +292,8 @@ fn value_hint(scene: Scene<'_>) -> Option<Hint<'_>> {
         text("a comparison has to stand here")
     } else if wanted {
         text("a number or a name has to stand here")
+    } else if scene.found.is(":=") && scene.past.second_last.is("!") {
+        text("`!` writes a value, and an assignment has none")
     } else if scene.found.is(":=") && is_in_expression(scene) {
         text("an assignment has no value")
     } else if scene.found.is("(") && is_name(scene.past.last) && is_in_expression(scene) {
