@@ -79,7 +79,7 @@ where
     }
 }
 
-/// Does what the arguments ask for, as [`execute`] does, with the files of the system.
+/// Does what the arguments ask for, as [`run`] does.
 fn run_given<R, I, O, E>(
     rt: &R,
     first: FirstSeq,
@@ -103,7 +103,27 @@ where
     let Ok(arguments) = borrow_texts(rt.alloc(), given.as_slice()) else {
         return end_with(rt, &[], ExitReason::NoMemory, errors);
     };
-    let arguments = arguments.as_slice();
+    execute_on_files(rt, first, arguments.as_slice(), input, output, errors)
+}
+
+/// Does what the arguments ask for, as [`execute`] does, with the files of the system.
+fn execute_on_files<R, I, O, E>(
+    rt: &R,
+    first: FirstSeq,
+    arguments: &[&str],
+    input: &mut I,
+    output: &mut O,
+    errors: &mut E,
+) -> ExitReason
+where
+    R: Threads + Wait + Clock + Files + Eprint + AllocGlobal + Copy + Drop + Send,
+    I: Source + Send,
+    O: Sink + Send,
+    E: Sink,
+    ensures { (loads : List Load) × Executes first (map (λ argument. argument.now) arguments.entry.now) result [] loads
+        (streams (I.supply input.old) (O.output output.old)) (streams (I.supply input.new) (O.output output.new))
+        (E.output errors.old) (E.output errors.new) }
+{
     let asked = parse_arguments(rt.alloc(), arguments);
     let mut files = match asked {
         Ok(Invocation::Check(_)) => FileLoader::new(rt, rt.alloc()),
