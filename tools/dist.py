@@ -24,7 +24,7 @@ from pages import VERSIONS
 from scratch import TOP
 
 PROVED = ("pl0dap", "pl0dap_from_zero", "pl0")
-PAGES = ("docs/EDITORS.md", "docs/PL0.md", "docs/TEACHING.md", "docs/pictures/emacs.png", "LICENSE")
+PAGES = ("docs/EDITORS.md", "docs/PL0.md", "docs/TEACHING.md", "docs/ANSWERS.md", "docs/pictures/emacs.png", "LICENSE")
 FOLDERS = ("editors", "examples")
 LEFT_OUT = shutil.ignore_patterns("drive", "*.py", "__pycache__")
 INSTALL = """# pl0dap {version}, for Linux on x86-64

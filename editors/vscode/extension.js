@@ -10,7 +10,8 @@ const TASKS = {
   run: ["pl0", "run"],
   trace: ["pl0", "trace"],
   check: ["pl0", "check"],
-  list: ["pl0dap", "--check"],
+  list: ["pl0", "list"],
+  tree: ["pl0", "tree"],
 };
 
 /** What is debugged where no launch.json says it. */
