@@ -1,11 +1,12 @@
 -- What a block declares a word as, by its declarations and by a table of them.
-use Rattle.pl0_names.proofs.Common.{[], AConstant, ap, AProcedure, arith, AVariable, Block, block_at, blocks, Bool, bytes_eq, cond, constants, Declaration, Declared, declared_as, false, find, first_declaration, inl, inr, IsTableOf, Known, known, length, List, map, Meaning, meaning_of, means, Name, None, Option, option_and_then, option_map, option_or, out-Block, out-Procedure, Path, plain_block, plain_block_procedures, plain_constant, plain_constants, plain_name, plain_procedure, plain_variables, position, procedures, refl, slice_get, Some, stack_names, string_bytes, subst, suc, sym, told, true, variables, zero, ℕ, ◌++◌, ◌+◌, ◌∙◌, ◌∷◌, ◌≡◌, ◌⊎◌}
+use Rattle.pl0_names.proofs.Common.{[], AConstant, ap, AProcedure, arith, AVariable, Block, block_at, blocks, Bool, bytes_eq, cond, constants, Declaration, Declared, declared_as, find, first_declaration, IsTableOf, Known, known, length, List, map, Meaning, meaning_of, means, Name, None, Option, option_and_then, option_map, option_or, out-Block, out-Procedure, Path, plain_block, plain_block_procedures, plain_constant, plain_constants, plain_name, plain_procedure, plain_variables, position, procedures, refl, slice_get, Some, stack_names, string_bytes, sym, told, variables, ℕ, ◌++◌, ◌+◌, ◌∙◌, ◌∷◌, ◌≡◌}
 use Rattle.std.specs.List.{position_from}
 use Rattle.std.proofs.lemmas.List.Folds.{find-append}
 use Rattle.std.proofs.lemmas.Iterator.Adapters.{position_from-zero}
 use Rattle.pl0_tree.specs.declared.tree.Block.{Block as DeclaredBlock}
 use Rattle.pl0_names.proofs.Lookup.{numbered_there}
 use Rattle.pl0_names.proofs.Members.{get_parts}
+use Rattle.std.proofs.lemmas.Grind.{common_steps}
 
 -- ---- by its declarations
 
@@ -17,9 +18,7 @@ position_mapped f g p i (x ∷ xs) = ap (λ o. cond (p (g (f x))) (Some i) o) (p
 
 pub position_among : {A B C : Type 0} (f : A → B) (g : B → C) (p : C → Bool) (xs : List A)
     → position (λ x. p (g (f x))) xs ≡ position p (map g (map f xs))
-position_among f g p xs =
-    position_from-zero (λ x. p (g (f x))) xs ∙ position_mapped f g p 0 xs
-    ∙ sym (position_from-zero p (map g (map f xs)))
+position_among f g p xs = grind (arith, common_steps, position_from-zero, position_mapped)
 
 module _ (w : List ℕ) where
   abbrev is_word : Name → Bool
@@ -32,14 +31,7 @@ module _ (w : List ℕ) where
   first_from : (m : ℕ → Meaning) (i : ℕ) (xs : List Name) → first_means (declared_as m i xs) ≡ option_map m
       (position_from is_word i xs)
   first_from m i [] = refl
-  first_from m i (x ∷ xs) = here (is_word x) (first_from m (i + 1) xs)
-    where
-      here : (t : Bool) → first_means (declared_as m (i + 1) xs) ≡ option_map m (position_from is_word (i + 1) xs) →
-          option_map means (cond t (Some (record { name = x; meaning = m i }))
-          (find (λ d. is_word d.name) (declared_as m (i + 1) xs))) ≡ option_map m
-          (cond t (Some i) (position_from is_word (i + 1) xs))
-      here true rest = refl
-      here false rest = rest
+  first_from m i (x ∷ xs) = grind (arith, common_steps, first_from m (i + 1) xs)
 
   first_of : (m : ℕ → Meaning) (xs : List Name) (found : Option ℕ) → found ≡ position is_word xs
       → option_map m found ≡ first_means (declared_as m 0 xs)
@@ -131,18 +123,4 @@ pub one_table_more : (main b : Block) (tables : List (List (List (List ℕ × De
     (table : List (List (List ℕ × Declared))) (n : ℕ) → AreTables main tables → length tables ≡ n → IsTableOf b table →
     ((q : Path) → slice_get (blocks main) n ≡ Some q → block_at main q ≡ Some b) → AreTables main (tables ++ table ∷ [])
 one_table_more main b tables table n all count is there k other q c here at block =
-    by_part (get_parts tables (table ∷ []) k other here)
-  where
-    last : (j : ℕ) → k ≡ length tables + j → slice_get (table ∷ []) j ≡ Some other → IsTableOf c other
-    last zero e same =
-        let number : k ≡ n = omega (arith, e, count) in
-        let first : ◌≡◌ {A = Option Block} (Some b) (Some c) =
-        sym (there q (ap (slice_get (blocks main)) (sym number) ∙ at)) ∙ block in
-        subst (λ t. IsTableOf c t) (let one : table ≡ other = cc in one)
-        (subst (λ d. IsTableOf d table) (let one : b ≡ c = cc in one) is)
-    last (suc j) e same = absurd (let no = same in cc)
-
-    by_part : (slice_get tables k ≡ Some other) ⊎ ((j : ℕ) × ((k ≡ length tables + j)
-        × (slice_get (table ∷ []) j ≡ Some other))) → IsTableOf c other
-    by_part (inl early) = all k other q c early at block
-    by_part (inr (j, e)) = last j e.0 e.1
+    grind (arith, common_steps, get_parts)

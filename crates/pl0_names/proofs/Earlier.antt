@@ -1,11 +1,12 @@
 -- What is used is declared before it, by the places of names.
 use Rattle.pl0_tree.proofs.SharedLemmas.{before_trans}
-use Rattle.pl0_names.proofs.Common.{[], ABlock, AConstant, ap, append_assoc, AProcedure, arith, Ascend, AVariable, Block, block_at, body_uses, Bool, bytes_eq, cond, Constant, constants, Declaration, declared_as, drop, false, find, first_declaration, Home, home, IsBefore, IsLawful, List, map, Meaning, Name, NoMore, None, Option, option_and_then, option_map, option_or, or_else, Path, Place, procedure_at, procedure_list, Procedures, procedures, ReadsProgram, refl, slice_get, Some, statement_uses, subst, suc, sym, take, Token, true, Use, variables, zero, ℕ, ◌++◌, ◌+◌, ◌∙◌, ◌∷◌, ◌≡◌}
+use Rattle.pl0_names.proofs.Common.{[], ABlock, AConstant, ap, append_assoc, AProcedure, arith, Ascend, AVariable, Block, block_at, body_uses, bytes_eq, Constant, constants, Declaration, declared_as, drop, find, first_declaration, Home, home, IsBefore, IsLawful, List, map, Meaning, Name, NoMore, None, Option, option_and_then, option_map, option_or, or_else, Path, Place, procedure_at, procedure_list, Procedures, procedures, ReadsProgram, refl, slice_get, Some, statement_uses, subst, suc, sym, take, Token, Use, variables, zero, ℕ, ◌++◌, ◌+◌, ◌∙◌, ◌∷◌, ◌≡◌}
 use Rattle.std.proofs.lemmas.List.Folds.{find-append}
 use Rattle.pl0_tree.specs.Tree.{Procedure, AProcedure as AndProcedure}
 use Rattle.pl0_names.specs.Earlier.{declarations_before, first_before, home_around, home_before, AreDeclaredBefore}
 use Rattle.pl0_names.proofs.Order.{Within, behind_within, Chain, not_before, after_none}
 use Rattle.pl0_names.proofs.ReadPlaces.{use_places, constant_places, name_places, block_places, row_places, program_passed}
+use Rattle.std.proofs.lemmas.Grind.{common_steps}
 
 -- ---- chains of places
 
@@ -126,15 +127,7 @@ module _ (main : Block) where
   later_found : (p : Place) (xs : List Name) (j : ℕ) (w : List ℕ) (d : Declaration) → AllAfter p xs
       → find (λ d. bytes_eq d.name.word w) (declared_as AProcedure j xs) ≡ Some d → IsBefore p d.name.place
   later_found p [] j w d all is = cc
-  later_found p (x ∷ xs) j w d all is = by (bytes_eq x.word w) (later_found p xs (j + 1) w d all.1) is
-    where
-      by : (t : Bool) → (find (λ d. bytes_eq d.name.word w) (declared_as AProcedure (j + 1) xs) ≡ Some d
-          → IsBefore p d.name.place) →
-          cond t (Some (record { name = x; meaning = AProcedure j }))
-          (find (λ d. bytes_eq d.name.word w) (declared_as AProcedure (j + 1) xs)) ≡ Some d
-          → IsBefore p d.name.place
-      by true more here = let same : x ≡ d.name = cc in subst (λ (y : Name). IsBefore p y.place) same all.0
-      by false more there = more there
+  later_found p (x ∷ xs) j w d all is = grind (arith, common_steps, later_found p xs (j + 1) w d all.1)
 
   or_none : (o : Option Home) → or_else o None ≡ o
   or_none None = refl

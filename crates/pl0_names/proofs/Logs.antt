@@ -1,5 +1,5 @@
 -- What the log of declarations says of words and of blocks.
-use Rattle.pl0_names.proofs.Common.{[], add-one, ap, arith, at_level, Bool, both_ways, bytes_eq, bytes_eq-Decides, cases_eq, cond, declared_in, false, find, found_at, found_in, get_or, get_or_append_left, get_or_at, inl, inr, IsNested, latest, length, length-reverse, List, map, names, nat_eq, None, Option, option_map, option_or, or_declared, refl, reverse, reverse-append, Some, subst, suc, sym, true, zero, ℕ, ◌++◌, ◌+◌, ◌-◌, ◌<◌, ◌∙◌, ◌∷◌, ◌≡◌, ◌≤◌, ◌⊎◌}
+use Rattle.pl0_names.proofs.Common.{[], add-one, ap, arith, at_level, Bool, both_ways, bytes_eq, bytes_eq-Decides, cases_eq, cond, declared_in, false, find, found_at, found_in, get_or, inl, inr, IsNested, latest, length, List, map, names, nat_eq, None, Option, option_map, option_or, refl, reverse, reverse-append, Some, subst, suc, sym, true, zero, ℕ, ◌++◌, ◌+◌, ◌-◌, ◌<◌, ◌∙◌, ◌∷◌, ◌≡◌, ◌≤◌, ◌⊎◌}
 use Rattle.std.proofs.lemmas.Grind.{common_steps}
 use Rattle.pl0_names.specs.declared.log.Entry.{Entry}
 use Rattle.pl0_names.specs.declared.scopes.Found.{Found}
@@ -28,26 +28,21 @@ module _ {T : Type 0} where
 
   at_here : (m : ℕ) (e : Entry T) (es : List (Entry T)) → e.level ≡ m → at_level m (e ∷ es) ≡ (e.word.now, e.meaning)
       ∷ at_level m es
-  at_here m e es is =
-      ap (λ b. cond b ((e.word.now, e.meaning) ∷ at_level m es) (at_level m es)) (same_level e.level m is)
+  at_here m e es is = grind (arith, common_steps, same_level)
 
   at_other : (m : ℕ) (e : Entry T) (es : List (Entry T)) → (e.level ≡ m → ⊥) → at_level m (e ∷ es) ≡ at_level m es
-  at_other m e es not =
-      ap (λ b. cond b ((e.word.now, e.meaning) ∷ at_level m es) (at_level m es)) (other_level e.level m not)
+  at_other m e es not = grind (arith, common_steps, other_level)
 
   -- no declaration is of a block that is not open
   pub none_at : (n m : ℕ) (es : List (Entry T)) → n ≤ m → IsNested n es → at_level m es ≡ []
   none_at n m [] le nested = refl
   none_at n m (e ∷ es) le nested =
-      let first : e.level < n = nested.0 in
-      at_other m e es (λ is. omega arith) ∙ none_at (e.level + 1) m es (omega arith) nested.1
+      grind (arith, common_steps, none_at (e.level + 1) m es (omega arith) nested.1, at_other)
 
   -- a declaration is none of the blocks around its own
   pub outer_same : (m : ℕ) (e : Entry T) (es : List (Entry T)) → m ≤ e.level → blocks m (e ∷ es) ≡ blocks m es
   outer_same zero e es le = refl
-  outer_same (suc m) e es le =
-      ap (λ ds. ds ∷ blocks m (e ∷ es)) (at_other m e es (λ is. omega arith))
-      ∙ ap (λ bs. at_level m es ∷ bs) (outer_same m e es (omega arith))
+  outer_same (suc m) e es le = grind (arith, common_steps, outer_same m e es (omega arith), at_other)
 
   pub blocks_more : (n m : ℕ) (es : List (Entry T)) → n ≡ m + 1 → blocks n es ≡ at_level m es ∷ blocks m es
   blocks_more n m es is = ap (λ k. blocks k es) (is ∙ add-one m)
@@ -60,10 +55,7 @@ module _ {T : Type 0} where
 
   no_found : (k n : ℕ) (w : List ℕ) (es : List (Entry T)) → es ≡ [] → found_in k (map names (blocks n es)) w ≡ None
   no_found k zero w es is = refl
-  no_found k (suc n) w es is =
-      ap (λ ds. option_or (option_map (found_at k) (names (at_level n ds) w))
-      (found_in (k + 1) (map names (blocks n es)) w)) is ∙
-      no_found (k + 1) n w es is
+  no_found k (suc n) w es is = grind (arith, common_steps, no_found (k + 1) n w es is)
 
   put_here : (k n : ℕ) (b : Bool) (x : T) (ds : List (List ℕ × T)) (w : List ℕ) (r : Option (Found T)) → k ≡ n →
       option_or (option_map (found_at k) (cond b (Some x) (names ds w))) r ≡ cond b (Some (found_at n x))
@@ -122,99 +114,50 @@ module _ {T : Type 0} where
       (latest_entry es w)
   found_is n [] w nested = no_found 0 n w [] refl
   found_is n (e ∷ es) w nested =
-      let first : e.level < n = nested.0 in
-      found_put 0 n e es w first nested.1 ∙
-      found_here n (0 + (n - (e.level + 1))) (bytes_eq e.word.now w) e (found_in 0 (map names (blocks n es)) w)
-      (latest_entry es w) (omega arith) (found_is n es w (nested_more (e.level + 1) n es (omega arith) nested.1))
+      grind (arith, common_steps, found_is n es w (nested_more (e.level + 1) n es (omega arith) nested.1), found_put, found_here, nested_more)
 
   -- ---- indices
 
   last_read : (e d : Entry T) (es : List (Entry T)) → e ≡ get_or (reverse (e ∷ es)) (length es) d
-  last_read e d es =
-      sym (ap (λ xs. get_or xs (length es) d) (reverse-append (e ∷ []) es)
-      ∙ get_or_at (reverse es) e [] d (length es) (length-reverse es))
+  last_read e d es = grind (arith, common_steps)
 
   earlier_read : (e d : Entry T) (es : List (Entry T)) (i : ℕ) → i < length es
       → get_or (reverse es) i d ≡ get_or (reverse (e ∷ es)) i d
-  earlier_read e d es i lt =
-      sym (ap (λ xs. get_or xs i d) (reverse-append (e ∷ []) es)
-      ∙ get_or_append_left (reverse es) (e ∷ []) d i
-      (let long : length (reverse es) ≡ length es = length-reverse es in omega arith))
+  earlier_read e d es i lt = grind (arith, common_steps)
 
   pub latest_bound : (es : List (Entry T)) (w : List ℕ) (i : ℕ) → latest es w ≡ Some i → i < length es
   latest_bound [] w i is = cc
-  latest_bound (e ∷ es) w i is = at (bytes_eq e.word.now w) (latest_bound es w i) is
-    where
-      at : (b : Bool) → (latest es w ≡ Some i → i < length es) → cond b (Some (length es)) (latest es w) ≡ Some i
-          → i < suc (length es)
-      at true further same = let number : length es ≡ i = cc in omega arith
-      at false further same = let lt : i < length es = further same in omega arith
+  latest_bound (e ∷ es) w i is = grind (arith, common_steps, latest_bound es w i)
 
   -- the latest declaration stands at the latest index
   pub at_latest : (es : List (Entry T)) (w : List ℕ) (i : ℕ) (d : Entry T) → latest es w ≡ Some i
       → latest_entry es w ≡ Some (get_or (reverse es) i d)
   at_latest [] w i d is = cc
-  at_latest (e ∷ es) w i d is = at (bytes_eq e.word.now w) (at_latest es w i d) (latest_bound es w i) is
-    where
-      at : (b : Bool) → (latest es w ≡ Some i → latest_entry es w ≡ Some (get_or (reverse es) i d))
-          → (latest es w ≡ Some i → i < length es) →
-          cond b (Some (length es)) (latest es w) ≡ Some i → cond b (Some e) (latest_entry es w) ≡ Some
-          (get_or (reverse (e ∷ es)) i d)
-      at true further within same =
-          let number : length es ≡ i = cc in ap (λ x. Some x)
-          (last_read e d es ∙ ap (λ j. get_or (reverse (e ∷ es)) j d) number)
-      at false further within same = further same ∙ ap (λ x. Some x) (earlier_read e d es i (within same))
+  at_latest (e ∷ es) w i d is = grind (arith, common_steps, at_latest es w i d, latest_bound, last_read, earlier_read)
 
   pub nested_level : (n : ℕ) (es : List (Entry T)) (w : List ℕ) (x : Entry T) → IsNested n es
       → latest_entry es w ≡ Some x → x.level < n
   nested_level n [] w x nested is = cc
-  nested_level n (e ∷ es) w x nested is = at (bytes_eq e.word.now w) (nested_level (e.level + 1) es w x nested.1) is
-    where
-      at : (b : Bool) → (latest_entry es w ≡ Some x → x.level < e.level + 1)
-          → cond b (Some e) (latest_entry es w) ≡ Some x → x.level < n
-      at true further same =
-          let first : e.level < n = nested.0 in let it : e.level ≡ x.level = ap (λ y. y.level)
-          (let it : e ≡ x = cc in it) in omega arith
-      at false further same =
-          let first : e.level < n = nested.0 in let lt : x.level < e.level + 1 = further same in omega arith
+  nested_level n (e ∷ es) w x nested is = grind (arith, common_steps, nested_level (e.level + 1) es w x nested.1)
 
   pub none_latest : (es : List (Entry T)) (w : List ℕ) → latest es w ≡ None → latest_entry es w ≡ None
   none_latest [] w is = refl
-  none_latest (e ∷ es) w is = at (bytes_eq e.word.now w) (none_latest es w) is
-    where
-      at : (b : Bool) → (latest es w ≡ None → latest_entry es w ≡ None) → cond b (Some (length es)) (latest es w) ≡ None
-          → cond b (Some e) (latest_entry es w) ≡ None
-      at true further same = cc
-      at false further same = further same
+  none_latest (e ∷ es) w is = grind (arith, common_steps, none_latest es w)
 
   -- what a declaration hid is the latest again
   pub restored : (e : Entry T) (es : List (Entry T)) (w : List ℕ) → e.hidden ≡ latest es e.word.now →
       cond (bytes_eq e.word.now w) e.hidden (latest (e ∷ es) w) ≡ latest es w
-  restored e es w linked = at (bytes_eq e.word.now w) (bytes_eq-Decides e.word.now w).0
-    where
-      at : (b : Bool) → (b ≡ true → e.word.now ≡ w) → cond b e.hidden (cond b (Some (length es)) (latest es w)) ≡ latest
-          es w
-      at true same = linked ∙ ap (latest es) (same refl)
-      at false same = refl
+  restored e es w linked = grind (arith, common_steps, bytes_eq-Decides)
 
   -- ---- one block more, one declaration more
 
   put_none : (m : ℕ) (e : Entry T) (es : List (Entry T)) (w : List ℕ) → bytes_eq e.word.now w ≡ false
       → names (at_level m es) w ≡ None → names (at_level m (e ∷ es)) w ≡ None
-  put_none m e es w is none = at (nat_eq e.level m)
-    where
-      at : (h : Bool) → names (cond h ((e.word.now, e.meaning) ∷ at_level m es) (at_level m es)) w ≡ None
-      at true = ap (λ b. cond b (Some e.meaning) (names (at_level m es) w)) is ∙ none
-      at false = none
+  put_none m e es w is none = grind (arith, common_steps)
 
   pub not_at : (m : ℕ) (es : List (Entry T)) (w : List ℕ) → latest_entry es w ≡ None → names (at_level m es) w ≡ None
   not_at m [] w none = refl
-  not_at m (e ∷ es) w none = at (bytes_eq e.word.now w) refl (not_at m es w) none
-    where
-      at : (b : Bool) → bytes_eq e.word.now w ≡ b → (latest_entry es w ≡ None → names (at_level m es) w ≡ None)
-          → cond b (Some e) (latest_entry es w) ≡ None → names (at_level m (e ∷ es)) w ≡ None
-      at true is further same = cc
-      at false is further same = put_none m e es w is (further same)
+  not_at m (e ∷ es) w none = grind (arith, common_steps, not_at m es w, put_none)
 
   -- the innermost block declares what its declaration is the latest of
   pub named_at : (m : ℕ) (es : List (Entry T)) (w : List ℕ) (x : Entry T) → latest_entry es w ≡ Some x → x.level ≡ m
@@ -255,41 +198,16 @@ module _ {T : Type 0} where
 
   put_declared : (m : ℕ) (e : Entry T) (es : List (Entry T)) → e.level ≡ m → names (at_level m es) e.word.now ≡ None →
       map names (blocks (suc m) (e ∷ es)) ≡ declared_in (map names (blocks (suc m) es)) e.word.now e.meaning
-  put_declared m e es level none =
-      ap (λ ds. names ds ∷ map names (blocks m (e ∷ es))) (at_here m e es level) ∙
-      ap (λ bs. names ((e.word.now, e.meaning) ∷ at_level m es) ∷ map names bs) (outer_same m e es (omega arith)) ∙
-      ap (λ f. f ∷ map names (blocks m es)) (λ i w. each w i)
-    where
-      at : (w : List ℕ) (b : Bool) → (b ≡ true → e.word.now ≡ w)
-          → cond b (Some e.meaning) (names (at_level m es) w) ≡ option_or (names (at_level m es) w)
-          (cond b (Some e.meaning) None)
-      at w true same =
-          sym (ap (λ o. option_or o (Some e.meaning)) (ap (names (at_level m es)) (sym (same refl)) ∙ none))
-      at w false same = sym (or_none (names (at_level m es) w))
-
-      each : (w : List ℕ) → names ((e.word.now, e.meaning) ∷ at_level m es) w ≡ or_declared (names (at_level m es))
-          e.word.now e.meaning w
-      each w = at w (bytes_eq e.word.now w) (bytes_eq-Decides e.word.now w).0
+  put_declared m e es level none = grind (arith, common_steps, at_here, outer_same, bytes_eq-Decides)
 
   stays_declared : (m : ℕ) (es : List (Entry T)) (word : List ℕ) (d x : T) → names (at_level m es) word ≡ Some x →
       map names (blocks (suc m) es) ≡ declared_in (map names (blocks (suc m) es)) word d
-  stays_declared m es word d x some =
-      ap (λ f. f ∷ map names (blocks m es)) (λ i w. at w (bytes_eq word w) (bytes_eq-Decides word w).0 i)
-    where
-      at : (w : List ℕ) (b : Bool) → (b ≡ true → word ≡ w) → names (at_level m es) w ≡ option_or
-          (names (at_level m es) w) (cond b (Some d) None)
-      at w true same =
-          let here : names (at_level m es) w ≡ Some x = ap (names (at_level m es)) (sym (same refl)) ∙ some in here
-          ∙ sym (ap (λ o. option_or o (Some d)) here)
-      at w false same = sym (or_none (names (at_level m es) w))
+  stays_declared m es word d x some = grind (arith, common_steps, bytes_eq-Decides)
 
   pub declared_new : (n m : ℕ) (e : Entry T) (es es' : List (Entry T)) → n ≡ m + 1 → e.level ≡ m → es' ≡ e ∷ es
       → names (at_level m es) e.word.now ≡ None →
       map names (blocks n es') ≡ declared_in (map names (blocks n es)) e.word.now e.meaning
-  declared_new n m e es es' more level is none =
-      ap (λ xs. map names (blocks n xs)) is ∙
-      subst (λ k. map names (blocks k (e ∷ es)) ≡ declared_in (map names (blocks k es)) e.word.now e.meaning)
-      (sym (more ∙ add-one m)) (put_declared m e es level none)
+  declared_new n m e es es' more level is none = grind (arith, common_steps, put_declared)
 
   pub declared_old : (n m : ℕ) (es : List (Entry T)) (word : List ℕ) (d x : T) → n ≡ m + 1
       → names (at_level m es) word ≡ Some x →

@@ -5,6 +5,7 @@ use Rattle.pl0_tree.specs.Tree.{AProcedure as AndProcedure}
 use Rattle.pl0_tree.specs.declared.tree.Block.{Block as DeclaredBlock}
 use Rattle.pl0_names.specs.declared.scope.Meaning.{Meaning as Kept}
 use Rattle.pl0_names.proofs.Lookup.{depth, nestings_lengths, read_at, same_path, main_found, outer_shallower, outer_within}
+use Rattle.std.proofs.lemmas.Grind.{common_steps}
 
 -- ---- a path is shorter than the list of all
 
@@ -22,11 +23,7 @@ below_append n (p ∷ ps) qs first second = (first.0, below_append n ps qs first
 
 mutual
   block_short : (b : Block) (q : Path) → AreBelow (length q + length (block_paths b q)) (block_paths b q)
-  block_short (ABlock cs xs row body end) q =
-      let ps = procedures_paths row 0 q in
-      let n = length q + length (ps ++ q ∷ []) in
-      below_append n ps (q ∷ []) (below_more (length q + length ps + 1) n ps (omega (arith, length-append ps (q ∷ [])))
-      (row_short row 0 q)) (omega (arith, length-append ps (q ∷ [])), tt)
+  block_short (ABlock cs xs row body end) q = grind (arith, common_steps, row_short row 0 q, below_append, below_more)
 
   row_short : (row : Procedures) (i : ℕ) (q : Path) → AreBelow (length q + length (procedures_paths row i q) + 1)
       (procedures_paths row i q)
@@ -47,9 +44,7 @@ below_at n (p ∷ qs) zero q all e = let same : p ≡ q = cc in let lt = all.0 i
 below_at n (p ∷ qs) (suc k) q all e = below_at n qs k q all.1 e
 
 path_short : (main : Block) (n : ℕ) (q : Path) → slice_get (blocks main) n ≡ Some q → length q < length (blocks main)
-path_short main n q e =
-    let lt = below_at (length {A = ℕ} [] + length (blocks main)) (blocks main) n q (block_short main []) e in omega
-    (arith, lt)
+path_short main n q e = grind (arith, common_steps, below_at, block_short)
 
 -- ---- the walk
 
@@ -92,9 +87,7 @@ module _ (main : Block) (table : List (Option Nesting)) (nested : AreNestings ma
   declared_home : (q : Path) (d : Declaration) → option_and_then (first_declaration w) (block_at main q) ≡ Some d
       → home main q w ≡ Some (record { path = q; declaration = d })
   declared_home [] d first = ap (λ o. option_map (λ (e : Declaration). record { path = []; declaration = e }) o) first
-  declared_home (i ∷ q) d first =
-      ap (λ o. or_else (option_map (λ (e : Declaration). record { path = i ∷ q; declaration = e }) o) (home main q w))
-      first
+  declared_home (i ∷ q) d first = grind (arith, common_steps)
 
   pub found_here : (b : Bor DeclaredBlock)
       (meaning : Kept) → ((r : Path) → slice_get (blocks main) n ≡ Some r → block_at main r ≡ Some (plain_block b.now))

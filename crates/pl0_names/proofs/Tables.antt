@@ -1,47 +1,34 @@
 -- What the map of indices says, beside the log.
-use Rattle.pl0_names.proofs.Common.{ap, arith, blocks_of, Bool, both_ways, bytes_eq, bytes_eq-Decides, cond, ends_at, eqb-true, Err, found_at, found_in, get_or, index_of, is_some, IsIndexed, IsLinked, IsNested, IsSome, IsTable, latest, length, length-reverse, List, None, Ok, OnErr, OnOk, Option, option_map, refl, Result, reverse, reverse-reverse, rules, Some, subst, sym, true, ℕ, ◌+◌, ◌-◌, ◌<◌, ◌∙◌, ◌∷◌, ◌≡◌}
+use Rattle.pl0_names.proofs.Common.{ap, arith, blocks_of, Bool, both_ways, bytes_eq, bytes_eq-Decides, cond, ends_at, Err, found_at, found_in, get_or, index_of, is_some, IsIndexed, IsLinked, IsNested, IsSome, IsTable, latest, length, List, None, Ok, OnErr, OnOk, Option, Result, reverse, reverse-reverse, Some, subst, sym, true, ℕ, ◌+◌, ◌-◌, ◌<◌, ◌∙◌, ◌∷◌, ◌≡◌}
 use Rattle.std.specs.Map.{update}
 use Rattle.std.specs.HashMap.{HashMap}
 use denote.Ref.{Bor}
 use Rattle.pl0_names.specs.declared.log.Entry.{Entry}
 use Rattle.pl0_names.specs.Logs.{blocks}
 use Rattle.pl0_names.proofs.Logs.{restored, nested_more, outer_same, latest_entry, at_latest, latest_bound, found_is, none_latest, nested_level}
+use Rattle.std.proofs.lemmas.Grind.{common_steps}
 
 module _ {T : Type 0} where
   pub cut_outer : (n : ℕ) (e : Entry T) (es es' : List (Entry T)) → es' ≡ e ∷ es → ends_at n es' ≡ true
       → blocks n es ≡ blocks n es'
-  cut_outer n e es es' is ends =
-      let here : e.level ≡ n = eqb-true e.level n (ap (ends_at n) (sym is) ∙ ends) in
-      sym (ap (blocks n) is ∙ outer_same n e es (omega arith))
+  cut_outer n e es es' is ends = grind (arith, common_steps, outer_same)
 
   pub ends_read : (n : ℕ) (b : Bool) (xs ys : List (Entry T)) → b ≡ ends_at n (reverse xs) → xs ≡ ys → b ≡ true
       → ends_at n (reverse ys) ≡ true
   ends_read n b xs ys is same holds = sym (is ∙ ap (λ zs. ends_at n (reverse zs)) same) ∙ holds
 
   pub cut_nested : (n : ℕ) (e : Entry T) (es es' : List (Entry T)) → es' ≡ e ∷ es → IsNested n es' → IsNested n es
-  cut_nested n e es es' is nested =
-      let both : IsNested n (e ∷ es) = subst (IsNested n) is nested in
-      let first : e.level < n = both.0 in
-      nested_more (e.level + 1) n es (omega arith) both.1
+  cut_nested n e es es' is nested = grind (arith, common_steps, nested_more)
 
 module _ {S T : Type 0} where
   pub put_indexed : (m m' : HashMap (Bor (List ℕ)) ℕ S) (e : Entry T) (es es' : List (Entry T)) (at : ℕ)
       → IsIndexed m es → e.hidden ≡ latest es e.word.now → es' ≡ e ∷ es → at ≡ length es →
       ((w : List ℕ) → index_of m' w ≡ update bytes_eq (index_of m) e.word.now (Some at) w) → IsIndexed m' es'
-  put_indexed m m' e es es' at indexed hidden grown last updated = subst (λ xs. IsIndexed m' xs) (sym grown) (record {
-    latest_of = λ w.
-        updated w ∙ ap (λ o. cond (bytes_eq e.word.now w) (Some at) o) (indexed.latest_of w) ∙
-        ap (λ n. cond (bytes_eq e.word.now w) (Some n) (latest es w)) last;
-    linked = (hidden, indexed.linked);
-  })
+  put_indexed m m' e es es' at indexed hidden grown last updated = grind (arith, common_steps)
 
   pub has_index : (m : HashMap (Bor (List ℕ)) ℕ S) (e : Entry T) (es es' : List (Entry T)) → IsIndexed m es' → es' ≡ e
       ∷ es → IsSome (index_of m e.word.now)
-  has_index m e es es' indexed is =
-      let has : index_of m e.word.now ≡ Some (length es) =
-      indexed.latest_of e.word.now ∙ ap (λ xs. latest xs e.word.now) is ∙
-      ap (λ b. cond b (Some (length es)) (latest es e.word.now)) ((bytes_eq-Decides e.word.now e.word.now).1 refl) in
-      subst IsSome (sym has) (search rules)
+  has_index m e es es' indexed is = grind (arith, common_steps, bytes_eq-Decides)
 
   pub cut_indexed : (m m' : HashMap (Bor (List ℕ)) ℕ S) (e : Entry T) (es es' : List (Entry T)) → IsIndexed m es'
       → es' ≡ e ∷ es →
@@ -58,9 +45,7 @@ module _ {S T : Type 0} where
 
   pub has_place : (m : HashMap (Bor (List ℕ)) ℕ S) (items : List (Entry T)) (w : List ℕ) (i : ℕ)
       → IsIndexed m (reverse items) → index_of m w ≡ Some i → i < length items
-  has_place m items w i indexed is =
-      let lt : i < length (reverse items) = latest_bound (reverse items) w i (sym (indexed.latest_of w) ∙ is) in
-      omega (arith, length-reverse items)
+  has_place m items w i indexed is = grind (arith, common_steps, latest_bound)
 
   pub latest_read : (m : HashMap (Bor (List ℕ)) ℕ S) (items : List (Entry T)) (w : List ℕ) (i : ℕ) (e : Entry T)
       → IsIndexed m (reverse items) → index_of m w ≡ Some i →
@@ -73,19 +58,14 @@ module _ {S T : Type 0} where
   pub found_none : (n : ℕ) (m : HashMap (Bor (List ℕ)) ℕ S) (es : List (Entry T)) (stack : List (List (List ℕ × T)))
       (w : List ℕ) → IsTable n m es → blocks n es ≡ stack →
       index_of m w ≡ None → found_in 0 (blocks_of stack) w ≡ None
-  found_none n m es stack w table view none =
-      ap (λ s. found_in 0 (blocks_of s) w) (sym view) ∙ found_is n es w table.nested ∙
-      ap (option_map (λ e. found_at (n - (e.level + 1)) e.meaning))
-      (none_latest es w (sym (table.indexed.latest_of w) ∙ none))
+  found_none n m es stack w table view none = grind (arith, common_steps, found_is, none_latest)
 
   -- and one that it has is found as it is declared at that index
   pub found_some : (n : ℕ) (m : HashMap (Bor (List ℕ)) ℕ S) (items : List (Entry T)) (stack : List (List (List ℕ × T)))
       (w : List ℕ) (i : ℕ) (e : Entry T) → IsTable n m (reverse items) →
       blocks n (reverse items) ≡ stack → index_of m w ≡ Some i → e ≡ get_or items i e
       → found_in 0 (blocks_of stack) w ≡ Some (found_at (n - (e.level + 1)) e.meaning)
-  found_some n m items stack w i e table view is read =
-      ap (λ s. found_in 0 (blocks_of s) w) (sym view) ∙ found_is n (reverse items) w table.nested ∙
-      ap (option_map (λ e. found_at (n - (e.level + 1)) e.meaning)) (latest_read m items w i e table.indexed is read)
+  found_some n m items stack w i e table view is read = grind (arith, common_steps, found_is, latest_read)
 
   -- it is of an open block
   pub level_below : (n : ℕ) (m : HashMap (Bor (List ℕ)) ℕ S) (items : List (Entry T)) (w : List ℕ) (i : ℕ) (e : Entry T)
