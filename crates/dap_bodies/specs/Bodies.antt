@@ -98,6 +98,14 @@ evaluated value reference =
     object (member (codes "result") (string value)
     (member (codes "variablesReference") (number (unsigned reference)) no_members))
 
+-- ---- faults
+
+-- the body for `exceptionInfo`: which fault it is, and what that means; the debuggee stops at each
+abbrev pub exception_info : List ℕ → List ℕ → Data
+exception_info id description =
+    object (member (codes "breakMode") (string (codes "always")) (member (codes "description") (string description)
+    (member (codes "exceptionId") (string id) no_members)))
+
 -- ---- threads
 
 -- the body for `threads`: the one thread, and its name

@@ -29,5 +29,5 @@ mod values;
 pub use events::{THREAD, exited, initialized, output, stopped, terminated};
 pub use placing::{Breakpoint, breakpoints};
 pub use showing::{
-    Scope, StackFrame, Variable, evaluated, scopes, stack_trace, threads, variables,
+    Scope, StackFrame, Variable, evaluated, exception_info, scopes, stack_trace, threads, variables,
 };

@@ -2,7 +2,7 @@
 
 ghost use Rattle.std.specs.Prelude.{◌≡◌, IfOk, codes, map, string_bytes};
 ghost use Rattle.serde_json.specs.View.{view};
-ghost use Rattle.dap_bodies.specs.Bodies.{plain_frame, stack_trace, plain_scope, scopes, plain_variable, variables, evaluated, threads, body_of, stack_body};
+ghost use Rattle.dap_bodies.specs.Bodies.{plain_frame, stack_trace, plain_scope, scopes, plain_variable, variables, evaluated, exception_info, threads, body_of, stack_body};
 
 use crate::events::THREAD;
 use crate::values::{Shown, array_of};
@@ -145,6 +145,13 @@ pub fn evaluated(alloc: Global, value: String, reference: u64) -> Result<Value, 
     ensures { IfOk result (λ body. view body ≡ evaluated (string_bytes value) reference) }
 {
     json!(in alloc; {"result": value, "variablesReference": reference})
+}
+
+/// Returns the body for `exceptionInfo`: which fault it is, and what that means. The debuggee stops at each fault.
+pub fn exception_info(alloc: Global, id: &str, description: &str) -> Result<Value, AllocError>
+    ensures { IfOk result (λ body. view body ≡ exception_info id.now description.now) }
+{
+    json!(in alloc; {"breakMode": "always", "description": description, "exceptionId": id})
 }
 
 /// Returns the body for `threads`: the one thread, and its name.
