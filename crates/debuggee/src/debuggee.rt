@@ -51,7 +51,8 @@ pub trait Debuggee {
     fn depth(&self) -> usize
         ensures { result ≡ sees.depth_of self.now };
 
-    /// Evaluates an expression in a frame, of which the newest is 0.
+    /// Evaluates an expression in a frame, of which the newest is 0. Conditions and messages are evaluated in frame 0, also
+    /// where no frame is alive.
     ///
     /// # Errors
     ///
