@@ -251,10 +251,11 @@ class Player:
             "none": ["launch"],
             "configuring": [*["setBreakpoints"] * 3, "configurationDone"],
             "running": ["pause"],
-            "stopped": [*["continue", "next", "stepIn"] * 3, *RESUMING, *INSPECTING, "setBreakpoints"],
+            "stopped": [*["continue", "next", "stepIn"] * 3, *RESUMING, *INSPECTING, "exceptionInfo",
+                        "setBreakpoints"],
         }.get(phase, ["threads"])
         any_time = ["launch", "setBreakpoints", "configurationDone", "pause", "threads", "terminate", "restart",
-                    "initialize", *RESUMING, *INSPECTING]
+                    "initialize", "exceptionInfo", *RESUMING, *INSPECTING]
         command = self.make.choice(timely if self.make.random() < 0.85 else any_time)
         return command, self.arguments(command)
 

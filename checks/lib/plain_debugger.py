@@ -68,6 +68,7 @@ class World(NamedTuple):
     program: Program = NOTHING
     state: State = State()
     mode: tuple[str, int] = ("continue", 0)
+    fault: str | None = None
     breakpoints: tuple[Breakpoint, ...] = ()
     pending: tuple[str, ...] = ()
 
@@ -147,7 +148,7 @@ def advance(world: World) -> tuple[list[dict], World]:
     if told.ends:
         return ENDED, gone(world)
     if told.fault is not None:
-        return [stopped("exception", told.fault)], world.having(phase="stopped")
+        return [stopped("exception", told.fault)], world.having(phase="stopped", fault=told.fault)
     events = [] if told.printed is None else [output("stdout", told.printed)]
     more, after = arrive(world.having(state=state))
     return events + more, after
@@ -155,7 +156,7 @@ def advance(world: World) -> tuple[list[dict], World]:
 
 def gone(world: World) -> World:
     """The same with no program."""
-    return world.having(phase="none", entry=False, program=NOTHING, state=State(), mode=("continue", 0))
+    return world.having(phase="none", entry=False, program=NOTHING, state=State(), mode=("continue", 0), fault=None)
 
 
 def silent(worlds: Iterable[World]) -> set[World]:
@@ -247,6 +248,7 @@ CAPABILITIES = {
     "supportsConditionalBreakpoints": True,
     "supportsConfigurationDoneRequest": True,
     "supportsEvaluateForHovers": True,
+    "supportsExceptionInfoRequest": True,
     "supportsHitConditionalBreakpoints": True,
     "supportsLogPoints": True,
     "supportsTerminateRequest": True,
@@ -353,7 +355,7 @@ def resume(world: World, command: str) -> tuple[dict | None, list[dict], World]:
     body = {"allThreadsContinued": True} if command == "continue" else None
     # Only these look at where the run began: the others are one world wherever it did.
     depth = world.depth() if mode in ("over", "out") else 0
-    told, after = advance(world.having(phase="running", mode=(mode, depth)))
+    told, after = advance(world.having(phase="running", mode=(mode, depth), fault=None))
     return body, told, after
 
 
@@ -373,13 +375,21 @@ def threads(world: World, given: dict, folder: str) -> tuple[dict | None, list[d
     return {"threads": [{"id": 1, "name": "main"}]}, [], world
 
 
+def exception_info(world: World, given: dict, folder: str) -> tuple[dict | None, list[dict], World]:
+    if world.phase != "stopped" or world.fault is None:
+        raise Refused("the program hasn't stopped at a fault")
+    body = {"breakMode": "always", "description": "the next step can't be taken", "exceptionId": world.fault}
+    return body, [], world
+
+
 def disconnect(world: World, given: dict, folder: str) -> tuple[dict | None, list[dict], World]:
     return None, [], world.having(phase="left")
 
 
 GRANTS = {
     "initialize": initialize, "launch": launch, "setBreakpoints": set_breakpoints, "configurationDone": start,
-    "pause": pause, "terminate": terminate, "threads": threads, "disconnect": disconnect,
+    "pause": pause, "terminate": terminate, "threads": threads, "exceptionInfo": exception_info,
+    "disconnect": disconnect,
 }
 
 

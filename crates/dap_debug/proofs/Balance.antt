@@ -18,7 +18,7 @@ use Rattle.dap_debug.specs.declared.state.Phase.{Phase}
 use Rattle.dap_debug.specs.declared.state.Phase.TheVariants as phase
 use Rattle.dap_debug.specs.Breakpoints.{SetsIn, Own, Other, SetsOnly, SetsFrom}
 use Rattle.dap_debug.specs.Arguments.{text_at}
-use Rattle.dap_debug.specs.Inspecting.{ShowsScopes, ShowsScope, ShowsVariables, Evaluates, Shows, ShowsFrom, frame_asked, frame_limit, frame_of_reference, frame_to_evaluate, index_of_reference, reference_asked, reply_of}
+use Rattle.dap_debug.specs.Inspecting.{ShowsScopes, ShowsScope, ShowsVariables, Evaluates, Shows, ShowsFrom, ExplainsFrom, frame_asked, frame_limit, frame_of_reference, frame_to_evaluate, index_of_reference, reference_asked, reply_of}
 use Rattle.dap_debug.specs.Loading.{LoadsAs, LoadsGiven, LoadsAt, LoadsFrom}
 use Rattle.dap_debug.specs.Shown.{PlainFrame, PlainScope}
 use Rattle.dap_debug.specs.Replies.{Known, Replies}
@@ -265,6 +265,14 @@ inspects_quiet sees frame_of variables_of (phase.Configuring a stop_on_entry) as
     no_events reply _ is.1 refl
 inspects_quiet sees frame_of variables_of phase.NoProgram asked arguments path reply is = no_events reply _ is.1 refl
 
+explains_quiet : {S : Type 0} (p : Phase S) (fault : Option (List ℕ)) (reply : PlainReply)
+    → ExplainsFrom p fault reply → reply.events ≡ []
+explains_quiet (phase.Stopped a) (Some why) reply is = no_events reply _ is refl
+explains_quiet (phase.Stopped a) None reply is = no_events reply _ is.1 refl
+explains_quiet (phase.Running a how) fault reply is = no_events reply _ is.1 refl
+explains_quiet (phase.Configuring a stop_on_entry) fault reply is = no_events reply _ is.1 refl
+explains_quiet phase.NoProgram fault reply is = no_events reply _ is.1 refl
+
 -- ---- all
 
 pub replies_balanced : {S : Type 0} (known : Known S) (asked : Command) (arguments : Option Data)
@@ -292,6 +300,10 @@ replies_balanced known command.Terminate arguments stood stands reply is =
 replies_balanced known (command.Inspect asked) arguments stood stands reply is =
     let none = inspects_quiet known.sees known.frame_of known.variables_of stood.phase asked arguments stood.path reply
     is.0 in
+    let so = still stood stands reply.events stood.phase none is.1 refl in
+    omega (arith, so)
+replies_balanced known command.ExceptionInfo arguments stood stands reply is =
+    let none = explains_quiet stood.phase stood.fault reply is.0 in
     let so = still stood stands reply.events stood.phase none is.1 refl in
     omega (arith, so)
 replies_balanced known command.Disconnect arguments stood stands reply is =

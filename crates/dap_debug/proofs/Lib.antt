@@ -2,6 +2,8 @@
 mod Arriving
 -- Each run ends once; for `debug_laws`.
 mod Balance
+-- Identifiers and references lead back; for `shown_laws`.
+mod Found
 -- What is shown and set one after another; for `inspecting` and `breakpoints`.
 mod Further
 -- What a file gave is loaded, or refused; for `launch`.

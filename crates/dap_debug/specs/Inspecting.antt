@@ -1,7 +1,7 @@
 -- Defines what questions show of a program where it stands.
 use Rattle.std.specs.Prelude.{◌≡◌, ◌+◌, ◌-◌, ◌*◌, ◌/◌, ◌%◌, ◌^◌, ◌&&◌, ℕ, min, nat_eq, nat_le, List, [], ◌∷◌, map, length, take, slice_get, codes, if◌then◌else◌, Option, None, Some, option_and_then, unwrap_or}
 use Rattle.serde_json.specs.Data.{Data}
-use Rattle.dap_bodies.specs.Bodies.{PlainFrame as ShownFrame, stack_trace, PlainScope as ShownScope, scopes, PlainVariable as ShownVariable, variables, evaluated}
+use Rattle.dap_bodies.specs.Bodies.{PlainFrame as ShownFrame, stack_trace, PlainScope as ShownScope, scopes, PlainVariable as ShownVariable, variables, evaluated, exception_info}
 use Rattle.dap_server.specs.Messages.{PlainReply}
 use Rattle.debuggee.specs.Plain.{PlainEvaluated, Value, NoValue}
 use Rattle.debuggee.specs.Due.{Sight}
@@ -136,6 +136,17 @@ abbrev pub Evaluates : {S : Type 0} → Sight S → Option (List ℕ) → Option
 Evaluates sees (Some expression) (Some frame) program reply =
     reply ≡ reply_of (sees.value_of program frame expression)
 Evaluates sees _ _ program reply = Refuses reply
+
+-- ---- faults
+
+-- why the next step can't be taken is told where the program has stopped at a fault, and elsewhere that is refused
+abbrev pub ExplainsFrom : {S : Type 0} → Phase S → Option (List ℕ) → PlainReply → Type 0
+ExplainsFrom (phase.Stopped program) (Some why) reply =
+    reply ≡ success (Some (exception_info why (codes "the next step can't be taken"))) []
+ExplainsFrom _ _ reply = Refuses reply
+
+abbrev pub Explains : {S : Type 0} → Standing S → PlainReply → Type 0
+Explains stood reply = ExplainsFrom stood.phase stood.fault reply
 
 -- ---- all questions
 

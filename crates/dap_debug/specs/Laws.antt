@@ -1,5 +1,6 @@
--- States what holds of each session: each run ends once, and each byte that is printed or said is told, in order.
-use Rattle.std.specs.Prelude.{◌≡◌, ◌+◌, ◌||◌, ℕ, Bool, true, false, List, [], ◌∷◌, map, codes, Option, if◌then◌else◌}
+-- States what holds of each session: each run ends once; each byte that is printed or said is told, in order; and the
+-- identifiers and references that are shown lead back to what they were shown of.
+use Rattle.std.specs.Prelude.{◌≡◌, ◌<◌, ◌+◌, ◌||◌, ℕ, Bool, true, false, List, [], ◌∷◌, map, codes, Option, Some, if◌then◌else◌}
 use Rattle.std.specs.List.{flat_map}
 use Rattle.std.specs.Str.{bytes_eq}
 use Rattle.serde_json.specs.Data.{Data}
@@ -11,8 +12,10 @@ use Rattle.dap_debug.specs.declared.command.Command.{Command}
 use Rattle.dap_debug.specs.declared.command.Command.TheVariants as command
 use Rattle.dap_debug.specs.declared.state.Phase.{Phase}
 use Rattle.dap_debug.specs.declared.state.Phase.TheVariants as phase
+use Rattle.dap_debug.specs.Inspecting.{frame_of_reference, frame_with, index_of_reference, scope_limit, shown_frame, shown_scope}
 use Rattle.dap_debug.specs.Replies.{Known, Replies}
 use Rattle.dap_debug.specs.Running.{WorksOn}
+use Rattle.dap_debug.specs.Shown.{PlainFrame, PlainScope}
 use Rattle.dap_debug.specs.Standings.{Standing}
 use Rattle.dap_debug.specs.Telling.{merged}
 
@@ -73,3 +76,18 @@ Alternates (first ∷ others) = Differs first others × Alternates others
 abbrev pub TextsAreKept : Type 0
 TextsAreKept =
     (told : List PlainOutput) → (flat_map bytes_of (merged told) ≡ flat_map bytes_of told) × Alternates (merged told)
+
+-- ---- identifiers and references
+
+-- the identifier that is shown of a frame is that frame's
+abbrev pub FramesAreFound : Type 0
+FramesAreFound =
+    (path : List ℕ) (many index : ℕ) (frame : PlainFrame) → index < many
+    → frame_with many (shown_frame path index frame).id ≡ Some index
+
+-- the reference that is shown of a scope is that of its frame and its index
+abbrev pub ScopesAreFound : Type 0
+ScopesAreFound =
+    (many frame index : ℕ) (scope : PlainScope) → frame < many → index < scope_limit
+    → (frame_of_reference many (shown_scope frame index scope).reference ≡ Some frame)
+    × (index_of_reference (shown_scope frame index scope).reference ≡ index)

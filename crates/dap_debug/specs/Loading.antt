@@ -10,13 +10,14 @@ use Rattle.dap_debug.specs.Arguments.{text_at, truth_at}
 use Rattle.dap_debug.specs.Running.{success, refusal, IsQuiet}
 use Rattle.dap_debug.specs.Standings.{Standing}
 
--- A program is loaded, and waits to be started, as the arguments say; its path is that among them, and no breakpoint is
--- set in it.
+-- A program is loaded, and waits to be started, as the arguments say; its path is that among them, no fault has come,
+-- and no breakpoint is set in it.
 pub record IsLoaded {S : Type 0} (arguments : Option Data) (program : S) (reply : PlainReply) (stands : Standing S)
     : Type 0 where
   pub reply_is : reply ≡ success None (initialized ∷ [])
   pub path_is : text_at (codes "program") arguments ≡ Some stands.path
   pub phase_is : stands.phase ≡ phase.Configuring program (truth_at (codes "stopOnEntry") arguments)
+  pub no_fault : stands.fault ≡ None
   pub none_set : stands.breakpoints ≡ []
 
 -- what a text is, by its language: a program, or a mistake, with which the launch is refused

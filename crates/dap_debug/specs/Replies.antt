@@ -9,7 +9,7 @@ use Rattle.dap_debug.specs.declared.command.Command.{Command}
 use Rattle.dap_debug.specs.declared.command.Command.TheVariants as command
 use Rattle.dap_debug.specs.declared.language.Location.{Location}
 use Rattle.dap_debug.specs.Breakpoints.{Sets}
-use Rattle.dap_debug.specs.Inspecting.{Inspects}
+use Rattle.dap_debug.specs.Inspecting.{Explains, Inspects}
 use Rattle.dap_debug.specs.Loading.{Loads}
 use Rattle.dap_debug.specs.Running.{success, refusal, IsQuiet, Starts, Resumes, Pauses, Terminates}
 use Rattle.dap_debug.specs.Shown.{PlainFrame, PlainScope}
@@ -30,9 +30,10 @@ capabilities =
     object (member (codes "supportsConditionalBreakpoints") (boolean true)
     (member (codes "supportsConfigurationDoneRequest") (boolean true)
     (member (codes "supportsEvaluateForHovers") (boolean true)
+    (member (codes "supportsExceptionInfoRequest") (boolean true)
     (member (codes "supportsHitConditionalBreakpoints") (boolean true)
     (member (codes "supportsLogPoints") (boolean true)
-    (member (codes "supportsTerminateRequest") (boolean true) no_members))))))
+    (member (codes "supportsTerminateRequest") (boolean true) no_members)))))))
 
 -- what is replied to a command with these arguments
 abbrev pub Replies : {S : Type 0} → Known S → Command → Option Data → Standing S → PlainReply → Standing S → Type 0
@@ -51,6 +52,7 @@ Replies known command.Pause arguments stood reply stands = Pauses stood reply st
 Replies known command.Terminate arguments stood reply stands = Terminates stood reply stands
 Replies known (command.Inspect asked) arguments stood reply stands =
     Inspects known.sees known.frame_of known.variables_of asked arguments stood reply × (stands ≡ stood)
+Replies known command.ExceptionInfo arguments stood reply stands = Explains stood reply × (stands ≡ stood)
 Replies known command.Disconnect arguments stood reply stands = IsQuiet (success None []) stood reply stands
 Replies known command.Unsupported arguments stood reply stands =
     IsQuiet (refusal (codes "unsupported")) stood reply stands

@@ -3,7 +3,7 @@ use Rattle.std.specs.Prelude.{◌≡◌, ℕ, true, false, List, [], ◌∷◌, 
 use Rattle.serde_json.specs.Data.{Data, boolean, object, no_members, member}
 use Rattle.dap_server.specs.Messages.{PlainEvent, PlainReply}
 use Rattle.dap_bodies.specs.Events.{stopped, exited, terminated}
-use Rattle.debuggee.specs.Plain.{PlainBreakpoint, PlainHalt, AtEnd, PlainOutput}
+use Rattle.debuggee.specs.Plain.{PlainBreakpoint, PlainHalt, AtEnd, AtFault, PlainOutput}
 use Rattle.debuggee.specs.Due.{Sight}
 use Rattle.debuggee.specs.Runs.{Meaning, Runs, Arrives}
 use Rattle.debuggee.specs.declared.mode.Mode.{Mode}
@@ -29,19 +29,25 @@ phase_after None program how = phase.Running program how
 phase_after (Some (AtEnd status)) program how = phase.NoProgram
 phase_after (Some _) program how = phase.Stopped program
 
+-- why a run can't go on, where it halted at a fault
+abbrev pub fault_of : Option PlainHalt → Option (List ℕ)
+fault_of (Some (AtFault why)) = Some why
+fault_of _ = None
+
 -- A slice of a run: it goes by the language's own steps to the first state in which the program is due, to its end or
 -- into its fault, or halts at none of these; and the events are all that is told of it.
 abbrev pub Slice : {S : Type 0} → Meaning S → Sight S → S → Mode → List PlainBreakpoint → List PlainEvent → Phase S
-    → List PlainBreakpoint → Type 0
-Slice {S} takes sees program how old events now new =
+    → Option (List ℕ) → List PlainBreakpoint → Type 0
+Slice {S} takes sees program how old events now fault new =
     (halt : Option PlainHalt) × (there : S) × (told : List PlainOutput)
     × Runs takes sees how program old halt there new [] told
-    × (events ≡ told_of told halt) × (now ≡ phase_after halt there how)
+    × (events ≡ told_of told halt) × (now ≡ phase_after halt there how) × (fault ≡ fault_of halt)
 
 -- the same of the program of a session
 abbrev pub Goes : {S : Type 0} → Meaning S → Sight S → S → Mode → Standing S → List PlainEvent → Standing S → Type 0
 Goes takes sees program how stood events stands =
-    Slice takes sees program how stood.breakpoints events stands.phase stands.breakpoints × (stands.path ≡ stood.path)
+    Slice takes sees program how stood.breakpoints events stands.phase stands.fault stands.breakpoints
+    × (stands.path ≡ stood.path)
 
 -- the same of a program that runs; another takes no step
 abbrev pub GoesFrom : {S : Type 0} → Meaning S → Sight S → Phase S → Standing S → List PlainEvent → Standing S
@@ -75,10 +81,10 @@ IsRefused stood reply stands = Refuses reply × (stands ≡ stood)
 
 -- The program arrives where it begins: breakpoints count and speak there, and one may stop it.
 abbrev pub Arrival : {S : Type 0} → Sight S → S → List PlainBreakpoint → List PlainEvent → Phase S
-    → List PlainBreakpoint → Type 0
-Arrival sees program old events now new =
+    → Option (List ℕ) → List PlainBreakpoint → Type 0
+Arrival sees program old events now fault new =
     (halt : Option PlainHalt) × (told : List PlainOutput) × Arrives sees mode.Continue program old halt new [] told
-    × (events ≡ told_of told halt) × (now ≡ phase_after halt program mode.Continue)
+    × (events ≡ told_of told halt) × (now ≡ phase_after halt program mode.Continue) × (fault ≡ fault_of halt)
 
 -- Else it goes on, and what is told of its first slice follows.
 pub record Begins {S : Type 0} (takes : Meaning S) (sees : Sight S) (program : S) (old : List PlainBreakpoint)
@@ -87,7 +93,7 @@ pub record Begins {S : Type 0} (takes : Meaning S) (sees : Sight S) (program : S
   pub more : List PlainEvent
   pub goes : WorksOn takes sees there more stands
   pub first : List PlainEvent
-  pub arrives : Arrival sees program old first there.phase there.breakpoints
+  pub arrives : Arrival sees program old first there.phase there.fault there.breakpoints
   pub path_is : there.path ≡ path
   pub events_are : events ≡ first ++ more
 

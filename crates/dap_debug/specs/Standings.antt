@@ -1,26 +1,29 @@
 -- Defines how a session stands.
-use Rattle.std.specs.Prelude.{ℕ, Bool, true, false, List, [], map, string_bytes}
+use Rattle.std.specs.Prelude.{ℕ, Bool, true, false, List, [], map, Option, None, option_map, string_bytes}
 use Rattle.debuggee.specs.Plain.{PlainBreakpoint, plain_breakpoint}
 use Rattle.dap_debug.specs.declared.state.Phase.{Phase}
 use Rattle.dap_debug.specs.declared.state.Phase.TheVariants as phase
 use Rattle.dap_debug.specs.declared.state.State.{State}
 
--- how a session stands: how far its program has come, the program's path, and the breakpoints that are set
+-- how a session stands: how far its program has come, the program's path, why the step that was tried last can't be
+-- taken, if it can't, and the breakpoints that are set
 pub record Standing (S : Type 0) : Type 0 where
   pub phase : Phase S
   pub path : List ℕ
+  pub fault : Option (List ℕ)
   pub breakpoints : List PlainBreakpoint
 
 abbrev pub standing : {S : Type 0} → State S → Standing S
 standing state = record {
   phase = state.phase;
   path = string_bytes state.path;
+  fault = option_map string_bytes state.fault;
   breakpoints = map plain_breakpoint state.breakpoints.items;
 }
 
 -- a session that has just begun
 abbrev pub unused : {S : Type 0} → Standing S
-unused = record { phase = phase.NoProgram; path = []; breakpoints = [] }
+unused = record { phase = phase.NoProgram; path = []; fault = None; breakpoints = [] }
 
 -- the program runs
 abbrev pub is_running : {S : Type 0} → Phase S → Bool

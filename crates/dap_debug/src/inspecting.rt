@@ -7,13 +7,13 @@ ghost use Rattle.dap_server.specs.Messages.{plain_reply};
 ghost use Rattle.dap_debug.specs.Arguments.{text_at};
 ghost use Rattle.dap_debug.specs.Shown.{plain_frame, plain_scope, plain_variable};
 ghost use Rattle.dap_debug.specs.Standings.{standing};
-ghost use Rattle.dap_debug.specs.Inspecting.{Inspects, Shows, ShowsFrame, ShowsScope, ShowsScopes, ShowsStack, ShowsVariables, Evaluates, frame_asked, frame_count, frame_limit, frame_of_reference, frame_to_evaluate, frame_with, first_frame, index_of_reference, reference_asked, scope_limit, scopes_reply, shown_scope, shown_scopes, shown_variable};
+ghost use Rattle.dap_debug.specs.Inspecting.{Inspects, Shows, ShowsFrame, ShowsScope, ShowsScopes, ShowsStack, ShowsVariables, Evaluates, Explains, frame_asked, frame_count, frame_limit, frame_of_reference, frame_to_evaluate, frame_with, first_frame, index_of_reference, reference_asked, scope_limit, scopes_reply, shown_scope, shown_scopes, shown_variable};
 
 use crate::arguments::{text, whole};
 use crate::command::Question;
 use crate::language::{Frame, Language, Scope, Variable};
 use crate::state::{Phase, State};
-use dap_bodies::{StackFrame, evaluated};
+use dap_bodies::{StackFrame, evaluated, exception_info};
 use dap_server::Reply;
 use debuggee::Evaluated;
 use serde_json::Value;
@@ -41,6 +41,19 @@ impl<L: Language> State<L> {
                 show(alloc, program, question, arguments, self.path.as_str())
             }
             _ => Reply::refused(alloc, "the program isn't stopped"),
+        }
+    }
+
+    /// Tells why the next step can't be taken, if the program has stopped at a fault.
+    pub fn explain(&self, alloc: Global) -> Result<Reply, AllocError>
+        ensures { IfOk result (λ reply. Explains (standing self.now) (plain_reply reply)) }
+    {
+        match (&self.phase, &self.fault) {
+            (Phase::Stopped(_), Some(why)) => {
+                let body = exception_info(alloc, why.as_str(), "the next step can't be taken")?;
+                Ok(Reply::with_body(alloc, body))
+            }
+            _ => Reply::refused(alloc, "the program hasn't stopped at a fault"),
         }
     }
 }

@@ -69,6 +69,7 @@ impl<L: Language> State<L> {
         match L::load(alloc, source.as_str())? {
             Ok(program) => {
                 self.path = String::from_str(alloc, path)?;
+                self.fault = None;
                 self.breakpoints = Vec::new(alloc);
                 self.phase = Phase::Configuring(program, truth(arguments, "stopOnEntry"));
                 let mut reply = Reply::done(alloc);

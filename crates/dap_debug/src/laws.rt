@@ -1,6 +1,6 @@
 //! What holds of each session.
 
-ghost use Rattle.dap_debug.specs.Laws.{WorkIsBalanced, RepliesAreBalanced, TextsAreKept};
+ghost use Rattle.dap_debug.specs.Laws.{WorkIsBalanced, RepliesAreBalanced, TextsAreKept, FramesAreFound, ScopesAreFound};
 ghost use Rattle.dap_debug.specs.Sums.{EachEndsOnce};
 
 use crate::language::Language;
@@ -33,4 +33,11 @@ pub fn conversation_laws<L: Language, I: Polled>()
       frame_of = L.frame_of;
       variables_of = L.variables_of;
     }) I.gives I.polls }
+{}
+
+/// What is shown is found again: the identifier of a frame leads to that frame, and the reference of a scope to that scope.
+/// It does nothing: its contract is the laws.
+pub fn shown_laws()
+    ensures frames { FramesAreFound }
+    ensures scopes { ScopesAreFound }
 {}

@@ -1,10 +1,10 @@
 //! Starting a program, and letting it go on.
 
-ghost use Rattle.std.specs.Prelude.{◌≡◌, ◌++◌, [], None, IfOk, map, option_map};
+ghost use Rattle.std.specs.Prelude.{◌≡◌, ◌++◌, [], None, IfOk, map, option_map, string_bytes};
 ghost use Rattle.dap_server.specs.Messages.{plain_event, plain_reply};
 ghost use Rattle.debuggee.specs.Plain.{plain_breakpoint, plain_halt};
 ghost use Rattle.dap_debug.specs.Standings.{standing};
-ghost use Rattle.dap_debug.specs.Running.{Arrival, Begins, mode_of, phase_after, resumed, success, Pauses, Resumes, Slice, Starts, Terminates, WorksOn};
+ghost use Rattle.dap_debug.specs.Running.{Arrival, Begins, fault_of, mode_of, phase_after, resumed, success, Pauses, Resumes, Slice, Starts, Terminates, WorksOn};
 
 use crate::command::Resume;
 use crate::language::Language;
@@ -21,6 +21,7 @@ use std::mem;
 #[derive(Drop)]
 struct Ran<L> {
     phase: Phase<L>,
+    fault: Option<String>,
     events: Vec<Event>,
 }
 
@@ -34,6 +35,7 @@ impl<L: Language> State<L> {
             Phase::Running(program, mode) => {
                 let ran = run_slice(alloc, program, mode, &mut self.breakpoints)?;
                 self.phase = ran.phase;
+                self.fault = ran.fault;
                 Ok(ran.events)
             }
             phase => {
@@ -73,6 +75,7 @@ impl<L: Language> State<L> {
     {
         let ran = arrive_first(alloc, program, &mut self.breakpoints)?;
         self.phase = ran.phase;
+        self.fault = ran.fault;
         let more = self.run_on(alloc)?;
         let events = joined(ran.events, more)?;
         Ok(events)
@@ -139,13 +142,15 @@ fn arrive_first<L: Language>(
     breakpoints: &mut Vec<Breakpoint>,
 ) -> Result<Ran<L>, AllocError>
     ensures { IfOk result (λ ran. Arrival L.sees program (map plain_breakpoint breakpoints.old.items)
-        (map plain_event ran.events.items) ran.phase (map plain_breakpoint breakpoints.new.items)) }
+        (map plain_event ran.events.items) ran.phase (option_map string_bytes ran.fault)
+        (map plain_breakpoint breakpoints.new.items)) }
 {
     let mut told = Vec::new(alloc);
     let halt = arrive(alloc, &program, breakpoints, Mode::Continue, &mut told)?;
     let events = tell(alloc, told, &halt)?;
     Ok(Ran {
-        phase: phase_after(halt, program, Mode::Continue),
+        phase: phase_after(&halt, program, Mode::Continue),
+        fault: fault_of(halt),
         events,
     })
 }
@@ -178,26 +183,38 @@ fn run_slice<L: Language>(
     breakpoints: &mut Vec<Breakpoint>,
 ) -> Result<Ran<L>, AllocError>
     ensures { IfOk result (λ ran. Slice L.takes L.sees program mode (map plain_breakpoint breakpoints.old.items)
-        (map plain_event ran.events.items) ran.phase (map plain_breakpoint breakpoints.new.items)) }
+        (map plain_event ran.events.items) ran.phase (option_map string_bytes ran.fault)
+        (map plain_breakpoint breakpoints.new.items)) }
 {
     let mut program = program;
     let mut told = Vec::new(alloc);
     let halt = run(alloc, &mut program, breakpoints, mode, &mut told)?;
     let events = tell(alloc, told, &halt)?;
     Ok(Ran {
-        phase: phase_after(halt, program, mode),
+        phase: phase_after(&halt, program, mode),
+        fault: fault_of(halt),
         events,
     })
 }
 
 /// Returns how far a program has come after a run that halted, or that goes on.
-fn phase_after<L: Language>(halt: Option<Halt>, program: L, mode: Mode) -> Phase<L>
-    ensures { result ≡ phase_after (option_map plain_halt halt) program mode }
+fn phase_after<L: Language>(halt: &Option<Halt>, program: L, mode: Mode) -> Phase<L>
+    ensures { result ≡ phase_after (option_map plain_halt halt.now) program mode }
 {
     match halt {
         None => Phase::Running(program, mode),
         Some(Halt::AtEnd(_)) => Phase::NoProgram,
         Some(Halt::AtBreakpoint | Halt::AtStep | Halt::AtFault(_)) => Phase::Stopped(program),
+    }
+}
+
+/// Returns why a run can't go on, if it halted at a fault.
+fn fault_of(halt: Option<Halt>) -> Option<String>
+    ensures { option_map string_bytes result ≡ fault_of (option_map plain_halt halt) }
+{
+    match halt {
+        Some(Halt::AtFault(why)) => Some(why),
+        _ => None,
     }
 }
 

@@ -108,6 +108,7 @@ impl<'a, R: Wait + Files + Clock, L: Language> Session<'a, R, L> {
             Command::Pause => self.state.pause(alloc),
             Command::Terminate => self.state.terminate(alloc),
             Command::Inspect(question) => self.state.inspect(alloc, question, arguments),
+            Command::ExceptionInfo => self.state.explain(alloc),
             Command::Disconnect => Ok(Reply::done(alloc)),
             Command::Unsupported => Reply::refused(alloc, "unsupported"),
         }
@@ -122,6 +123,7 @@ fn capabilities(alloc: Global) -> Result<Value, AllocError>
         "supportsConditionalBreakpoints": true,
         "supportsConfigurationDoneRequest": true,
         "supportsEvaluateForHovers": true,
+        "supportsExceptionInfoRequest": true,
         "supportsHitConditionalBreakpoints": true,
         "supportsLogPoints": true,
         "supportsTerminateRequest": true

@@ -17,11 +17,13 @@ pub enum Phase<L> {
     Stopped(L),
 }
 
-/// The program, its path, and the breakpoints that are set in it.
+/// The program, its path, its fault, and the breakpoints that are set in it.
 #[derive(Drop)]
 pub struct State<L> {
     pub phase: Phase<L>,
     pub path: String,
+    /// Why the step that was tried last can't be taken, if it can't.
+    pub fault: Option<String>,
     pub breakpoints: Vec<Breakpoint>,
 }
 
@@ -33,6 +35,7 @@ impl<L> State<L> {
         State {
             phase: Phase::NoProgram,
             path: String::new(alloc),
+            fault: None,
             breakpoints: Vec::new(alloc),
         }
     }

@@ -1,0 +1,34 @@
+-- Identifiers and references lead back to what they were shown of.
+use Rattle.std.specs.Prelude.{◌&&◌, nat_eq, nat_le, if◌then◌else◌}
+use Rattle.std.proofs.Common.{◌≡◌, ◌<◌, ◌≤◌, ◌+◌, ◌-◌, ◌*◌, ◌/◌, ◌%◌, ◌∙◌, ℕ, List, ap, arith, false, None, Some}
+use Rattle.std.proofs.lemmas.Bool.{le-leb, ne_eqb}
+use Rattle.std.proofs.lemmas.Nat.{div-mul-add, mod-mul-add}
+use Rattle.dap_debug.specs.Inspecting.{frame_of_reference, frame_with, index_of_reference, scope_limit, shown_frame, shown_scope}
+use Rattle.dap_debug.specs.Shown.{PlainFrame, PlainScope}
+
+frame_found : (many index : ℕ) → index < many → frame_with many (index + 1) ≡ Some index
+frame_found many index inside =
+    let one : 1 ≤ index + 1 = omega arith in
+    let low : index + 1 ≤ many = omega (arith, inside) in
+    let back : index + 1 - 1 ≡ index = omega arith in
+    ap (λ b. if b && nat_le (index + 1) many then Some (index + 1 - 1) else None) (le-leb 1 (index + 1) one)
+    ∙ ap (λ b. if b then Some (index + 1 - 1) else None) (le-leb (index + 1) many low)
+    ∙ ap (λ n. Some n) back
+
+pub frames_found : (path : List ℕ) (many index : ℕ) (frame : PlainFrame) → index < many
+    → frame_with many (shown_frame path index frame).id ≡ Some index
+frames_found path many index frame inside = frame_found many index inside
+
+pub scopes_found : (many frame index : ℕ) (scope : PlainScope) → frame < many → index < scope_limit
+    → (frame_of_reference many (shown_scope frame index scope).reference ≡ Some frame)
+    × (index_of_reference (shown_scope frame index scope).reference ≡ index)
+scopes_found many frame index scope inside few =
+    let reference = frame * 16 + index + 1 in
+    let before : reference - 1 ≡ frame * 16 + index = omega arith in
+    let some : nat_eq reference 0 ≡ false = ne_eqb reference 0 (λ none. omega (arith, none)) in
+    (
+      ap (λ b. if b then None else frame_with many ((reference - 1) / 16 + 1)) some
+          ∙ ap (λ n. frame_with many (n / 16 + 1)) before
+          ∙ ap (λ n. frame_with many (n + 1)) (div-mul-add frame 16 index few) ∙ frame_found many frame inside,
+      ap (λ n. n % 16) before ∙ mod-mul-add frame 16 index few,
+    )
