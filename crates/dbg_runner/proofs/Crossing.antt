@@ -11,7 +11,6 @@ use Rattle.pl0_machine.specs.contracts.checkpoint.Checkpoint as Checkpoint
 use Rattle.dbg_plan.specs.contracts.trail.Trail as Trail
 use Rattle.dbg_plan.specs.contracts.plan.Plan as Plan
 use Rattle.dbg_plan.specs.contracts.debuggee.Debuggee as Debuggee
-use Rattle.dbg_runner.specs.contracts.produced.Produced as Produced
 use Rattle.dbg_runner.specs.contracts.report.Report as Report
 use Rattle.dbg_runner.specs.contracts.order.StoppedDebuggee as StoppedDebuggee
 use Rattle.dbg_runner.specs.contracts.order.Order as Order
@@ -39,13 +38,10 @@ debuggee_send =
     let a = machine_send in let b = trail_send in let c = plan_send in let d = plan_sync in search (crosses, sendable)
     depth 60 fits 20000
 
-produced_send : IsSend Produced.the_field.row
-produced_send =
-    let a = unit_send in let b = unit_sync in let c = plan_send in let d = plan_sync in search (crosses, sendable) depth
-    60 fits 20000
-
 pub report_send : IsSend Report.the_field.row
-report_send = let a = debuggee_send in let b = produced_send in search (crosses, sendable) depth 60 fits 20000
+report_send =
+    let a = debuggee_send in let b = unit_send in let c = unit_sync in let d = plan_send in let e = plan_sync in search
+    (crosses, sendable) depth 60 fits 20000
 
 considered_send : IsSend StoppedDebuggee.the_field.row
 considered_send = let a = debuggee_send in search (crosses, sendable) depth 60 fits 20000

@@ -1,9 +1,10 @@
 -- The reports of a run that goes back.
-use Rattle.dbg_runner.proofs.Common.{[], ap, arith, Box, Carries, counts_from, Debugged, Global, goal_of, GoesBackBy, has_come, has_no_memory, is_spent, IsAt, IsKept, IsOn, IsReportWith, IsRetreat, IsRoomFor, length, None, Option, plain_report, debugged_program, Reason, refl, Reported, Retreating, retreating_of, Returns, Room, Searches, slice_limit, SliceOutcome, Some, stopped, subst, summary_back, sym, Went, written, ℕ, ◌*◌, ◌+◌, ◌∙◌, ◌≡◌, ◌≤◌, back_if, direction}
-use Rattle.dbg_plan.specs.declared.debuggee.Debuggee.{Debuggee}
+use Rattle.dbg_runner.proofs.Common.{[], ap, arith, Carries, counts_from, Debugged, goal_of, GoesBackBy, has_come, has_no_memory, is_spent, IsAt, IsKept, IsOn, IsReport, IsRetreat, None, Option, plain_report, debugged_program, Reason, refl, Reported, reported_with, retreating_of, Returns, Searches, slice_limit, SliceOutcome, Some, stopped, subst, summary_back, sym, Went, ℕ, ◌*◌, ◌+◌, ◌∙◌, ◌≡◌, ◌≤◌, back_if, direction}
 use Rattle.dbg_runner.specs.declared.outcome.SliceOutcome.TheVariants as out
 use Rattle.dbg_runner.specs.declared.report.Summary.{Summary}
-use Rattle.dbg_runner.specs.declared.report.Cargo.TheVariants.{Sliced, Unsliced}
+use Rattle.dbg_runner.specs.declared.report.Subject.{Subject}
+use Rattle.dbg_runner.specs.declared.report.Subject.TheVariants.{Carried}
+use Rattle.dbg_runner.specs.ReportFields.{unit_in, plan_in, debuggee_in}
 use Rattle.dbg_runner.specs.declared.retreat.Way.{Way}
 use Rattle.dbg_runner.specs.declared.retreat.Retreat.TheInside.{Inside}
 
@@ -35,27 +36,8 @@ module _ (r : Inside) (inv : IsRetreat r) where
     abbrev of : SliceOutcome → Summary
     of outcome = summary_back run (retreating_of r) end outcome
 
-    abbrev room : Room
-    room = record { unit = r.debuggee.value.unit; breakpoints = r.debuggee.value.breakpoints; numbers = []; logs = [] }
-
     abbrev report_with : SliceOutcome → Option Debugged → Reported
-    report_with outcome d =
-        record {
-          run = run;
-          unit = r.debuggee.value.unit;
-          plan = r.debuggee.value.breakpoints;
-          counted_from = r.counted_from;
-          mode = r.mode;
-          start = r.start;
-          end = end;
-          before = length
-              (written (debugged_program r.debuggee.value) 0 r.start);
-          again = r.again;
-          numbers = [];
-          logs = [];
-          outcome = outcome;
-          debuggee = d;
-        }
+    report_with outcome d = record (reported_with (of outcome) [] [] (Carried r.debuggee)) { debuggee = d }
 
     kept : (outcome : SliceOutcome) (d : Option Debugged) → GoesBackBy (debugged_program r.debuggee.value)
         (plain_report (report_with outcome d)) outcome → IsKept (report_with outcome d)
@@ -67,7 +49,7 @@ module _ (r : Inside) (inv : IsRetreat r) where
     }
 
     -- there was no memory for a slice
-    pub gives_up : end ≡ r.start → IsReportWith (of out.NoMemory) (Unsliced r.debuggee)
+    pub gives_up : end ≡ r.start → IsReport (reported_with (of out.NoMemory) [] [] (Carried r.debuggee))
     gives_up stays = record {
       lawful = kept out.NoMemory (Some r.debuggee.value) (has_no_memory stays);
       carries =
@@ -85,15 +67,20 @@ module _ (r : Inside) (inv : IsRetreat r) where
     }
 
     -- it goes on
-    pub goes_on : end ≡ r.start → slice_limit ≤ r.again → IsReportWith (of out.More) (Sliced room None)
-    goes_on stays all = record {
-      lawful = kept out.More None (is_spent stays all);
-      carries = subst (λ b. Carries (back_if b) (report_with out.More None) out.More) (sym inv.goes_back) refl;
-    }
+    pub goes_on : (shared : Subject) → unit_in shared ≡ r.debuggee.value.unit
+        → plan_in shared ≡ r.debuggee.value.breakpoints → debuggee_in shared ≡ None → end ≡ r.start
+        → slice_limit ≤ r.again → IsReport (reported_with (of out.More) [] [] shared)
+    goes_on shared unit plan none stays all =
+        subst IsReport
+        (λ i. record (report_with out.More None) { unit = sym unit i; plan = sym plan i; debuggee = sym none i })
+        (record {
+          lawful = kept out.More None (is_spent stays all);
+          carries = subst (λ b. Carries (back_if b) (report_with out.More None) out.More) (sym inv.goes_back) refl;
+        })
 
     -- it has come to where it stops
-    module _ (why : Reason) (box : Box Debuggee Global)
-        (box_is : box.value ≡ record r.debuggee.value { counted_from = r.debuggee.value.next })
+    module _ (why : Reason) (d : Debugged)
+        (d_is : d ≡ record r.debuggee.value { counted_from = r.debuggee.value.next })
         (there : end ≡ r.debuggee.value.position)
         (come : goal_of (debugged_program r.debuggee.value) r.debuggee.value.breakpoints r.mode r.start ≡ Some
         (record { position = r.debuggee.value.position; reason = why })) where
@@ -105,34 +92,30 @@ module _ (r : Inside) (inv : IsRetreat r) where
       next_is = inv.considered.behind ∙ ap (λ n. n + 1) (sym there)
 
       abbrev report : Reported
-      report = report_with (out.Due why) (Some box.value)
+      report = report_with (out.Due why) (Some d)
 
       -- its plan counts from the next position
       counts : r.debuggee.value.next ≡ counts_from (direction r.mode) report
       counts = next_is ∙ ap (λ b. counts_from (back_if b) report) (sym inv.goes_back)
 
-      stands : box.value ≡ stopped report box.value.trail
+      stands : d ≡ stopped report d.trail
       stands =
-          box_is
+          d_is
           ∙ (λ i. record {
             unit = r.debuggee.value.unit;
             position = sym there i;
             breakpoints = r.debuggee.value.breakpoints;
             counted_from = counts i;
             next = next_is i;
-            trail = ap (λ (d : Debugged). d.trail) (sym box_is) i;
+            trail = ap (λ (d : Debugged). d.trail) (sym d_is) i;
           })
 
-      pub arrives : IsReportWith (of (out.Due why)) (Sliced room (Some box))
-      arrives = record {
-        lawful = kept (out.Due why) (Some box.value) (has_come here);
-        carries =
-            subst (λ b. Carries (back_if b) report (out.Due why)) (sym inv.goes_back)
-            (ap (λ (d : Debugged). Some d) stands);
-      }
-
--- the room, if it is of this run
-pub room_is : (given : Room) (b : Retreating) → IsRoomFor given b
-    → given ≡ record { unit = b.unit; breakpoints = b.breakpoints; numbers = []; logs = [] }
-room_is given b of =
-    λ i. record { unit = of.unit i; breakpoints = of.breakpoints i; numbers = of.numbers i; logs = of.logs i }
+      pub arrives : IsReport (record report { unit = d.unit; plan = d.breakpoints })
+      arrives =
+          subst IsReport (λ i. record report { unit = (sym d_is i).unit; plan = (sym d_is i).breakpoints })
+          (record {
+            lawful = kept (out.Due why) (Some d) (has_come here);
+            carries =
+                subst (λ b. Carries (back_if b) report (out.Due why)) (sym inv.goes_back)
+                (ap (λ (d : Debugged). Some d) stands);
+          })

@@ -15,8 +15,7 @@ use crate::buffers::Buffers;
 use crate::hops::{go_back, go_on, search};
 use crate::outcome::SliceOutcome;
 use crate::outputs::Outputs;
-use crate::produced::Produced;
-use crate::report::{Cargo, Report, Summary};
+use crate::report::{Report, Subject, Summary};
 use crate::slicing::SLICE_LIMIT;
 use dbg_plan::{Debuggee, Mode, Reason};
 use std::alloc::Global;
@@ -156,20 +155,18 @@ impl Retreat {
         ensures { IsSliceBackOf run self result.0 result.1 }
     {
         let arrival = self.run_again(&mut outputs);
-        let produced = outputs.into_produced(buffers);
+        let (_, _, shared) = outputs.finish(buffers);
         match arrival {
             None => {
                 let summary = self.summary(run, self.start, SliceOutcome::More);
-                let report = Report::with_summary(summary, Cargo::Sliced(produced, None));
-                (report, Some(self))
+                (Report::silent(summary, shared), Some(self))
             }
-            Some(reason) => (self.arrive(run, reason, produced), None),
+            Some(reason) => (self.arrive(run, reason), None),
         }
     }
 
     /// Returns the report of a run that has come to where it stops. Its plan counts from the next position on.
-    fn arrive(self, run: u64, reason: Reason, produced: Produced) -> Report
-        requires room { IsRoomFor produced self }
+    fn arrive(self, run: u64, reason: Reason) -> Report
         requires come { goal_of (program_in self.unit) self.breakpoints self.mode self.start
             ≡ Some (record { position = self.position; reason = reason }) }
         ensures of { IsReportOf (heading_back run self) (plain_report result) }
@@ -182,7 +179,7 @@ impl Retreat {
         let summary = self.summary(run, end, SliceOutcome::Due(reason));
         let mut debuggee = self.debuggee;
         debuggee.recount();
-        Report::with_summary(summary, Cargo::Sliced(produced, Some(debuggee)))
+        Report::silent(summary, Subject::Carried(debuggee))
     }
 
     /// Returns the report that there was no memory for a slice.
@@ -193,7 +190,7 @@ impl Retreat {
         ensures given_up { IfSome result.debuggee (λ d. IsDebuggeeOf self d) }
     {
         let summary = self.summary(run, self.start, SliceOutcome::NoMemory);
-        Report::with_summary(summary, Cargo::Unsliced(self.debuggee))
+        Report::silent(summary, Subject::Carried(self.debuggee))
     }
 
     /// Runs a slice in these buffers, and returns its report, or the report that there was no memory for it. It allocates
