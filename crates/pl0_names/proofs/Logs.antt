@@ -13,10 +13,6 @@ same_level a b e = grind (arith, common_steps)
 other_level : (a b : ℕ) → (a ≡ b → ⊥) → nat_eq a b ≡ false
 other_level a b e = grind (arith, common_steps)
 
-or_none : {A : Type 0} (o : Option A) → option_or o None ≡ o
-or_none None = refl
-or_none (Some x) = refl
-
 -- the latest of a log is the last that was put
 pub latest_first : {A : Type 0} (xs : List A) (x : A) (ys : List A) → ys ≡ xs ++ x ∷ [] → reverse ys ≡ x ∷ reverse xs
 latest_first xs x ys is = ap reverse is ∙ reverse-append xs (x ∷ [])
