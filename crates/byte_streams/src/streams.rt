@@ -25,7 +25,7 @@ pub enum IoFault {
 
 /// Where bytes come from.
 pub trait Source {
-    ghost use Rattle.std.specs.Prelude.{◌≡◌, ◌<◌, ◌≤◌, length, Err, IfOk, OnOk, OnErr};
+    ghost use Rattle.std.specs.Prelude.{◌≡◌, ◌<◌, ◌≤◌, ◌⊎◌, length, Err, IfOk, OnOk, OnErr};
     ghost use Rattle.byte_streams.specs.Streams.{Supply, ReadGives, IsOfWhole};
     ghost use Rattle.byte_streams.specs.declared.streams.IoFault.TheVariants.{Failed, Interrupted};
 
@@ -41,7 +41,8 @@ pub trait Source {
     fn read(&mut self, room: &mut [u8]) -> Result<usize, IoFault>
         ensures within { IfOk result (λ n. n ≤ length room.old) }
         ensures bytes { ReadGives (supply self.old) (supply self.new) result room.new }
-        ensures goes_on { IfOk result (λ n. 0 < n → (supply self.new).ended ≡ (supply self.old).ended) }
+        ensures goes_on { IfOk result (λ n. (0 < n) ⊎ (length room.old ≡ 0)
+            → (supply self.new).ended ≡ (supply self.old).ended) }
         ensures stays { OnErr result ((supply self.new).ended ≡ (supply self.old).ended) }
         ensures kept { OnOk result ((supply self.new).failures ≡ (supply self.old).failures) }
         ensures failed { result ≡ Err Failed → (supply self.old).failures < (supply self.new).failures }
