@@ -4,3 +4,5 @@ pub mod Language
 pub mod Shown
 -- worked examples of instructions and steps
 pub mod WorkedSteps
+-- worked examples of what is seen and shown
+pub mod WorkedShown

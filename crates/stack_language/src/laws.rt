@@ -1,6 +1,7 @@
 //! Worked examples of the language.
 
 ghost use Rattle.stack_language.specs.WorkedSteps.{LinesFollow, NumbersAreCalculated, NumbersAreMissing, NumbersMove, QuotientsAreRounded, ResultsOverflow, RoomIsLimited, StepsFollow, StepsTell, ZeroJumps};
+ghost use Rattle.stack_language.specs.WorkedShown.{FramesAreShown, LinesAreSeen, NamesMean, ValuesHold, VariablesAreShown};
 
 /// What each instruction does, which fail, and the steps of a program, computed from the definitions. A wrong definition
 /// doesn't meet them. It does nothing: its contract is the examples.
@@ -15,4 +16,14 @@ pub fn worked_steps()
     ensures room { RoomIsLimited }
     ensures steps { StepsFollow }
     ensures told { StepsTell }
+{}
+
+/// What a debugger sees of a state, and what a client is shown, computed from the definitions. A wrong definition doesn't meet
+/// them. It does nothing: its contract is the examples.
+pub fn worked_views()
+    ensures names { NamesMean }
+    ensures values { ValuesHold }
+    ensures variables { VariablesAreShown }
+    ensures lines { LinesAreSeen }
+    ensures frames { FramesAreShown }
 {}

@@ -5,7 +5,7 @@
 //! proved to do what `done` says of it. So a run of `debuggee` goes by these steps, and prints what they print.
 //!
 //! [`Machine`] is a program, and its state. Not promised is which program a text is: only that it stands before its first
-//! line. `worked_steps` has examples of each word.
+//! line. `worked_steps` and `worked_views` have examples of the words.
 #![tactic(auto)]
 
 mod language;
@@ -15,5 +15,5 @@ mod parsing;
 mod program;
 mod state;
 
-pub use laws::worked_steps;
+pub use laws::{worked_steps, worked_views};
 pub use machine::Machine;

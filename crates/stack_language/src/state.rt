@@ -65,6 +65,7 @@ impl State {
         self.variables.get(variable).copied().unwrap_or(0)
     }
 
+    /// Goes on to the next line.
     pub fn go_on(&mut self) -> Outcome
         requires { self.old.line < 2 ^ 64 - 1 }
         ensures { Does Nothing self.old result self.new }
@@ -73,6 +74,7 @@ impl State {
         Outcome::Went
     }
 
+    /// Goes on at this line.
     pub fn jump(&mut self, line: usize) -> Outcome
         ensures { Does (Jump line) self.old result self.new }
     {
@@ -80,6 +82,11 @@ impl State {
         Outcome::Went
     }
 
+    /// Puts a number on the stack.
+    ///
+    /// # Errors
+    ///
+    /// An allocation failed.
     pub fn push(&mut self, number: i64) -> Result<Outcome, AllocError>
         requires { self.old.line < 2 ^ 64 - 1 }
         ensures { IfOk result (λ outcome. Does (Push number) self.old outcome self.new) }
@@ -91,6 +98,7 @@ impl State {
         Ok(self.go_on())
     }
 
+    /// Takes the top number, and makes it the value of a variable.
     pub fn store(&mut self, variable: usize) -> Outcome
         requires { self.old.line < 2 ^ 64 - 1 }
         ensures { Does (Store variable) self.old result self.new }
@@ -112,6 +120,7 @@ impl State {
         }
     }
 
+    /// Takes the two top numbers, and puts their result on the stack.
     pub fn calculate(&mut self, operator: Operator) -> Outcome
         requires { self.old.line < 2 ^ 64 - 1 }
         ensures { Does (Calculate operator) self.old result self.new }
@@ -150,6 +159,7 @@ impl State {
         }
     }
 
+    /// Takes the top number, and prints it.
     pub fn print(&mut self) -> Outcome
         requires { self.old.line < 2 ^ 64 - 1 }
         ensures { Does Print self.old result self.new }
@@ -161,6 +171,7 @@ impl State {
         Outcome::Printed(number)
     }
 
+    /// Takes the top number, and goes on at this line where it is 0.
     pub fn jump_if_zero(&mut self, line: usize) -> Outcome
         requires { self.old.line < 2 ^ 64 - 1 }
         ensures { Does (JumpZero line) self.old result self.new }
@@ -172,6 +183,11 @@ impl State {
         }
     }
 
+    /// Calls this line, and comes back to the next one.
+    ///
+    /// # Errors
+    ///
+    /// An allocation failed.
     pub fn call(&mut self, line: usize) -> Result<Outcome, AllocError>
         requires { self.old.line < 2 ^ 64 - 1 }
         ensures { IfOk result (λ outcome. Does (Call line) self.old outcome self.new) }
@@ -183,6 +199,7 @@ impl State {
         Ok(self.jump(line))
     }
 
+    /// Returns from the newest call. Outside of a call the program ends.
     pub fn go_back(&mut self) -> Outcome
         ensures { Does Return self.old result self.new }
     {

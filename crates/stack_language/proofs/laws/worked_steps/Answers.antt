@@ -1,3 +1,4 @@
+use Rattle.std.specs.Fmt.{digits}
 use Rattle.std.specs.Prelude.{refl}
 use Rattle.stack_language.proofs.laws.worked_steps.Goals as goal
 
@@ -29,4 +30,5 @@ pub returns-clause-steps : goal.returns-clause-steps
 returns-clause-steps c = refl
 
 pub returns-clause-told : goal.returns-clause-told
+unfolding digits
 returns-clause-told c = refl

@@ -1,0 +1,46 @@
+-- States worked examples: what a debugger sees of a state, and what a client is shown. Each was computed from the
+-- definitions.
+use Rattle.std.specs.Prelude.{◌≡◌, ℕ, pos, negsuc, true, false, List, [], ◌∷◌, map, codes, None, Some}
+use Rattle.debuggee.specs.Plain.{Value}
+use Rattle.dap_debug.specs.Shown.{PlainFrame, PlainVariable}
+use Rattle.stack_language.specs.declared.machine.Machine.{Machine}
+use Rattle.stack_language.specs.Shown.{evaluated, frame_of, has_instruction, sees, variable_named, variable_of}
+use Rattle.stack_language.specs.WorkedSteps.{program, state}
+
+-- the names of variables
+abbrev pub NamesMean : Type 0
+NamesMean =
+    map variable_named (codes "a" ∷ codes "z" ∷ codes "A" ∷ codes "ab" ∷ [] ∷ [])
+    ≡ Some 0 ∷ Some 25 ∷ None ∷ None ∷ None ∷ []
+
+-- a condition whose value is 0 doesn't hold
+abbrev pub ValuesHold : Type 0
+ValuesHold =
+    map evaluated (pos 0 ∷ pos 5 ∷ negsuc 6 ∷ [])
+    ≡ Value (codes "0") false ∷ Value (codes "5") true ∷ Value (codes "-7") true ∷ []
+
+abbrev pub variable : List ℕ → List ℕ → PlainVariable
+variable name value = record { name = name; value = value }
+
+abbrev pub VariablesAreShown : Type 0
+VariablesAreShown =
+    map (variable_of (state 0 [] [] (pos 5 ∷ negsuc 6 ∷ []))) (0 ∷ 1 ∷ 2 ∷ [])
+    ≡ variable (codes "a") (codes "5") ∷ variable (codes "b") (codes "-7") ∷ variable (codes "c") (codes "0") ∷ []
+
+-- a program stops at each line but an empty one
+abbrev pub LinesAreSeen : Type 0
+LinesAreSeen =
+    (m : Machine) → m.program.items ≡ program
+    → map (has_instruction m) (0 ∷ 1 ∷ 2 ∷ 3 ∷ 4 ∷ 5 ∷ 6 ∷ [])
+    ≡ true ∷ true ∷ true ∷ false ∷ true ∷ true ∷ false ∷ []
+
+abbrev pub frame : List ℕ → ℕ → PlainFrame
+frame name line = record { name = name; line = line; column = 1 }
+
+-- Line 4 comes next. The call that is alive longest returns to line 2, so it is at line 1; the newest is at line 8. The
+-- client counts lines from 1.
+abbrev pub FramesAreShown : Type 0
+FramesAreShown =
+    (m : Machine) → m.state.line ≡ 4 → m.state.returns.items ≡ 2 ∷ 9 ∷ []
+    → frame_of m 0 (frame (codes "call") 5) × frame_of m 1 (frame (codes "call") 9)
+    × frame_of m 2 (frame (codes "main") 2) × (sees.depth_of m ≡ 3)
