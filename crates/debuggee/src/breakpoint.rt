@@ -6,9 +6,9 @@ ghost use Rattle.debuggee.specs.Due.{accepts};
 /// Which arrivals at a breakpoint it accepts. The first has the number 1.
 #[derive(Clone, Copy)]
 pub enum Rule {
-    /// That with this number, and those after it.
+    /// The one with this number, and those after it.
     From(u64),
-    /// That with this number.
+    /// The one with this number.
     Exactly(u64),
     /// Each whose number this one divides; none for 0.
     Every(u64),

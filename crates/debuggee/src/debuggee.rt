@@ -35,7 +35,7 @@ pub trait Debuggee {
     /// What a debugger sees of a state.
     ghost sees: { Sight Self };
 
-    /// Takes a step. It may not block: a request waits for it.
+    /// Takes a step. It must not block: a request waits for it.
     ///
     /// # Errors
     ///

@@ -13,8 +13,8 @@ use crate::marks::{MARKS, is_marked, marks_of};
 use crate::mode::Mode;
 use std::alloc::{AllocError, Global};
 
-/// How many steps a slice takes at most, and how many times it looks at a breakpoint: then it takes one step more. It
-/// keeps short what a request waits for, also where each look evaluates a condition.
+/// How many steps a slice takes at most. Once it has looked at breakpoints as often, it takes one step more. It keeps short
+/// what a request waits for, also where each look evaluates a condition.
 const SLICE: usize = 1000;
 
 /// Runs a program for a slice: to the first state in which it is due, to its end or its fault; `None` where the slice ends
