@@ -4,14 +4,14 @@ use Rattle.byte_streams.specs.Streams.{Supply, IsOfWhole}
 use Rattle.dap_server.specs.Inbox.{plain_item, Gives, Given, Reads}
 use Rattle.dap_server.specs.declared.inbox.Item.{Item}
 use Rattle.dap_reader.specs.Arriving.{unread}
-use Rattle.dap_reader.specs.declared.place.Known.{Known}
+use Rattle.dap_reader.specs.declared.place.SupplyView.{SupplyView}
 use Rattle.dap_reader.specs.declared.place.Place.{Place}
 use Rattle.dap_reader.specs.declared.place.Place.TheVariants.{Unused, Takes, Sends}
 
-abbrev pub known : Supply → Known
-known s = record { first = s.read.first; bytes = s.read.bytes; ended = s.ended; failures = s.failures }
+abbrev pub view_of : Supply → SupplyView
+view_of s = record { first = s.read.first; bytes = s.read.bytes; ended = s.ended; failures = s.failures }
 
-abbrev pub supply_of : Known → Supply
+abbrev pub supply_of : SupplyView → Supply
 supply_of k = record { read = record { first = k.first; bytes = k.bytes }; ended = k.ended; failures = k.failures }
 
 -- the reads of which all went through this end
@@ -37,7 +37,7 @@ Comes before item after = Reads before item after × ∥ IsOfWhole after ∥₁
 abbrev pub Carries : List Item → List Place → Type 0
 Carries inside ends =
     ((ends ≡ Unused ∷ []) × (inside ≡ []))
-    ⊎ ((taken : Supply) × (sent : Supply) × (ends ≡ Takes (known taken) ∷ Sends (known sent) ∷ [])
+    ⊎ ((taken : Supply) × (sent : Supply) × (ends ≡ Takes (view_of taken) ∷ Sends (view_of sent) ∷ [])
     × Given Comes taken (map plain_item inside) sent)
 
 -- an end took an item

@@ -14,7 +14,7 @@ use std::alloc::Global;
 use std::sync::Wait;
 
 /// What a client sends: the items that reads of an input gave, in order, each once, up to those that were taken. After the
-/// last one, which is no `Bytes`, `next` waits forever, and a look finds nothing.
+/// last one, which is no `Bytes`, a look finds nothing, and `next` tries again and again: it never returns, and never rests.
 #[derive(Drop)]
 pub struct Arrivals {
     pub(crate) receiver: RuledReceiver<Item, Place, InOrder>,

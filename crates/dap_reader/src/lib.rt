@@ -17,8 +17,10 @@
 //! ```
 //!
 //! [`Arrivals`] promises of its items what a source promises of its own (`Reads` of `dap_server`), from the input's beginning
-//! on: each byte that reads gave, once and in order, and an end or a failure only where a read found one. So what
-//! `ServedWorker` and `ServedInbox` say over it is of the bytes that were read. Nothing is promised of when an item comes.
+//! on: each byte of an input that tells its bytes, once and in order, and an end only behind them. So what `ServedWorker` and
+//! `ServedInbox` say over it is of these bytes. Nothing is promised of when an item comes; nor that one tells a failure only
+//! where a read failed, or that bytes were read of an input that doesn't tell its own, as standard input. Both are true of
+//! the thread that reads (`read_client`, which is private).
 #![tactic(auto)]
 
 mod arrivals;

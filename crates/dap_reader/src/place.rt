@@ -8,13 +8,13 @@ pub enum Place {
     /// The queue is new, and its ends aren't apart yet.
     Unused,
     /// It takes, and took all that these reads gave.
-    Takes(Known),
+    Takes(SupplyView),
     /// It sends, and sent all that these reads gave.
-    Sends(Known),
+    Sends(SupplyView),
 }
 
 /// What reads of an input gave: `Supply` of `byte_streams`, as a view.
-pub struct Known {
+pub struct SupplyView {
     pub first: Option<LinkedList<u8>>,
     pub bytes: LinkedList<u8>,
     pub ended: bool,

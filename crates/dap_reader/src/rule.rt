@@ -37,12 +37,12 @@ pub(crate) struct Parts<K> {
 }
 
 impl<K: Reached> Split<Place> for Parts<K> {
-    ghost use Rattle.dap_reader.specs.Delivery.{known};
+    ghost use Rattle.dap_reader.specs.Delivery.{view_of};
     ghost use Rattle.dap_reader.specs.declared.place.Place.TheVariants.{Takes, Sends};
 
-    ghost left = { λ _. Takes (known K.supply) };
+    ghost left = { λ _. Takes (view_of K.supply) };
 
-    ghost right = { λ _. Sends (known K.supply) };
+    ghost right = { λ _. Sends (view_of K.supply) };
 }
 
 /// The step that sends what one more read gave.
@@ -52,10 +52,10 @@ pub(crate) struct Puts<K> {
 
 impl<K: Reached> Outcome<Item, Place> for Puts<K> {
     ghost use Rattle.std.specs.Prelude.{◌≡◌};
-    ghost use Rattle.dap_reader.specs.Delivery.{known};
+    ghost use Rattle.dap_reader.specs.Delivery.{view_of};
     ghost use Rattle.dap_reader.specs.declared.place.Place.TheVariants.{Sends};
 
-    ghost then = { λ _ _ w. w ≡ Sends (known K.supply) };
+    ghost then = { λ _ _ w. w ≡ Sends (view_of K.supply) };
 }
 
 impl<K> Lesson<Item, Place> for Puts<K> {
