@@ -95,13 +95,23 @@ plain_text (Err fault) = Err fault
 abbrev pub files_of : Request → List Text
 files_of asked = map (λ file. file.now) asked.files.items
 
--- By `opens` files are opened by their names, and by `supply_of` it is known what was read of an open file.
+-- By `opens` files are opened by their names, by `closes` they are given back, and by `supply_of` it is known what was
+-- read of one until then.
 module _ {Files File : Type 0} (opens : Files → Text → Result File FileFault → Files → Type 0)
-    (supply_of : File → Supply) where
-  -- The file of this name was opened and read, or it couldn't be opened.
+    (closes : Files → File → Files → Type 0) (supply_of : File → Supply) where
+  -- The file of this name was opened, read and given back.
+  pub record ReadsOpened (name : Text) (result : Result (List ℕ) FileFault) (old later : Files) : Type 0 where
+    pub file : File
+    pub mid : Files
+    pub opened : opens old name (Ok file) mid
+    pub read : File
+    pub has_read : HasRead result (supply_of file) (supply_of read)
+    pub closed : closes mid read later
+
+  -- The file was read, or it couldn't be opened.
   abbrev pub ReadsFile : Text → Result (List ℕ) FileFault → Files → Files → Type 0
   ReadsFile name read old later =
-      ((file : File) × opens old name (Ok file) later × ((closed : Supply) × HasRead read (supply_of file) closed))
+      ReadsOpened name read old later
       ⊎ ((fault : FileFault) × opens old name (Err fault) later × (read ≡ Err fault))
 
   -- The name `-` stands for the input, and each other name for a file.
@@ -208,7 +218,7 @@ module _ {Files File : Type 0} (opens : Files → Text → Result File FileFault
       (before after errors later_errors : Output) : Type 0 where
     pub mid_errors : Output
     pub executes : ExecutesGiven given ending old later before after errors mid_errors
-    pub closes : ClosesWith ending unread mid_errors later_errors
+    pub ends : ClosesWith ending unread mid_errors later_errors
 
 -- the arguments that were given, the program's name first, or the kind of the error in their place
 abbrev pub given_of : Result (IntoIter (String Global) Global) Error → Result (List Text) ErrorKind

@@ -26,12 +26,12 @@ where
     I: Source,
     O: Sink,
     ensures { MatchResult result
-        (λ report. AreDone F.opens F.File.supply request.now.task
+        (λ report. AreDone F.opens F.closes F.File.supply request.now.task
         (origins files.old (I.supply input.old))
         (O.output output.old) (files_of request.now) report
         (origins files.new (I.supply input.new))
         (O.output output.new))
-        (λ _. GivesUp F.opens F.File.supply
+        (λ _. GivesUp F.opens F.closes F.File.supply
         request.now.task (files_of request.now)
         (origins files.old (I.supply input.old))
         (origins files.new (I.supply input.new))
@@ -67,11 +67,11 @@ where
     I: Source,
     O: Sink,
     ensures { MatchResult result
-        (λ _. Adds F.opens F.File.supply task name.now report.old report.new
+        (λ _. Adds F.opens F.closes F.File.supply task name.now report.old report.new
         (origins files.old (I.supply input.old))
         (origins files.new (I.supply input.new))
         (O.output output.old) (O.output output.new))
-        (λ _. RunsOut F.opens F.File.supply task name.now
+        (λ _. RunsOut F.opens F.closes F.File.supply task name.now
         (origins files.old (I.supply input.old))
         (origins files.new (I.supply input.new))
         (O.output output.old) (O.output output.new)) }
@@ -127,17 +127,17 @@ fn text_of<R: Wait + AllocGlobal, F: Opener, I: Source>(
     input: &mut I,
     name: &str,
 ) -> Result<Vec<u8>, FileFault>
-    ensures { Reads F.opens F.File.supply name.now (plain_text result)
+    ensures { Reads F.opens F.closes F.File.supply name.now (plain_text result)
         (origins files.old (I.supply input.old))
         (origins files.new (I.supply input.new)) }
 {
     if name == "-" {
         return text_in(rt, input);
     }
-    match files.open(name) {
-        Ok(mut file) => text_in(rt, &mut file),
-        Err(fault) => Err(fault),
-    }
+    let mut file = files.open(name)?;
+    let text = text_in(rt, &mut file);
+    files.close(file);
+    text
 }
 
 /// Returns the text that a source has.

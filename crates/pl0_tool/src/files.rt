@@ -23,16 +23,19 @@ pub enum FileFault {
     NoMemory,
 }
 
-/// Opens files by their names.
+/// Opens files by their names, and takes them back.
 pub trait Opener {
     ghost use Rattle.std.specs.Prelude.{ℕ, List, Result};
     ghost use Rattle.pl0_tool.specs.declared.files.FileFault.{FileFault};
 
     /// A file that was opened.
-    type File: Source + Drop;
+    type File: Source;
 
     /// What holds of the opener before and after it is asked for the file of a name, and of what it returns.
     ghost opens: { Self → List ℕ → Result Self.File FileFault → Self → Type 0 };
+
+    /// What holds of the opener before and after it takes back a file, and of the file as it was read.
+    ghost closes: { Self → Self.File → Self → Type 0 };
 
     /// Opens the file of this name.
     ///
@@ -41,6 +44,10 @@ pub trait Opener {
     /// Why it can't be opened, or that memory ran out.
     fn open(&mut self, name: &str) -> Result<Self::File, FileFault>
         ensures { opens self.old name.now result self.new };
+
+    /// Takes back a file, and closes it.
+    fn close(&mut self, file: Self::File)
+        ensures { closes self.old file self.new };
 }
 
 /// Opens files of the system. Nothing is known of what their names lead to.
@@ -65,6 +72,8 @@ impl<'a, R: Wait + Clock + Files> Opener for SystemFiles<'a, R> {
 
     ghost opens = { λ _ _ _ _. ⊤ };
 
+    ghost closes = { λ _ _ _. ⊤ };
+
     fn open(&mut self, name: &str) -> Result<Reading<'a, R, R::File>, FileFault> {
         match fs::open(self.rt, name) {
             Ok(file) if is_folder(&file) => Err(FileFault::Folder),
@@ -72,6 +81,8 @@ impl<'a, R: Wait + Clock + Files> Opener for SystemFiles<'a, R> {
             Err(error) => Err(file_fault(error.kind())),
         }
     }
+
+    fn close(&mut self, _file: Reading<'a, R, R::File>) {}
 }
 
 /// Whether an open file is a folder. Where that can't be known, it is none.

@@ -10,7 +10,7 @@ pub loop-name-preserved : goal.loop-name-preserved
 loop-name-preserved g c =
     let names = c.as_slice-names.result.now in
     let i = c.loop-name.name-index in
-    one_more (λ name. name.now) g.F.Opener.opens
+    one_more (λ name. name.now) g.F.Opener.opens g.F.Opener.closes
     g.F.File.Source.supply
     c.args.request.now.task names i _ c.loop-name-test.true (get_or_default names i _ _ c.loop-name-test.true) _ _ _ _ _
     c.loop-name.invariant _ _ _ c.in-Ok.ensures
@@ -20,7 +20,7 @@ returns-in-Err g c =
     let names = c.as_slice-names.result.now in
     let i = c.loop-name.name-index in
     rw c.as_slice-names.ensures.value at
-    (one_given_up (λ name. name.now) g.F.Opener.opens
+    (one_given_up (λ name. name.now) g.F.Opener.opens g.F.Opener.closes
     g.F.File.Source.supply
     c.args.request.now.task names i _ c.loop-name-test.true (get_or_default names i _ _ c.loop-name-test.true) _ _ _ _ _
     c.loop-name.invariant _ _ c.in-Err.ensures)
@@ -29,7 +29,7 @@ pub returns : goal.returns
 returns g c =
     let names = c.as_slice-names.result.now in
     rw c.as_slice-names.ensures.value at
-    (all_done (λ name. name.now) g.F.Opener.opens
+    (all_done (λ name. name.now) g.F.Opener.opens g.F.Opener.closes
     g.F.File.Source.supply
     c.args.request.now.task names c.loop-name.name-index _ _ _ _ c.loop-name.report c.loop-name-test.false
     c.loop-name.invariant)

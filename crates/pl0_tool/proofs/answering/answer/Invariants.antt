@@ -5,7 +5,7 @@ use Rattle.pl0_tool.proofs.answering.answer.Given as goal
 
 abbrev pub invariant-loop-name : goal.invariant-loop-name
 invariant-loop-name g l =
-    AreDone g.F.Opener.opens g.F.File.Source.supply
+    AreDone g.F.Opener.opens g.F.Opener.closes g.F.File.Source.supply
     l.request.task
     (origins l.initial.files (g.I.Source.supply l.initial.input))
     (g.O.Sink.output l.initial.output)
