@@ -10,7 +10,7 @@ use std::str;
 use std::test::Fail;
 
 /// A text, and what is told of it in a file `a.pl0`.
-const MISTAKES: [(&str, &str); 18] = [
+const MISTAKES: [(&str, &str); 19] = [
     (
         "! 2 × 3.",
         "a.pl0:1:5: error: only ASCII characters can stand in a program; write `*`\n",
@@ -61,6 +61,10 @@ const MISTAKES: [(&str, &str); 18] = [
     ),
     ("\r\n\t! n0 .", "a.pl0:2:4: error: `n0` is not declared\n"),
     (
+        "procedure p; procedure q; var x; ; ; ! x.",
+        "a.pl0:1:40: error: `x` is not declared; it is declared in procedure `q`, and known there alone\n",
+    ),
+    (
         "procedure p; call q; procedure q; ; call p.",
         "a.pl0:1:19: error: `q` is used before its declaration\n",
     ),
@@ -83,7 +87,7 @@ const MISTAKES: [(&str, &str); 18] = [
 ];
 
 /// What is said beside a token that can't stand where it does, and where nothing is.
-const HINTS: [(&str, &str); 72] = [
+const HINTS: [(&str, &str); 73] = [
     (
         "begin ! (1) x := 2 end.",
         "a.pl0:1:13: error: `x` can't stand here; perhaps a `;` is missing before it\n",
@@ -159,6 +163,10 @@ const HINTS: [(&str, &str); 72] = [
     (
         "begin x.",
         "a.pl0:1:8: error: `.` can't stand here; after the name `x` only `:=` can stand\n",
+    ),
+    (
+        "var x; beginx := 1 end.",
+        "a.pl0:1:20: error: `end` can't stand here; perhaps a blank is missing behind `begin`\n",
     ),
     (
         "VAR x; .",

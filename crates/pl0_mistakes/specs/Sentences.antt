@@ -57,7 +57,8 @@ IsMistakeSentence token before Expected s = (hint : List ℕ) × IsHint hint × 
 IsMistakeSentence token before TooDeep s = s ≡ codes "nested more than 64 deep here"
 IsMistakeSentence token before TooManyNames s = s ≡ codes "the block declares more than 1,024 names"
 IsMistakeSentence token before Twice s = s ≡ quoted token (codes " is declared twice in this block")
-IsMistakeSentence token before Unknown s = s ≡ quoted token (codes " is not declared")
+IsMistakeSentence token before Unknown s =
+    (hint : List ℕ) × IsHint hint × (s ≡ quoted token (codes " is not declared" ++ hint))
 IsMistakeSentence token before TooEarly s = s ≡ quoted token (codes " is used before its declaration")
 IsMistakeSentence token before WrongKind s =
     (misuse : List ℕ) × (one_of misuse (misuses before) ≡ true) × (s ≡ codes "`" ++ (token ++ misuse))

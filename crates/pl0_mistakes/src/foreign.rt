@@ -49,7 +49,7 @@ pub fn is_foreign_between(token: Token<'_>) -> bool {
 }
 
 /// Whether a token is a word by which other languages declare variables.
-pub fn is_type(token: Token<'_>) -> bool {
+fn is_type(token: Token<'_>) -> bool {
     token.is_word_of(TYPES)
 }
 
@@ -125,7 +125,9 @@ pub fn assigning_hint(scene: Scene<'_>) -> Option<Hint<'_>> {
     if is_update(scene) {
         text("the new value is written in full, as in `x := x + 1`")
     } else if lacks_blank(scene) {
-        glued_hint(scene)
+        glued_hint(scene.past.last)
+    } else if lacks_blank_behind_begin(scene) {
+        glued_hint(scene.past.before_opener)
     } else if scene.found.is("=") && scene.past.ended.is("const") && is_new_target(scene) {
         text("constants are declared as in `const a = 1, b = 2;`")
     } else if is_confused(scene) {
@@ -135,9 +137,9 @@ pub fn assigning_hint(scene: Scene<'_>) -> Option<Hint<'_>> {
     }
 }
 
-/// Returns that a blank is missing behind the keyword with which the word before the place begins.
-fn glued_hint(scene: Scene<'_>) -> Option<Hint<'_>> {
-    let keyword = keyword_in_front(scene.past.last)?;
+/// Returns that a blank is missing behind the keyword with which a word begins.
+fn glued_hint(word: Token<'_>) -> Option<Hint<'static>> {
+    let keyword = keyword_in_front(word)?;
     around("perhaps a blank is missing behind `", keyword, "`")
 }
 
@@ -162,6 +164,17 @@ fn lacks_blank(scene: Scene<'_>) -> bool {
         && keyword_in_front(last).is_some_and(|keyword| {
             !keyword.is_one_of("if while") || is_comparison(scene.found)
         })
+}
+
+/// Whether the name that was assigned may be `begin` and a name, and no `begin` is open where one is wanted.
+fn lacks_blank_behind_begin(scene: Scene<'_>) -> bool {
+    let past = scene.past;
+    let keyword = keyword_in_front(past.before_opener);
+    past.begins == 0
+        && past.opener.is(":=")
+        && scene.found.is_one_of("; end")
+        && is_new(scene, past.before_opener)
+        && keyword.is_some_and(|keyword| keyword.is("begin"))
 }
 
 /// Words that PL/0 has no keywords for: the token found, or the one before it.

@@ -3,6 +3,7 @@
 ghost use Rattle.std.specs.Prelude.{◌≡◌, ◌-◌, ◌<◌, [], ◌∷◌, length, drop, codes, MatchOption};
 ghost use Rattle.std.specs.Str.{bytes_eq};
 ghost use Rattle.pl0_mistakes.specs.Found.{from_line, from_place, before_place, front_token, cut};
+ghost use Rattle.pl0_mistakes.specs.Sentences.{one_of};
 
 use pl0_tree::{Place, digits_len, is_space, word_len};
 
@@ -21,10 +22,12 @@ impl<'a> Token<'a> {
     }
 
     /// Whether it is one of these tokens.
-    pub fn is_one_of(self, tokens: &str) -> bool {
+    pub fn is_one_of(self, tokens: &str) -> bool
+        ensures { result ≡ one_of self.entry.bytes.now (cut tokens.now) }
+    {
         let mut rest = tokens.as_bytes();
         while let Some((token, after)) = next_token(rest) {
-            if token.bytes == self.bytes {
+            if self.bytes == token.bytes {
                 return true;
             }
             rest = after;

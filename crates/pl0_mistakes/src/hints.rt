@@ -6,6 +6,7 @@ use crate::foreign::{
     statement_word_hint, word_hint,
 };
 use crate::hint::{Hint, around, text};
+use crate::names::procedure_with;
 use crate::scene::{Scene, is_comparison, is_declaring, is_keyword, is_name};
 use crate::situation::{
     at_opening, begins_early, begins_operand, begins_part, begins_statement, ends_expression,
@@ -54,6 +55,16 @@ pub fn end_hint(scene: Scene<'_>) -> Option<Hint<'_>> {
     } else {
         text("a procedure ends with a `;`")
     }
+}
+
+/// Returns what is said of a name that isn't declared: which procedure has one of this name.
+pub fn unknown_hint(scene: Scene<'_>) -> Option<Hint<'_>> {
+    let procedure = procedure_with(scene.front, scene.found)?;
+    around(
+        "it is declared in procedure `",
+        procedure,
+        "`, and known there alone",
+    )
 }
 
 /// What stands behind the program, and numbers with a fraction.

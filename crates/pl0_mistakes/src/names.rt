@@ -39,6 +39,24 @@ pub fn kind_of(front: &[u8], name: Token<'_>) -> Option<Kind> {
     declared.within(blocks(past.procedures)).nearest()
 }
 
+/// Returns the last procedure in a text's front with a constant or a variable of this name.
+pub fn procedure_with<'a>(front: &'a [u8], name: Token<'_>) -> Option<Token<'a>> {
+    let mut procedure = None;
+    let mut found = None;
+    let mut past = nothing_past();
+    let mut rest = front;
+    while let Some((token, after)) = next_token(rest) {
+        if past.last.is("procedure") {
+            procedure = Some(token);
+        } else if past.opener.is_one_of("const var") && token.bytes == name.bytes {
+            found = procedure;
+        }
+        past = past.followed_by(token);
+        rest = after;
+    }
+    found
+}
+
 /// Whether a name stands behind `procedure` anywhere in bytes.
 pub fn is_procedure_in(bytes: &[u8], name: Token<'_>) -> bool {
     let mut behind = false;

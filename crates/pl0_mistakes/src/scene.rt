@@ -30,6 +30,8 @@ pub struct Past<'a> {
     pub second_last: Token<'a>,
     /// The last keyword, `;`, `:=` or `!`: with it began what the place is in.
     pub opener: Token<'a>,
+    /// The token before the opener: what is assigned, where that is `:=`.
+    pub before_opener: Token<'a>,
     /// What the last `;` ended, by the keyword, `:=` or `!` before it.
     pub ended: Token<'a>,
     /// How many `begin`s, `(`s and blocks of procedures are open.
@@ -87,6 +89,7 @@ pub fn nothing_past() -> Past<'static>
         last: none,
         second_last: none,
         opener: none,
+        before_opener: none,
         ended: none,
         begins: 0,
         parentheses: 0,
@@ -118,6 +121,7 @@ impl<'a> Past<'a> {
             last: token,
             second_last: self.last,
             opener: if opens { token } else { self.opener },
+            before_opener: if opens { self.last } else { self.before_opener },
             ended: if token.is(";") {
                 self.opener
             } else {
@@ -135,7 +139,7 @@ impl<'a> Past<'a> {
     }
 
     /// Whether a token ends the block of a procedure: a `;` behind a statement that no `begin` encloses.
-    pub fn ends_block(self, token: Token<'a>) -> bool {
+    fn ends_block(self, token: Token<'a>) -> bool {
         token.is(";") && self.begins == 0 && !is_declaring(self.opener)
     }
 }

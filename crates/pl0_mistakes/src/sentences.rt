@@ -6,7 +6,7 @@ ghost use Rattle.pl0_mistakes.specs.Written.{bytes_of, hinted};
 
 use crate::characters::{foreign_hint, unreadable_hint};
 use crate::hint::Hint;
-use crate::hints::{end_hint, hint_for};
+use crate::hints::{end_hint, hint_for, unknown_hint};
 use crate::names::{Kind, kind_of};
 use crate::scene::Scene;
 use crate::situation::at_opening;
@@ -43,7 +43,7 @@ pub fn sentence_for<'a>(kind: FaultKind, token: &'a [u8], scene: Scene<'a>) -> S
         FaultKind::TooDeep => plain("nested more than 64 deep here", None),
         FaultKind::TooManyNames => plain("the block declares more than 1,024 names", None),
         FaultKind::Twice => quoted(token, "` is declared twice in this block", None),
-        FaultKind::Unknown => quoted(token, "` is not declared", None),
+        FaultKind::Unknown => quoted(token, "` is not declared", unknown_hint(scene)),
         FaultKind::TooEarly => quoted(token, "` is used before its declaration", None),
         FaultKind::WrongKind => quoted(token, misuse(scene), None),
     }

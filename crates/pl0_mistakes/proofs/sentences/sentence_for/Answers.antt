@@ -20,8 +20,10 @@ returns-in-Twice c = of_kind c.args.token.now c.args.scene.past.last.bytes.now _
     Twice c.in-Twice.is c.quoted.ensures
 
 pub returns-in-Unknown : goal.returns-in-Unknown
-returns-in-Unknown c = of_kind c.args.token.now c.args.scene.past.last.bytes.now _ _
-    Unknown c.in-Unknown.is c.quoted-in-Unknown.ensures
+returns-in-Unknown c =
+    let hint = c.unknown_hint.result in
+    of_kind c.args.token.now c.args.scene.past.last.bytes.now _ _
+    Unknown c.in-Unknown.is (hinted hint, told hint, c.quoted-in-Unknown.ensures)
 
 pub returns-in-TooEarly : goal.returns-in-TooEarly
 returns-in-TooEarly c = of_kind c.args.token.now c.args.scene.past.last.bytes.now _ _
