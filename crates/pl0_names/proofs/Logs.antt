@@ -110,7 +110,14 @@ module _ {T : Type 0} where
       (latest_entry es w)
   found_is n [] w nested = no_found 0 n w [] refl
   found_is n (e ∷ es) w nested =
-      grind (arith, common_steps, found_is n es w (nested_more (e.level + 1) n es (omega arith) nested.1), found_put, found_here, nested_more)
+      grind (
+        arith,
+        common_steps,
+        found_is n es w (nested_more (e.level + 1) n es (omega arith) nested.1),
+        found_put,
+        found_here,
+        nested_more,
+      )
 
   -- ---- indices
 
