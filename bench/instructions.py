@@ -125,6 +125,8 @@ def runs() -> list[Run]:
         Run("a step in slices, a false condition in the loop", "slices", loop, few, in_the_loop("x < 0")),
         Run("a step in slices, a false condition of another form", "slices", loop, few, in_the_loop("x + 1 < 0")),
         Run("a step in slices, a hit condition in the loop", "slices", loop, few, in_the_loop("", "1000000")),
+        Run("a step in slices, a hit condition with a condition beside it", "slices", loop, few,
+            in_the_loop("x < 1000000", "1000000")),
         *(Run(f"a step in slices, a false condition on a variable around, {frames:,} frames", "slices", below(frames),
               few, ("7", "1", "a < 0")) for frames in DEEP),
         Run("a step in slices, each tenth writes", "slices", writing, few),

@@ -135,8 +135,8 @@ def session_goals(log: Log) -> list[Goal]:
 STEPPING = [
     ("a step of `primes`, in a call that `next` passes over", "`next`", 65),
     ("a step of `count`, in a procedure that `stepOut` leaves", "`stepOut`", 28),
-    ("a step in slices, a hit condition in the loop", "a hit condition", 110),
-    ("a step in slices, a false condition of another form", "`x + 1 < 0`", 160),
+    ("a step in slices, a hit condition in the loop", "a hit condition", 44),
+    ("a step in slices, a false condition of another form", "`x + 1 < 0`", 96),
     ("a step in slices, each tenth writes", "`writing`", 70),
 ]
 
