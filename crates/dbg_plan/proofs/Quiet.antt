@@ -1,7 +1,7 @@
 -- Quiet steps of a machine.
 use Rattle.std.proofs.Common.{◌≡◌, ℕ, ◌+◌, ◌<◌, false, List, [], ◌∷◌, length, Option, Some, None, ℤ, refl, sym, ap, ◌∙◌, subst, arith}
 use Rattle.pl0_meaning.specs.Values.{Configuration}
-use Rattle.pl0_meaning.specs.Runs.{Outcome, Goes, Faults, Stuck, at, led_to, written_by}
+use Rattle.pl0_meaning.specs.Runs.{Outcome, Goes, Faults, Stuck, at, led_to}
 use Rattle.pl0_meaning.proofs.Linking.{at_next}
 use Rattle.pl0_machine.specs.declared.outcome.StepOutcome.{StepOutcome}
 use Rattle.pl0_machine.specs.declared.outcome.StepOutcome.TheVariants.{Went}
@@ -9,10 +9,13 @@ use Rattle.pl0_machine.specs.Machine.{Standing, program, frames_of, depth_of, ou
 use Rattle.dbg_plan.specs.Breakpoints.{Breakpoint}
 use Rattle.dbg_plan.specs.Running.{has_hit, IsQuiet}
 
--- a step that wrote nothing and led to a position where no breakpoint is met
-abbrev pub IsQuietly : ℕ → List Breakpoint → ℕ → StepOutcome → Standing → Type 0
-IsQuietly outer breakpoints t result new =
-    (result ≡ Went None) × (outer < depth_of new) × (has_hit breakpoints t new ≡ false)
+-- a step that led to a position where no breakpoint is met
+pub record IsQuietly (outer : ℕ) (breakpoints : List Breakpoint) (t : ℕ) (result : StepOutcome) (new : Standing)
+    : Type 0 where
+  pub written : Option ℤ
+  pub went : result ≡ Went written
+  pub running : outer < depth_of new
+  pub unmet : has_hit breakpoints t new ≡ false
 
 module _ (outer : ℕ) (breakpoints : List Breakpoint) (t : ℕ) (old new : Standing) (result : StepOutcome)
     (stepped : Stepped (outcome_of old) old result new) where
@@ -24,20 +27,17 @@ module _ (outer : ℕ) (breakpoints : List Breakpoint) (t : ℕ) (old new : Stan
       let some : outer < length (frames_of o) = subst (λ c. outer < length (frames_of c)) there quiet.running in
       omega (arith, none, some)
 
-  writes : (v : ℤ) → v ∷ [] ≡ [] → ⊥
-  writes v e = cc
-
   pub is_told : IsQuiet outer breakpoints t old → IsQuietly outer breakpoints t result new
-  is_told quiet = by_outcome (outcome_of old) refl stepped quiet.silent
+  is_told quiet = by_outcome (outcome_of old) refl stepped
     where
-      by_outcome : (o : Outcome) → outcome_of old ≡ o → Stepped o old result new → written_by o ≡ []
+      by_outcome : (o : Outcome) → outcome_of old ≡ o → Stepped o old result new
           → IsQuietly outer breakpoints t result new
-      by_outcome (Goes None []) e s none = absurd (ends_run (Some []) (ap led_to e) refl quiet)
-      by_outcome (Goes None (f ∷ below)) e s none = (
-        s.0,
-        subst (λ m. outer < depth_of m) (sym s.1) quiet.running,
-        subst (λ m. has_hit breakpoints t m ≡ false) (sym s.1) quiet.unmet,
-      )
-      by_outcome (Goes (Some v) c) e s none = absurd (writes v none)
-      by_outcome (Faults fault) e s none = absurd (ends_run None (ap led_to e) refl quiet)
-      by_outcome Stuck e s none = absurd s
+      by_outcome (Goes written []) e s = absurd (ends_run (Some []) (ap led_to e) refl quiet)
+      by_outcome (Goes written (f ∷ below)) e s = record {
+        written = written;
+        went = s.0;
+        running = subst (λ m. outer < depth_of m) (sym s.1) quiet.running;
+        unmet = subst (λ m. has_hit breakpoints t m ≡ false) (sym s.1) quiet.unmet;
+      }
+      by_outcome (Faults fault) e s = absurd (ends_run None (ap led_to e) refl quiet)
+      by_outcome Stuck e s = absurd s

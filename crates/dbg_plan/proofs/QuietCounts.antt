@@ -1,9 +1,10 @@
 -- A debuggee whose machine took quiet steps, and perhaps one more.
-use Rattle.std.proofs.Common.{◌≡◌, ℕ, zero, suc, ◌+◌, ◌<◌, ◌≤◌, Bool, true, false, ⊎_elim, List, [], ◌∷◌, ◌++◌, Option, Some, None, ℤ, refl, sym, ap, ◌∙◌, subst, arith, append-nil}
+use Rattle.std.proofs.Common.{◌≡◌, ℕ, zero, suc, ◌+◌, ◌-◌, ◌<◌, ◌≤◌, ◌⊎◌, Bool, true, false, ⊎_elim, List, [], ◌∷◌, ◌++◌, length, length-append, Option, Some, None, ℤ, refl, sym, ap, ◌∙◌, subst, arith, append-nil}
 use Rattle.pl0_unit.specs.declared.unit.Unit.{Unit as Compiled}
 use Rattle.pl0_meaning.specs.declared.RunFault.{RunFault}
 use Rattle.pl0_meaning.specs.Laws.{FramesAreLinked}
-use Rattle.pl0_meaning.specs.Runs.{Outcome, Goes, Faults, Stuck, written_by}
+use Rattle.pl0_meaning.specs.Runs.{Outcome, Goes, Faults, Stuck, written_by, written}
+use Rattle.pl0_meaning.proofs.SharedLemmas.{written_from_few}
 use Rattle.pl0_machine.specs.declared.outcome.StepOutcome.{StepOutcome}
 use Rattle.pl0_machine.specs.declared.outcome.StepOutcome.TheVariants.{Went, Done, Fault}
 use Rattle.pl0_machine.specs.declared.mark.Marks.{Marks}
@@ -17,9 +18,9 @@ use Rattle.dbg_plan.specs.Counts.{IsCounting, debugged_of, plan_of, next_at, nex
 use Rattle.dbg_plan.specs.Kept.{trail_of}
 use Rattle.dbg_plan.specs.declared.mode.Mode.{Mode}
 use Rattle.dbg_plan.specs.Debugged.{Debugged, machine_of, IsNext, IsRunning}
-use Rattle.pl0_machine.specs.Stretches.{ahead, AreCounted, IsUnseen, Stretches, EndsRun, RanOn}
+use Rattle.pl0_machine.specs.Stretches.{ahead, AreCounted, IsUnseen, Stretches, EndsRun, LacksRoom, Adds, RanOn}
 use Rattle.dbg_plan.specs.Advances.{considered_at}
-use Rattle.dbg_plan.specs.Running.{has_hit, IsQuiet, RanFrom}
+use Rattle.dbg_plan.specs.Running.{has_hit, IsQuiet, with_written, RanFrom}
 use Rattle.dbg_plan.specs.Quiet.{Watches, EndsAt, RanTo, considered_after}
 use Rattle.dbg_plan.proofs.Counted.{same_length, hit_is, counted_on}
 use Rattle.dbg_plan.proofs.Further.{was_considered, stays_counting}
@@ -71,7 +72,7 @@ module _ (laws : FramesAreLinked) (d : Inside) (was : IsCounting d) (behind : ne
         counts_now
 
     is_quiet : (new : List ℕ) → IsUnseen outer marks m counts new → IsQuiet outer breakpoints d.counted_from m
-    is_quiet new u = record { silent = u.silent; running = u.running; unmet = hit_at false new u.undue }
+    is_quiet new u = record { running = u.running; unmet = hit_at false new u.undue }
 
     counts_on : (new : List ℕ) → IsUnseen outer marks m counts new → IsCounting (with_machine next new)
     counts_on new u =
@@ -110,23 +111,32 @@ module _ (laws : FramesAreLinked) (d : Inside) (was : IsCounting d) (behind : ne
     place : last.position ≡ d.machine.position + s.steps
     place = ap (λ (m : Standing). m.position) s.led
 
-    -- the step after them isn't quiet, where a run ends
-    not_quiet : (outcome : StepOutcome) (new : Standing) → Stepped (outcome_of last) last outcome new
-        → (outcome ≡ Went None → EndsRun outer marks new after) → ¬ IsQuiet outer breakpoints d.counted_from last
-    not_quiet outcome new stepped ends quiet =
+    -- the step after them isn't quiet, where a run ends and there was room
+    not_quiet : (numbers : List ℤ) (room : ℕ) → length numbers < room → (outcome : StepOutcome) (new : Standing)
+        → Stepped (outcome_of last) last outcome new
+        → ((written : Option ℤ) → outcome ≡ Went written
+        → EndsRun outer marks new after ⊎ LacksRoom written numbers room)
+        → ¬ IsQuiet outer breakpoints d.counted_from last
+    not_quiet numbers room fits outcome new stepped ends quiet =
         let told = is_told outer breakpoints d.counted_from last new outcome stepped quiet in
-        let went = went_on last new outcome stepped None told.0 in
-        ⊎_elim (λ few. let more = told.1 in absurd (omega (arith, few, more)))
+        let went = went_on last new outcome stepped told.written told.went in
+        ⊎_elim
+        (λ ends. ⊎_elim (λ few. let more = told.running in absurd (omega (arith, few, more)))
         (λ counted.
         let met : has_hit breakpoints d.counted_from (ahead last 1) ≡ true =
         hit_at last same_there after stands true after (subst (λ m. AreCounted marks m after true after) went.0 counted)
         in
         let unmet : has_hit breakpoints d.counted_from (ahead last 1) ≡ false =
-        subst (λ m. has_hit breakpoints d.counted_from m ≡ false) went.0 told.2 in
-        differ (has_hit breakpoints d.counted_from (ahead last 1)) met unmet) (ends told.0)
+        subst (λ m. has_hit breakpoints d.counted_from m ≡ false) went.0 told.unmet in
+        differ (has_hit breakpoints d.counted_from (ahead last 1)) met unmet) ends)
+        (λ lacks. has_room told.written lacks) (ends told.written told.went)
       where
         differ : (b : Bool) → b ≡ true → b ≡ false → ⊥
         differ b met unmet = cc
+
+        has_room : (written : Option ℤ) → LacksRoom written numbers room → ⊥
+        has_room None lacks = lacks
+        has_room (Some number) lacks = omega (arith, fits, lacks)
 
   -- how the steps end at a machine, from which one more leads to another
   abbrev EndsThere : StepOutcome → Standing → Standing → Type 0
@@ -151,8 +161,12 @@ module _ (laws : FramesAreLinked) (d : Inside) (was : IsCounting d) (behind : ne
   left_by new after outcome =
       record d { machine = new; counts = after; considered = considered_after outcome }
 
-  module _ (new : Standing) (after : List ℕ) where
-    pub counting_after : (outcome : Option StepOutcome) → RanOn limit outer marks d.machine outcome new d.counts after
+  module _ (new : Standing) (after : List ℕ) (room : ℕ) (before numbers : List ℤ)
+      (roomy : length before + (limit - d.machine.position) ≤ room) where
+    abbrev Ran : Option StepOutcome → Type 0
+    Ran outcome = RanOn limit outer marks d.machine outcome new d.counts after room before numbers
+
+    pub counting_after : (outcome : Option StepOutcome) → Ran outcome
         → IsCounting (left_by new after outcome)
     counting_after None ran =
         subst (λ b. IsCounting (record (with_machine new after) { considered = b })) considered
@@ -170,9 +184,9 @@ module _ (laws : FramesAreLinked) (d : Inside) (was : IsCounting d) (behind : ne
     -- quiet steps, and where they end
     quietly : (outcome : Option StepOutcome) (last : Standing) (s : Stretches outer marks d.machine last d.counts after)
         → last.position ≤ limit
-        → EndsAt limit outer (considered_at (debugged_of d) ((debugged_of d).position + s.steps)) outcome
-        (debugged_of (left_by new after outcome))
-        → RanTo limit outer (debugged_of d) outcome (debugged_of (left_by new after outcome))
+        → EndsAt limit outer (considered_at (debugged_of d) ((debugged_of d).position + s.steps))
+        (with_written (debugged_of d) s.steps before) outcome (debugged_of (left_by new after outcome)) numbers
+        → RanTo limit outer (debugged_of d) before outcome (debugged_of (left_by new after outcome)) numbers
     quietly outcome last s within ends =
         let there = place last after s in
         record {
@@ -183,20 +197,38 @@ module _ (laws : FramesAreLinked) (d : Inside) (was : IsCounting d) (behind : ne
           ends = ends;
         }
 
-    ends_there : (outcome : StepOutcome) (ran : RanOn limit outer marks d.machine (Some outcome) new d.counts after)
+    -- fewer numbers were appended than there is room for
+    pub fewer : (outcome : StepOutcome) → Ran (Some outcome) → length numbers < room
+    fewer outcome ran =
+        let there = place ran.0 after ran.1 in
+        let below = ran.2 in
+        let all = ap length ran.5
+        ∙ length-append before (written (program d.machine) d.machine.position ran.0.position) in
+        let few = written_from_few (program d.machine) d.machine.position (ran.0.position - d.machine.position) in
+        omega (arith, there, below, all, few, roomy)
+
+    -- what was appended, by the number of steps
+    appended : (last : Standing) (s : Stretches outer marks d.machine last d.counts after)
+        → Adds d.machine last before numbers → numbers ≡ with_written (debugged_of d) s.steps before
+    appended last s adds =
+        subst (λ (m : Standing). numbers ≡ before ++ written (program d.machine) d.machine.position m.position) s.led
+        adds
+
+    ends_there : (outcome : StepOutcome) (ran : Ran (Some outcome))
         → EndsThere outcome new (ahead d.machine ran.1.steps)
     ends_there outcome ran =
         subst (λ m. EndsThere outcome new m) ran.1.led
-        (ran.2, not_quiet ran.0 after ran.1 outcome new ran.3 ran.4, ran.3)
+        (ran.2, not_quiet ran.0 after ran.1 numbers room (fewer outcome ran) outcome new ran.3 ran.4, ran.3)
 
-    pub ran_to : (outcome : Option StepOutcome) → RanOn limit outer marks d.machine outcome new d.counts after
-        → RanTo limit outer (debugged_of d) outcome (debugged_of (left_by new after outcome))
+    pub ran_to : (outcome : Option StepOutcome) → Ran outcome
+        → RanTo limit outer (debugged_of d) before outcome (debugged_of (left_by new after outcome)) numbers
     ran_to None ran =
         let reached = ran.1 in
         let there = place new after ran.0 in
         quietly None new ran.0 (omega (arith, reached)) (
           ap (λ m. debugged_of (record d { machine = m; considered = true })) ran.0.led,
           omega (arith, reached, there),
+          appended new ran.0 ran.2,
         )
     ran_to (Some (Went written)) ran =
         let below = ran.2 in
@@ -208,6 +240,7 @@ module _ (laws : FramesAreLinked) (d : Inside) (was : IsCounting d) (behind : ne
           ends.2,
           with_unit new d.machine.unit _ _ (same_unit last new (Went written) ends.2)
               (goes_on last new (Went written) ends.2 (went_goes written)),
+          appended ran.0 ran.1 ran.5,
         )
     ran_to (Some Done) ran =
         let below = ran.2 in
@@ -218,6 +251,7 @@ module _ (laws : FramesAreLinked) (d : Inside) (was : IsCounting d) (behind : ne
           ends.1,
           ends.2,
           with_unit new d.machine.unit _ _ (same_unit last new Done ends.2) (goes_on last new Done ends.2 done_goes),
+          appended ran.0 ran.1 ran.5,
         )
     ran_to (Some (Fault fault)) ran =
         let below = ran.2 in
@@ -230,13 +264,14 @@ module _ (laws : FramesAreLinked) (d : Inside) (was : IsCounting d) (behind : ne
           ends.2,
           with_unit new d.machine.unit _ _ (same_unit last new (Fault fault) ends.2)
               (ap (λ (m : Standing). m.position + 1) same),
+          appended ran.0 ran.1 ran.5,
         )
 
     -- where the last step went on, its position is the next to be considered
-    pub is_next : (outcome : Option StepOutcome) → RanOn limit outer marks d.machine outcome new d.counts after
+    pub is_next : (outcome : Option StepOutcome) → Ran outcome
         → (written : Option ℤ) → outcome ≡ Some (Went written) → IsNext (debugged_of (left_by new after outcome))
     is_next outcome ran written is =
-        let went = subst (λ o. RanOn limit outer marks d.machine o new d.counts after) is ran in
+        let went = subst (λ o. Ran o) is ran in
         subst (λ o. IsNext (debugged_of (left_by new after o))) (sym is)
         (record { here = refl; running = (went_on went.0 new (Went written) went.3 written refl).1 })
 
@@ -248,13 +283,14 @@ fault_is (Goes written (f ∷ below)) old new fault s = let other : Fault fault 
 fault_is (Faults other) old new fault s = let same : Fault fault ≡ Fault other = s.0 in cc
 fault_is Stuck old new fault s = absurd s
 
-pub faulted : (limit outer : ℕ) (mode : Mode) (old new : Debugged) (numbers : List ℤ) (fault : RunFault)
-    → RanTo limit outer old (Some (Fault fault)) new
-    → RanFrom limit outer mode old numbers (Some (advance.Fault fault)) new numbers []
-faulted limit outer mode old new numbers fault ran =
+pub faulted : (limit outer : ℕ) (mode : Mode) (old new : Debugged) (before after : List ℤ) (fault : RunFault)
+    → RanTo limit outer old before (Some (Fault fault)) new after
+    → RanFrom limit outer mode old before (Some (advance.Fault fault)) new after []
+faulted limit outer mode old new before after fault ran =
     let d = considered_at old (old.position + ran.steps) in
     let stays = stays_there (machine_of d) (machine_of new) (Fault fault) ran.ends.2 fault refl in
     let is = fault_is (outcome_of (machine_of d)) (machine_of d) (machine_of new) fault ran.ends.2 in
+    let wrote = with_written old ran.steps before in
     record {
       steps = ran.steps;
       quiet = ran.quiet;
@@ -264,6 +300,6 @@ faulted limit outer mode old new numbers fault ran =
         ran.ends.0,
         ran.ends.1,
         (ran.ends.3 ∙ ap (λ (m : Standing). record d { position = m.position }) stays, is, refl),
-        sym (ap (λ o. numbers ++ written_by o) is ∙ append-nil numbers),
+        ran.ends.4 ∙ sym (ap (λ o. wrote ++ written_by o) is ∙ append-nil wrote),
       );
     }

@@ -75,7 +75,7 @@ fn entered(plan: Arc<Plan>) -> Option<Arc<Plan>>
 }
 
 impl Debuggee {
-    ghost use Rattle.std.specs.Prelude.{◌≡◌, ◌+◌, ◌<◌, ◌≤◌, ◌++◌, [], ℤ, Option, Some, option_map, vec_len, vec_capacity};
+    ghost use Rattle.std.specs.Prelude.{◌≡◌, ◌+◌, ◌-◌, ◌<◌, ◌≤◌, ◌++◌, [], ℤ, Option, Some, length, option_map, vec_len, vec_capacity};
     ghost use Rattle.pl0_tree.specs.Plain.{plain_expression};
     ghost use Rattle.pl0_meaning.specs.Runs.{written_by};
     ghost use Rattle.pl0_meaning.specs.Values.{value};
@@ -224,27 +224,39 @@ impl Debuggee {
         }
     }
 
-    /// Takes steps that write nothing, lead to no arrival that is due and leave more than `outer` frames alive, up to the
-    /// position `limit`, and returns `None` there. Any other step is the last one, and what it did is returned; the position
-    /// that it leads to isn't considered.
+    /// Takes steps that lead to no arrival that is due and leave more than `outer` frames alive, up to the position `limit`,
+    /// and returns `None` there. Any other step is the last one, and what it did is returned; the position that it leads to
+    /// isn't considered. What the steps before it write is appended to `numbers`, which has room for what all write.
     #[inline(always)]
-    fn run_quietly(&mut self, limit: u64, outer: usize) -> Option<StepOutcome>
+    fn run_quietly(
+        &mut self,
+        limit: u64,
+        outer: usize,
+        numbers: &mut Vec<i64>,
+    ) -> Option<StepOutcome>
         requires considered { IsConsidered self.old }
         requires alive { outer < depth_of (machine_of self.old) }
         requires within { self.old.position ≤ limit }
-        ensures ran { RanTo limit outer self.old result self.new }
+        requires room { length numbers.old.items + (limit - self.old.position) ≤ vec_capacity numbers.old }
+        ensures ran { RanTo limit outer self.old numbers.old.items result self.new numbers.new.items }
         ensures next { (written : Option ℤ) → result ≡ Some (Went written) → IsNext self.new }
+        ensures room { (written : Option ℤ) → result ≡ Some (Went written) →
+            length numbers.new.items < vec_capacity numbers.new }
+        ensures capacity { vec_capacity numbers.new ≡ vec_capacity numbers.old }
     {
         configuration_laws();
         let marks = marks_of(&self.plan);
-        let outcome = self.machine.run(limit, outer, marks, &mut self.counts);
+        let outcome = self
+            .machine
+            .run(limit, outer, marks, &mut self.counts, numbers);
         self.considered = stays_considered(outcome);
         outcome
     }
 
-    /// Advances up to the position `limit`, while the steps write nothing, lead to no arrival that is due and leave more than
-    /// `outer` frames alive, and returns `None` there. Any other step is the last one, taken as `advance` takes it, and
-    /// where it led is returned. `logs` is empty before, and holds what the last position logs afterwards.
+    /// Advances up to the position `limit`, while the steps lead to no arrival that is due and leave more than `outer` frames
+    /// alive, and returns `None` there. Any other step is the last one, taken as `advance` takes it, and where it led is
+    /// returned. What the steps write is appended to `numbers`, which has room for it. `logs` is empty before, and holds
+    /// what the last position logs afterwards.
     #[inline(always)]
     pub fn run(
         &mut self,
@@ -257,12 +269,12 @@ impl Debuggee {
         requires considered { IsConsidered self.old }
         requires alive { outer < depth_of (machine_of self.old) }
         requires within { self.old.position ≤ limit }
-        requires room { vec_len numbers.old < vec_capacity numbers.old }
+        requires room { length numbers.old.items + (limit - self.old.position) ≤ vec_capacity numbers.old }
         requires empty { logs.old ≡ [] }
         ensures ran { RanFrom limit outer mode self.old numbers.old.items result self.new numbers.new.items logs.new }
         ensures capacity { vec_capacity numbers.new ≡ vec_capacity numbers.old }
     {
-        match self.run_quietly(limit, outer)? {
+        match self.run_quietly(limit, outer, numbers)? {
             StepOutcome::Went(written) => {
                 if let Some(last) = written {
                     numbers.push_reserved(last);

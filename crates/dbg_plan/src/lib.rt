@@ -68,4 +68,3 @@ pub use message::{BoundExpression, EXPRESSION_LIMIT, LogMessage, Part};
 pub use mode::{Mode, Reason};
 pub use plan::{Plan, same_plan, share_plan};
 pub use resolving::{Resolution, SourceBreakpoint, resolve};
-pub use running::next_run;

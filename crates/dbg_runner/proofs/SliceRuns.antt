@@ -1,9 +1,10 @@
 -- What the steps of a slice leave: one by one, or by runs of the debuggee.
-use Rattle.dbg_runner.proofs.Common.{[], Advance, Advanced, ap, arith, back_if, Closes, considered_at, counts_from, Debugged, Done, ending, ending_by, false, Fault, goes_back, IsConsidered, IsOfSlice, IsRoomOf, IsWritten, List, Log, Mode, None, Option, option_and_then, debugged_program, RanFurther, refl, Room, slice_limit, sliced, SliceOutcome, Some, StandsAtEnd, stopped, subst, suc, sym, To, TookSteps, written, written_before, written_from, zero, ℕ, ℤ, ◌+◌, ◌-◌, ◌<◌, ◌∙◌, ◌∷◌, ◌≡◌, ◌≤◌}
-use Rattle.dbg_plan.specs.Running.{IsUndueAbove}
+use Rattle.dbg_runner.proofs.Common.{[], Advance, Advanced, ap, append-nil, append_assoc, arith, back_if, Closes, considered_at, counts_from, Debugged, Done, ending, ending_by, false, Fault, goes_back, IsConsidered, IsOfSlice, IsRoomOf, IsWritten, List, Log, Mode, None, Option, option_and_then, debugged_program, RanFurther, refl, Room, slice_limit, sliced, SliceOutcome, Some, StandsAtEnd, stopped, subst, suc, sym, To, TookSteps, written, written_before, written_by, written_from, outcome, zero, ℕ, ℤ, ◌++◌, ◌+◌, ◌-◌, ◌<◌, ◌∙◌, ◌∷◌, ◌≡◌, ◌≤◌}
+use Rattle.pl0_meaning.proofs.SharedLemmas.{written-next}
+use Rattle.dbg_plan.specs.Running.{IsUndueAbove, with_written}
 use Rattle.dbg_plan.proofs.Unwatched.{not_due_above, nothing_logged}
 use Rattle.dbg_runner.specs.declared.outcome.SliceOutcome.TheVariants as out
-use Rattle.dbg_runner.proofs.SliceSteps.{Underway, nothing_more, is_empty, goes, ended, spent}
+use Rattle.dbg_runner.proofs.SliceSteps.{Underway, is_empty, goes, ended, spent}
 
 -- a step ends no slice as one that was held, or had no memory
 by_logs_of_slice : (logged : List Log) (outcome : SliceOutcome) → ending_by logged ≡ Some outcome → IsOfSlice outcome
@@ -186,21 +187,44 @@ module _ (mode : Mode) (forward : goes_back mode ≡ false) (outer : ℕ) (undue
   empty : room.logs ≡ []
   empty = is_empty mode start d room s
 
-  underway : (k : ℕ) → k ≤ f.ran.steps → Underway mode start (considered_at d (d.position + k)) room
+  -- the room after k quiet steps
+  abbrev left : ℕ → Room
+  left k = record room { numbers = with_written d k room.numbers }
+
+  left_none : room ≡ left 0
+  left_none =
+      let e : d.position + 0 - d.position ≡ 0 = omega arith in
+      sym (ap (λ n. record room { numbers = room.numbers ++ written_from (debugged_program d) d.position n }) e
+      ∙ ap (λ ns. record room { numbers = ns }) (append-nil room.numbers))
+
+  -- a quiet step writes as any other
+  left_next : (k : ℕ) → IsWritten (considered_at d (d.position + k)) (left k) [] (left (suc k))
+  left_next k =
+      let e : d.position + suc k ≡ d.position + k + 1 = omega arith in
+      let main = debugged_program d in
+      ap (λ ns. record room { numbers = ns })
+      (ap (λ p. room.numbers ++ written main d.position p) e
+      ∙ ap (λ ns. room.numbers ++ ns) (written-next main d.position (d.position + k) (omega arith))
+      ∙ sym (append_assoc room.numbers (written main d.position (d.position + k))
+      (written_by (outcome main (d.position + k)))))
+      ∙ ap (λ ls. record (left k)
+      { numbers = (left k).numbers ++ written_by (outcome main (d.position + k)); logs = ls }) empty
+
+  underway : (k : ℕ) → k ≤ f.ran.steps → Underway mode start (considered_at d (d.position + k)) (left k)
   underway zero le =
       let e : d.position ≡ d.position + 0 = omega arith in
-      subst (λ e. Underway mode start e room)
+      subst (λ r. Underway mode start (considered_at d (d.position + 0)) r) left_none
+      (subst (λ e. Underway mode start e room)
       (ap (λ (n : ℕ). record d { next = n }) (behind mode start d room s)
-      ∙ ap (λ (p : ℕ). record d { position = p; next = p + 1 }) e) s
+      ∙ ap (λ (p : ℕ). record d { position = p; next = p + 1 }) e) s)
   underway (suc k) le =
       let e : d.position + k + 1 ≡ d.position + suc k = omega arith in
       let w = f.ran.within in
       let q = f.ran.quiet k (omega (arith, le)) in
       let next = considered_at d (d.position + k + 1) in
-      subst (λ (p : ℕ). Underway mode start (record d { position = p; next = p + 1 }) room) e
-      (goes mode forward start (considered_at d (d.position + k)) room (underway k (omega (arith, le)))
-      (omega (arith, le, w)) next []
-      room (nothing_more (considered_at d (d.position + k)) room empty q.silent) (To None) (
+      subst (λ (p : ℕ). Underway mode start (record d { position = p; next = p + 1 }) (left (suc k))) e
+      (goes mode forward start (considered_at d (d.position + k)) (left k) (underway k (omega (arith, le)))
+      (omega (arith, le, w)) next [] (left (suc k)) (left_next k) (To None) (
         refl,
         record { behind = refl; running = (let more = q.running in omega (arith, more)) },
         sym (not_due_above mode outer undue next q.unmet q.running),
@@ -208,18 +232,19 @@ module _ (mode : Mode) (forward : goes_back mode ≡ false) (outer : ℕ) (undue
       ) refl)
 
   abbrev ClosesBy : Option Advance → Type 0
-  ClosesBy answer = Closes (start.position + slice_limit) outer mode last room.numbers answer new more.numbers more.logs
+  ClosesBy answer =
+      Closes (start.position + slice_limit) outer mode last (left f.ran.steps).numbers answer new more.numbers more.logs
 
   abbrev end_by : Option Advance → Option SliceOutcome
   end_by answer = option_and_then (λ a. ending a more.logs) answer
 
-  wrote : (a : Advance) → ClosesBy (Some a) → IsWritten last room more.logs more
+  wrote : (a : Advance) → ClosesBy (Some a) → IsWritten last (left f.ran.steps) more.logs more
   wrote a closes = f.kept ∙ ap (λ (ns : List ℤ). record room { numbers = ns; logs = more.logs }) closes.3
 
-  -- at the limit the room is as it was
-  as_before : ClosesBy None → room ≡ more
-  as_before closes =
-      let same : room ≡ record room { numbers = more.numbers; logs = more.logs } = λ i. record {
+  -- at the limit the room is as the quiet steps left it
+  as_left : ClosesBy None → left f.ran.steps ≡ more
+  as_left closes =
+      let same : left f.ran.steps ≡ record room { numbers = more.numbers; logs = more.logs } = λ i. record {
         unit = room.unit;
         breakpoints = room.breakpoints;
         numbers = (sym closes.1) i;
@@ -233,10 +258,11 @@ module _ (mode : Mode) (forward : goes_back mode ≡ false) (outer : ℕ) (undue
       by_answer : (o : Option Advance) → ClosesBy o → end_by o ≡ None → Underway mode start new more
       by_answer None closes is =
           subst (λ e. Underway mode start e more) (sym closes.0)
-          (subst (λ (m : Room). Underway mode start last m) (as_before closes)
+          (subst (λ (m : Room). Underway mode start last m) (as_left closes)
           (underway f.ran.steps (omega arith)))
       by_answer (Some a) closes is =
-          goes mode forward start last room (underway f.ran.steps (omega arith)) closes.0 new more.logs more
+          goes mode forward start last (left f.ran.steps) (underway f.ran.steps (omega arith)) closes.0 new more.logs
+          more
           (wrote a closes) a closes.2 is
 
   pub came_further : result ≡ None → d.position < new.position
@@ -259,5 +285,6 @@ module _ (mode : Mode) (forward : goes_back mode ≡ false) (outer : ℕ) (undue
           → TookSteps mode start outcome new more
       by_answer None closes is = absurd cc
       by_answer (Some a) closes is =
-          took mode forward start last room (underway f.ran.steps (omega arith)) closes.0 new more (wrote a closes) a
+          took mode forward start last (left f.ran.steps) (underway f.ran.steps (omega arith)) closes.0 new more
+          (wrote a closes) a
           closes.2 outcome is

@@ -4,7 +4,7 @@ ghost use Rattle.std.specs.Prelude.{◌≡◌, ◌+◌, ◌-◌, ◌<◌, ◌≤
 ghost use Rattle.dbg_plan.specs.Debugged.{debugged_program, IsConsidered, due_now};
 ghost use Rattle.dbg_plan.specs.declared.mode.Mode.TheVariants.{Continue};
 ghost use Rattle.dbg_runner.specs.Lawful.{RunsAt};
-ghost use Rattle.dbg_runner.specs.Rooms.{IsRoomOf};
+ghost use Rattle.dbg_runner.specs.Rooms.{IsRoomOf, slice_limit};
 ghost use Rattle.dbg_runner.specs.Hops.{Hopped, last_due_up_to, standing, gone_back};
 
 use crate::outputs::Outputs;
@@ -28,11 +28,12 @@ pub fn go_back(debuggee: &mut Debuggee, outputs: &mut Outputs, to: u64) -> bool
     due.is_some()
 }
 
-/// Goes on to the next arrival that is due or the next number, at most to the position `limit`, where the program
-/// still runs. Returns whether a breakpoint is due there.
+/// Goes on to the next arrival that is due, at most to the position `limit`, where the program still runs. Returns whether a
+/// breakpoint is due there.
 fn hop(debuggee: &mut Debuggee, outputs: &mut Outputs, limit: u64) -> bool
     requires considered { IsConsidered debuggee.old }
     requires within { debuggee.old.position < limit }
+    requires few { limit ≤ debuggee.old.position + slice_limit }
     requires runs { RunsAt (debugged_program debuggee.old) limit }
     requires room { IsRoomOf outputs.old debuggee.old }
     ensures hopped { Hopped limit debuggee.old result debuggee.new }
@@ -60,6 +61,7 @@ pub fn search(
 ) -> Option<u64>
     requires considered { IsConsidered debuggee.old }
     requires within { debuggee.old.position ≤ limit }
+    requires few { limit ≤ debuggee.old.position + slice_limit }
     requires runs { RunsAt (debugged_program debuggee.old) limit }
     requires room { IsRoomOf outputs.old debuggee.old }
     requires counted { debuggee.old.counted_from ≡ 0 }
@@ -81,6 +83,7 @@ pub fn search(
 pub fn go_on(debuggee: &mut Debuggee, outputs: &mut Outputs, to: u64, most: u64) -> u64
     requires considered { IsConsidered debuggee.old }
     requires within { debuggee.old.position ≤ to }
+    requires few { most ≤ slice_limit }
     requires runs { RunsAt (debugged_program debuggee.old) to }
     requires room { IsRoomOf outputs.old debuggee.old }
     ensures steps { result ≡ min most (to - debuggee.old.position) }

@@ -10,6 +10,9 @@ use Rattle.pl0_tool.specs.declared.running.RunEnd.TheVariants.{Ended, Faulted, F
 use Rattle.pl0_tool.specs.declared.running.RunEnd.{RunEnd}
 use Rattle.pl0_tool.specs.Running.{HasRunSlice, slice_steps}
 use Rattle.std.proofs.Common.{◌⊎◌, inl, inr}
+use Rattle.std.specs.declared.vec.Vec.{Vec}
+use Rattle.std.specs.declared.alloc.Global.{Global}
+use Rattle.std.specs.Vec.{vec_capacity}
 use Rattle.pl0_meaning.specs.Laws.{WrittenJoins}
 use Rattle.pl0_tool.proofs.PendingBytes.{writes_both, writes_and_fails}
 
@@ -23,19 +26,20 @@ lines-append (x ∷ xs) ys =
 
 -- ---- numbers
 
--- steps that write nothing
-pub silent_steps : (main : Block) (a b n : ℕ) → a ≤ b → ((k : ℕ) → k < n → written_by (outcome main (b + k)) ≡ [])
-    → written main a (b + n) ≡ written main a b
-silent_steps main a b zero le silent = let e : b + 0 ≡ b = omega arith in ap (λ k. written main a k) e
-silent_steps main a b (suc n) le silent =
-    let e : b + suc n ≡ (b + n) + 1 = omega arith in
-    let more : a ≤ b + n = omega arith in
-    let last : n < suc n = omega arith in
-    ap (λ k. written main a k) e
-    ∙ written-next main a (b + n) more
-    ∙ ap (λ l. written main a (b + n) ++ l) (silent n last)
-    ∙ append-nil (written main a (b + n))
-    ∙ silent_steps main a b n le (λ k lt. silent k (omega arith))
+-- over steps that write nothing, what was written from any earlier position on stays as it was
+abbrev Silent : Standing → ℕ → Type 0
+Silent old n =
+    (a : ℕ) → a ≤ old.position
+    → written (program old) a (old.position + n) ≡ written (program old) a old.position
+
+silent : WrittenJoins → (old mid : Standing) (n : ℕ) → mid ≡ ahead old n
+    → written (program old) old.position mid.position ≡ [] → Silent old n
+silent joins old mid n led none a le =
+    let main = program old in
+    let there : mid.position ≡ old.position + n = ap (λ (m : Standing). m.position) led in
+    sym (joins main a old.position (old.position + n) le (omega arith))
+    ∙ ap (λ l. written main a old.position ++ l) (ap (λ p. written main old.position p) (sym there) ∙ none)
+    ∙ append-nil (written main a old.position)
 
 -- ---- a step that leads to no frames writes nothing
 
@@ -151,32 +155,45 @@ ahead-ahead m i j =
     let e : m.position + i + j ≡ m.position + (i + j) = omega arith in ap (λ p. record m { position = p }) e
 
 -- steps that write nothing, and one more
-ran_after : (old new : Standing) (told : StepOutcome) (n : ℕ)
-    → ((k : ℕ) → k < n → written_by (outcome (program old) (old.position + k)) ≡ [])
+ran_after : (old new : Standing) (told : StepOutcome) (n : ℕ) → Silent old n
     → Stepped (outcome_of (ahead old n)) (ahead old n) told new → Ran old new told
 ran_after old new told n silent stepped =
     let more = step_ahead (ahead old n) new told stepped in record {
       wrote = λ a le.
           let further : a ≤ old.position + n = omega arith in
           step_wrote a (ahead old n) new told further stepped
-          ∙ ap (λ l. l ++ told_numbers told) (silent_steps (program old) a old.position n le silent);
+          ∙ ap (λ l. l ++ told_numbers told) (silent a le);
       before = n;
       last = stepped;
       steps = n + more.0;
       led = more.1 ∙ ahead-ahead old n more.0;
     }
 
-pub ran_stretch : {counts after : List ℕ} (old mid new : Standing) (told : StepOutcome)
-    → Stretches 0 None old mid counts after
-    → Stepped (outcome_of mid) mid told new → Ran old new told
-ran_stretch {counts} {after} old mid new told s stepped =
-    ran_after old new told s.steps (λ k lt. (s.passed k lt).silent)
-    (subst (λ (m : Standing). Stepped (outcome_of m) m told new) s.led stepped)
+-- a run for whose numbers there is no room
+abbrev pub RanSilently : ℕ → Standing → Option StepOutcome → Standing → List ℕ → List ℕ → Type 0
+RanSilently limit old told new counts after = RanOn limit 0 None old told new counts after 0 [] []
 
-pub ran_on : {counts after : List ℕ} (limit : ℕ) (old new : Standing) (told : StepOutcome)
-    → RanOn limit 0 None old (Some told) new counts after
+pub fits_in : (v : Vec ℤ Global) (room : ℕ) → vec_capacity v ≡ room → length v.items ≤ room
+fits_in v room is = omega (arith, v.ok.0, v.ok.1, is)
+
+pub silently : {counts after : List ℕ} (limit : ℕ) (old new : Standing) (told : Option StepOutcome) (room : ℕ)
+    (before numbers : List ℤ) → room ≡ 0 → before ≡ [] → length numbers ≤ room
+    → RanOn limit 0 None old told new counts after room before numbers → RanSilently limit old told new counts after
+silently {counts} {after} limit old new told room before numbers none empty few ran =
+    subst (λ l. RanOn limit 0 None old told new counts after 0 [] l) (no_items numbers (omega (arith, few, none)))
+    (subst (λ l. RanOn limit 0 None old told new counts after 0 l numbers) empty
+    (subst (λ n. RanOn limit 0 None old told new counts after n before numbers) none ran))
+  where
+    no_items : (l : List ℤ) → length l ≤ 0 → l ≡ []
+    no_items [] le = refl
+    no_items (x ∷ l) le = absurd (omega (arith, le))
+
+pub ran_on : {counts after : List ℕ} → WrittenJoins → (limit : ℕ) (old new : Standing) (told : StepOutcome)
+    → RanSilently limit old (Some told) new counts after
     → Ran old new told
-ran_on {counts} {after} limit old new told r = ran_stretch old r.0 new told r.1 r.3
+ran_on joins limit old new told r =
+    ran_after old new told r.1.steps (silent joins old r.0 r.1.steps r.1.led (sym r.5))
+    (subst (λ (m : Standing). Stepped (outcome_of m) m told new) r.1.led r.3)
 
 -- ---- the last step
 
@@ -310,7 +327,7 @@ running_on now new number r = runs_on (ahead now r.before) new number r.last
 
 -- a run that goes on or ends before a limit is no further
 pub before_limit : {counts after : List ℕ} (limit : ℕ) (old new : Standing) (told : StepOutcome)
-    → RanOn limit 0 None old (Some told) new counts after
+    → RanSilently limit old (Some told) new counts after
     → new.position ≤ limit
 before_limit {counts} {after} limit old new told r = by_outcome (outcome_of r.0) r.3
   where
@@ -323,48 +340,50 @@ before_limit {counts} {after} limit old new told r = by_outcome (outcome_of r.0)
 
 -- ---- slices
 
--- steps that write nothing leave all as it was
-abbrev StretchesOn : Standing → Standing → List ℕ → List ℕ → Standing → Type 0
-StretchesOn start new counts after m =
-    Stretches 0 None m new counts after → Came start new × (lines_between start new ≡ lines_between start m)
+-- a run to its limit leaves all as it was
+abbrev StretchesOn : Standing → Standing → ℕ → List ℕ → List ℕ → Standing → Type 0
+StretchesOn start new limit counts after m =
+    RanSilently limit m None new counts after
+    → Came start new × (lines_between start new ≡ lines_between start m)
 
-pub stretched_on : {counts after : List ℕ} (start now new : Standing) → Came start now
-    → Stretches 0 None now new counts after
+pub stretched_on : {counts after : List ℕ} → WrittenJoins → (limit : ℕ) (start now new : Standing) → Came start now
+    → RanSilently limit now None new counts after
     → Came start new × (lines_between start new ≡ lines_between start now)
-stretched_on {counts} {after} start now new came s = subst (StretchesOn start new counts after) (sym came.1) at s
+stretched_on {counts} {after} joins limit start now new came r =
+    subst (StretchesOn start new limit counts after) (sym came.1) at r
   where
-    at : StretchesOn start new counts after (ahead start came.0)
-    at s =
-        let le : start.position ≤ start.position + came.0 = omega arith in (
+    at : StretchesOn start new limit counts after (ahead start came.0)
+    at r =
+        let s = r.0 in
+        let here = ahead start came.0 in (
           (came.0 + s.steps, s.led ∙ ahead-ahead start came.0 s.steps),
           ap (λ (m : Standing). lines_between start m) s.led
-              ∙ ap number_lines (silent_steps (program start) start.position (start.position + came.0) s.steps le
-              (λ k lt. (s.passed k lt).silent)),
+              ∙ ap number_lines (silent joins here new s.steps s.led (sym r.2) start.position (omega arith)),
         )
 
--- what is pending stays so over them
-pub held_still : {counts after : List ℕ} (start now new : Standing) (before out : Output) (pending : List ℕ)
-    → Came start now
-    → Stretches 0 None now new counts after → Holds before out pending (lines_between start now)
+-- what is pending stays so over it
+pub held_still : {counts after : List ℕ} → WrittenJoins → (limit : ℕ) (start now new : Standing)
+    (before out : Output) (pending : List ℕ) → Came start now → RanSilently limit now None new counts after
+    → Holds before out pending (lines_between start now)
     → Holds before out pending (lines_between start new)
-held_still {counts} {after} start now new before out pending came s held =
-    subst (Holds before out pending) (sym (stretched_on start now new came s).1) held
+held_still joins limit start now new before out pending came r held =
+    subst (Holds before out pending) (sym (stretched_on joins limit start now new came r).1) held
 
 -- a slice of a run is over, and all was written, or the output failed in it
-pub slice_over : {counts left : List ℕ} (start now new : Standing) (result : Option RunEnd)
-    (before after : Output) → Came start now
-    → Stretches 0 None now new counts left → new.position ≡ start.position + slice_steps
+pub slice_over : {counts left : List ℕ} → WrittenJoins → (limit : ℕ) (start now new : Standing)
+    (result : Option RunEnd) (before after : Output) → Came start now
+    → RanSilently limit now None new counts left → new.position ≡ start.position + slice_steps
     → ((result ≡ None) × WritesAll (lines_between start new) before after)
     ⊎ ((result ≡ Some WriteFailed) × FailsIn (lines_between start new) before after)
     → HasRunSlice result start new before after
-slice_over {counts} {left} start now new result before after came s whole (inl (is, wrote)) =
-    let came_here = (stretched_on start now new came s).0 in
+slice_over joins limit start now new result before after came r whole (inl (is, wrote)) =
+    let came_here = (stretched_on joins limit start now new came r).0 in
     let there = ap (λ (m : Standing). m.position) came_here.1 in
     let steps : came_here.0 ≡ slice_steps = omega (arith, there, whole) in
     subst (λ r. HasRunSlice r start new before after) (sym is)
-    (record { led = came_here.1 ∙ ap (λ k. ahead start k) steps; running = s.running; wrote = wrote })
-slice_over {counts} {left} start now new result before after came s whole (inr (is, failed)) =
-    let came_here = (stretched_on start now new came s).0 in
+    (record { led = came_here.1 ∙ ap (λ k. ahead start k) steps; running = r.0.running; wrote = wrote })
+slice_over joins limit start now new result before after came r whole (inr (is, failed)) =
+    let came_here = (stretched_on joins limit start now new came r).0 in
     subst (λ r. HasRunSlice r start new before after) (sym is) (came_here.0, came_here.1, failed)
 
 -- the program ended in a slice

@@ -1,5 +1,5 @@
 -- What a trace tells: rows that are added one by one, and positions to which a run doesn't come.
-use Rattle.pl0_tool.proofs.Common.{[], ap, arith, at_next, at_position, Block, Bool, cond, Configuration, depth_of, Done, false, Fault, Frame, frame_of, frames_of, IsFrameRow, IsRow, IsTold, length, length_push, List, nat_eq, None, number_of, numbers_in, Option, option_map_or, outcome_of, program, RanOn, refl, same_Some, slice_get, Some, Standing, Stepped, Stretches, subst, suc, sym, take, take_all, true, variables_of, Went, zero, ℕ, ℤ, ◌++◌, ◌+◌, ◌-◌, ◌<◌, ◌∙◌, ◌∷◌, ◌≡◌, ◌≤◌}
+use Rattle.pl0_tool.proofs.Common.{[], ahead, ap, arith, at_next, at_position, Block, Bool, cond, Configuration, depth_of, Done, false, Fault, Frame, frame_of, frames_of, IsFrameRow, IsRow, IsTold, length, length_push, List, nat_eq, None, number_of, numbers_in, Option, option_map_or, outcome_of, program, RanOn, refl, same_Some, slice_get, Some, Standing, Stepped, Stretches, subst, suc, sym, take, take_all, true, variables_of, Went, zero, ℕ, ℤ, ◌++◌, ◌+◌, ◌-◌, ◌<◌, ◌∙◌, ◌∷◌, ◌≡◌, ◌≤◌}
 use Rattle.pl0_meaning.specs.declared.RunFault.{RunFault}
 use Rattle.pl0_meaning.specs.declared.RunFault.TheVariants.{StepLimit}
 use Rattle.pl0_meaning.specs.Runs.{Outcome, Goes, Faults, Stuck, at, led_to, outcome, step_at, step, last_position}
@@ -9,7 +9,7 @@ use Rattle.pl0_tool.specs.declared.tracing.Row.{Row}
 use Rattle.pl0_tool.specs.declared.tracing.TraceEnd.{TraceEnd}
 use Rattle.pl0_tool.specs.declared.tracing.View.{View}
 use Rattle.pl0_tool.specs.declared.tracing.TraceEnd.TheVariants.{GoesOn, Ended, EndedBefore, Faulted, WriteFailed}
-use Rattle.pl0_tool.proofs.RunLines.{Came, came_on, ended_behind, fault_is, ran_on, runs_on}
+use Rattle.pl0_tool.proofs.RunLines.{Came, ahead-ahead, ended_behind, fault_is, runs_on}
 use Rattle.pl0_tool.proofs.PendingBytes.{holds_all, holds_more}
 use Rattle.pl0_tool.specs.Table.{head, row_text, table}
 use Rattle.pl0_tool.specs.Traced.{HasPart, HasTable, HasTraced, PutsRow, StopsBefore}
@@ -141,8 +141,9 @@ came_same : (start now : Standing) (q : ℕ) → Came start now → at_position 
 came_same start now q came = ap (λ (m : Standing). at_position m q) came.1
 
 -- a machine that came to a position
-pub came_to : {counts after : List ℕ} (start now new : Standing) (position : ℕ) → Came start now
-    → RanOn position 0 None now None new counts after
+pub came_to : {counts after : List ℕ} {room : ℕ} {before numbers : List ℤ} (start now new : Standing)
+    (position : ℕ) → Came start now
+    → RanOn position 0 None now None new counts after room before numbers
     → (0 < depth_of new) × (new ≡ at_position start position)
 came_to {counts} {after} start now new position came ran =
     let more : at_position new position ≡ at_position now position =
@@ -152,9 +153,10 @@ came_to {counts} {after} start now new position came ran =
     )
 
 -- after a number the run goes on, and is no further
-pub goes_further : {number : Option ℤ} {counts after : List ℕ} (start now new : Standing) (position : ℕ)
-    (outcome : StepOutcome)
-    → outcome ≡ Went number → Came start now → RanOn position 0 None now (Some outcome) new counts after
+pub goes_further : {number : Option ℤ} {counts after : List ℕ} {room : ℕ} {before numbers : List ℤ}
+    (start now new : Standing) (position : ℕ) (outcome : StepOutcome)
+    → outcome ≡ Went number → Came start now
+    → RanOn position 0 None now (Some outcome) new counts after room before numbers
     → (0 < depth_of new) × (new.position ≤ position) × Came start new
 goes_further {number} {counts} {after} start now new position outcome is came ran =
     let stepped = subst (λ o. Stepped (outcome_of ran.0) ran.0 o new) is ran.3 in
@@ -162,7 +164,11 @@ goes_further {number} {counts} {after} start now new position outcome is came ra
     let lt = ran.2 in (
       runs_on ran.0 new number stepped,
       omega (arith, led, lt),
-      came_on start now new outcome came (ran_on position now new outcome ran),
+      (
+        came.0 + (ran.1.steps + 1),
+        went_on ran.0 new number stepped ∙ ap (λ m. ahead m 1) ran.1.led ∙ ahead-ahead now ran.1.steps 1
+            ∙ ap (λ m. ahead m (ran.1.steps + 1)) came.1 ∙ ahead-ahead start came.0 (ran.1.steps + 1),
+      ),
     )
 
 -- where a step faults, all stays
@@ -183,8 +189,9 @@ came_there {counts} {after} start now last position came passed =
     ap (λ (m : Standing). at_position m position) passed.led ∙ came_same start now position came
 
 -- a run that is done before a position has ended there
-pub ends_before : {counts after : List ℕ} (start now new : Standing) (position : ℕ) → Came start now
-    → RanOn position 0 None now (Some Done) new counts after
+pub ends_before : {counts after : List ℕ} {room : ℕ} {before numbers : List ℤ} (start now new : Standing)
+    (position : ℕ) → Came start now
+    → RanOn position 0 None now (Some Done) new counts after room before numbers
     → StopsBefore EndedBefore start position new
 ends_before {counts} {after} start now new position came ran =
     let behind = ended_behind ran.0 new ran.3 in
@@ -198,9 +205,11 @@ ends_before {counts} {after} start now new position came ran =
     )
 
 -- a run that faults before a position stands there
-pub faults_before : {counts after : List ℕ} (start now new : Standing) (position : ℕ) (fault : RunFault)
+pub faults_before : {counts after : List ℕ} {room : ℕ} {before numbers : List ℤ} (start now new : Standing)
+    (position : ℕ) (fault : RunFault)
     → Came start now
-    → RanOn position 0 None now (Some (Fault fault)) new counts after → StopsBefore (Faulted fault) start position new
+    → RanOn position 0 None now (Some (Fault fault)) new counts after room before numbers
+    → StopsBefore (Faulted fault) start position new
 faults_before {counts} {after} start now new position fault came ran =
     let stays = same_place ran.0 new fault ran.3 in
     let same : new.position ≡ ran.0.position = ap (λ (m : Standing). m.position) stays in
@@ -213,9 +222,10 @@ faults_before {counts} {after} start now new position fault came ran =
     )
 
 -- where a run stops before a position, no frame is alive there
-pub never_there : {counts after : List ℕ} (start now new : Standing) (position : ℕ) (outcome : StepOutcome)
+pub never_there : {counts after : List ℕ} {room : ℕ} {before numbers : List ℤ} (start now new : Standing)
+    (position : ℕ) (outcome : StepOutcome)
     → Came start now
-    → RanOn position 0 None now (Some outcome) new counts after → IsStop outcome
+    → RanOn position 0 None now (Some outcome) new counts after room before numbers → IsStop outcome
     → depth_of (at_position start position) ≡ 0
 never_there {counts} {after} start now new position outcome came ran stop =
     let last = ran.0 in

@@ -70,9 +70,12 @@ pub fn run_slice<O: Sink>(
     ensures within { machine.new.position ≤ machine.old.position + slice_steps }
     ensures empty { result ≡ None → pending.new.items ≡ [] }
 {
+    meaning_laws();
     let limit = machine.position().saturating_add(SLICE);
     'numbers: for _ in rt.forever() {
-        match machine.run(limit, 0, None, &mut []) {
+        // Without room for a number a run ends at each.
+        let mut none = Vec::new(*pending.allocator());
+        match machine.run(limit, 0, None, &mut [], &mut none) {
             None => return finish(rt, output, pending, None, RunEnd::WriteFailed),
             Some(StepOutcome::Went(None)) => {}
             Some(StepOutcome::Went(Some(number))) => {

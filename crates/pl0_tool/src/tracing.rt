@@ -99,7 +99,7 @@ pub fn trace<O: Sink>(
         (O.output output.old) (O.output output.new)) }
     ensures few { IfOk result (λ _. (length page.new.items ≤ room) ⊎ (page.new.items ≡ page.old.items)) }
 {
-    if let Some(end) = go_to(rt, machine, from) {
+    if let Some(end) = go_to(rt, alloc, machine, from) {
         return Ok(end);
     }
     for index in 0..count {
@@ -143,7 +143,7 @@ fn tell_row<O: Sink>(
 }
 
 /// Takes a machine to a position, or to where its run stops before that, and returns how it stopped, if it did.
-fn go_to(rt: &impl Wait, machine: &mut Machine, position: u64) -> Option<TraceEnd>
+fn go_to(rt: &impl Wait, alloc: Global, machine: &mut Machine, position: u64) -> Option<TraceEnd>
     requires alive { 0 < depth_of machine.old }
     requires within { machine.old.position ≤ position }
     ensures { MatchOption result
@@ -152,7 +152,8 @@ fn go_to(rt: &impl Wait, machine: &mut Machine, position: u64) -> Option<TraceEn
         × (depth_of (at_position machine.old position) ≡ 0)) }
 {
     'numbers: for _ in rt.forever() {
-        match machine.run(position, 0, None, &mut []) {
+        let mut none = Vec::new(alloc);
+        match machine.run(position, 0, None, &mut [], &mut none) {
             None => return None,
             Some(StepOutcome::Went(_)) => {}
             Some(StepOutcome::Done) => return Some(TraceEnd::EndedBefore),

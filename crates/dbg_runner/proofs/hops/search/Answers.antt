@@ -1,4 +1,4 @@
-use Rattle.dbg_runner.proofs.Common.{ap, Debugged, false, Hopped, standing, subst, ◌∙◌}
+use Rattle.dbg_runner.proofs.Common.{ap, arith, Debugged, false, Hopped, standing, subst, ◌∙◌}
 use Rattle.dbg_runner.proofs.Hopping.{finds}
 use Rattle.dbg_runner.proofs.hops.search.Goals as goal
 
@@ -14,4 +14,5 @@ loop-debuggee-preserved c =
       c.hop.ensures.room ∙ inv.3,
       finds c.args.limit old false new c.loop-debuggee.found
           (ap (λ (d : Debugged). d.counted_from) inv.0 ∙ c.requires.counted) inv.4 h,
+      (let begun = inv.5 in let more = h.more in omega (arith, begun, more)),
     )

@@ -1,5 +1,5 @@
 use Rattle.dbg_runner.proofs.Common.{ap, arith, Debugged, Mode, None, Option, RanFurther, refl, Room, slice_limit, SliceOutcome, Some, Standing, subst, sym, ℕ, ◌+◌, ◌<◌, ◌≡◌}
-use Rattle.dbg_runner.proofs.SliceSteps.{has_room, is_empty, goes}
+use Rattle.dbg_runner.proofs.SliceSteps.{few_numbers, has_room, is_empty, goes}
 use Rattle.dbg_runner.proofs.SliceRuns.{begins, took, all_taken, on_its_way, came_further, ran_took}
 use Rattle.dbg_runner.proofs.slicing.take_runs.Goals as goal
 use Rattle.dbg_runner.proofs.slicing.take_runs.Goals.{In-runs}
@@ -36,8 +36,11 @@ step_on-requires-clause-empty c =
 
 pub run_on-requires-clause-room : goal.run_on-requires-clause-room
 run_on-requires-clause-room c =
-    has_room c.args.mode c.args.debuggee.now c.runs.debuggee c.runs.outputs c.runs.invariant.0
-    (below (goal.at.run_on-requires-clause-room c).In-runs)
+    let few =
+    few_numbers c.args.mode c.args.debuggee.now c.runs.debuggee c.runs.outputs c.runs.invariant.0 in
+    let there = below (goal.at.run_on-requires-clause-room c).In-runs in
+    let limit_is = c.runs.invariant.1 in
+    omega (arith, few, there, limit_is)
 
 pub run_on-requires-clause-empty : goal.run_on-requires-clause-empty
 run_on-requires-clause-empty c =

@@ -9,17 +9,18 @@ numbers-init g c = (c.requires.alive, c.requires.within, came_none c.args.machin
 pub returns-in-None-run : goal.returns-in-None-run
 returns-in-None-run g c =
     came_to c.args.machine.now c.numbers.machine c.run.new.self c.args.position c.numbers.invariant.2
-    c.in-None-run.ensures
+    c.in-None-run.ensures.ran
 
 pub numbers-preserved : goal.numbers-preserved
 numbers-preserved g c =
     goes_further c.args.machine.now c.numbers.machine c.run.new.self c.args.position c.in-Some-Went.field-0
-    c.in-Some-Went.field-0-is c.numbers.invariant.2 c.in-Some-Went.ensures
+    c.in-Some-Went.field-0-is c.numbers.invariant.2 c.in-Some-Went.ensures.ran
 
 pub returns-in-Some-Done : goal.returns-in-Some-Done
 returns-in-Some-Done g c =
-    let ran = subst (λ o. RanOn c.args.position 0 None c.numbers.machine (Some o) c.run.new.self _ c.run.new.counts)
-    c.in-Some-Done.field-0-is c.in-Some-Done.ensures in (
+    let ran =
+    subst (λ o. RanOn c.args.position 0 None c.numbers.machine (Some o) c.run.new.self _ c.run.new.counts _ _ _)
+    c.in-Some-Done.field-0-is c.in-Some-Done.ensures.ran in (
       ends_before c.args.machine.now c.numbers.machine c.run.new.self c.args.position c.numbers.invariant.2 ran,
       never_there c.args.machine.now c.numbers.machine c.run.new.self c.args.position Done c.numbers.invariant.2 ran tt,
     )
@@ -27,8 +28,9 @@ returns-in-Some-Done g c =
 pub returns-in-Some-Fault : goal.returns-in-Some-Fault
 returns-in-Some-Fault g c =
     let fault = c.in-Some-Fault.fault in
-    let ran = subst (λ o. RanOn c.args.position 0 None c.numbers.machine (Some o) c.run.new.self _ c.run.new.counts)
-    c.in-Some-Fault.field-0-is c.in-Some-Fault.ensures in (
+    let ran =
+    subst (λ o. RanOn c.args.position 0 None c.numbers.machine (Some o) c.run.new.self _ c.run.new.counts _ _ _)
+    c.in-Some-Fault.field-0-is c.in-Some-Fault.ensures.ran in (
       faults_before c.args.machine.now c.numbers.machine c.run.new.self c.args.position fault c.numbers.invariant.2 ran,
       never_there c.args.machine.now c.numbers.machine c.run.new.self c.args.position (Fault fault)
           c.numbers.invariant.2 ran tt,
