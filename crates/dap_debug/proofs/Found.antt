@@ -25,8 +25,7 @@ pub scopes_found : (many frame index : ℕ) (scope : PlainScope) → frame < man
 scopes_found many frame index scope inside few =
     let reference = frame * 16 + index + 1 in
     let before : reference - 1 ≡ frame * 16 + index = omega arith in
-    let some : nat_eq reference 0 ≡ false = ne_eqb reference 0 (λ none. omega (arith, none)) in
-    (
+    let some : nat_eq reference 0 ≡ false = ne_eqb reference 0 (λ none. omega (arith, none)) in (
       ap (λ b. if b then None else frame_with many ((reference - 1) / 16 + 1)) some
           ∙ ap (λ n. frame_with many (n / 16 + 1)) before
           ∙ ap (λ n. frame_with many (n + 1)) (div-mul-add frame 16 index few) ∙ frame_found many frame inside,

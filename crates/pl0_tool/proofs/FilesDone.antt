@@ -85,14 +85,16 @@ module _ {E Files File : Type 0} (opens : Files → Text → Result File FileFau
     (old later : Origins Files) (before after : Output) where
   -- they ask for something
   pub asked_done : (asked : Request) → Asks arguments asked
-      → MatchResult r (λ report. AreDone opens closes supply_of asked.task old before (files_of asked) report later after)
+      → MatchResult r
+      (λ report. AreDone opens closes supply_of asked.task old before (files_of asked) report later after)
       (λ e. GivesUp opens closes supply_of asked.task (files_of asked) old later before after)
       → MatchResult r (λ report. Comes opens closes supply_of arguments report old later before after)
       (λ e. LacksMemory opens closes supply_of arguments old later before after)
   asked_done asked asks = of_result r
     where
       of_result : (r : Result Report E)
-          → MatchResult r (λ report. AreDone opens closes supply_of asked.task old before (files_of asked) report later after)
+          → MatchResult r
+          (λ report. AreDone opens closes supply_of asked.task old before (files_of asked) report later after)
           (λ e. GivesUp opens closes supply_of asked.task (files_of asked) old later before after)
           → MatchResult r (λ report. Comes opens closes supply_of arguments report old later before after)
           (λ e. LacksMemory opens closes supply_of arguments old later before after)
