@@ -37,8 +37,6 @@ LONG_FUNCTIONS = {
         "four tasks, on a line for each field",
     ("crates/adapter/src/serving.rt", "serve_over"):
         "nine parameters with their bounds, on 19 lines; four tasks, of which one proof speaks",
-    ("crates/dap_server/src/working.rt", "converse"):
-        "an arm for each item that comes, and one for the adapter's work, as the proof has cases",
     ("crates/pl0_machine/src/finish.rt", "take_turn"):
         "one line for each of 38 operations",
     ("crates/pl0_machine/src/take.rt", "take"):

@@ -1,14 +1,14 @@
 -- Items are taken one after another, and the adapter works meanwhile.
-use Rattle.std.proofs.Common.{◌≡◌, ℕ, Bool, true, List, [], ◌++◌, refl, sym, ap, subst, None, Some, inl, inr}
+use Rattle.std.proofs.Common.{◌≡◌, ℕ, Bool, true, List, [], ◌∷◌, ◌++◌, refl, sym, ap, subst, None, Some, inl, inr}
 use Rattle.std.specs.Prelude.{Result, Err}
 use Rattle.byte_streams.proofs.Appending.{appends_none, appends_both}
 use Rattle.byte_streams.specs.Streams.{StreamLog, Appends}
 use Rattle.dap_frame.specs.Frame.{IsOpen}
 use Rattle.dap_server.specs.Messages.{PlainEvent, frames_of}
 use Rattle.dap_server.specs.Conversation.{State, state, Replies, Progress}
-use Rattle.dap_server.specs.Inbox.{PlainItem, Bytes, Event, Gives, TakesOne, Tells}
+use Rattle.dap_server.specs.Inbox.{PlainItem, Bytes, Event, Gives, TakesOne}
 use Rattle.dap_server.specs.ServingInbox.{ServingEndsBy, EndsWithin}
-use Rattle.dap_server.specs.Working.{Works, Polls, Comes, begins, takes, works_on, Working, EndsInWork, ServedWorker, TellsAll}
+use Rattle.dap_server.specs.Working.{Works, Polls, Comes, begins, takes, works_on, Working, EndsInWork, ServedWorker, Tells}
 use Rattle.dap_server.specs.declared.ending.Ending.{Ending}
 use Rattle.dap_server.specs.declared.ending.ServeFault.{ServeFault}
 use Rattle.dap_server.proofs.Adding.{frames_of-append}
@@ -56,17 +56,27 @@ working_bytes replies works busy gives polls a b c rest more inbox mid left byte
 
 pub working_event : {S I : Type 0} (replies : Replies S) (works : Works S) (busy : S → Bool) (gives : Gives I) (polls
     : Polls I) (a b : State S) (next : ℕ)
-    (rest : List ℕ) (inbox mid left : I) (event : PlainEvent) (old now new : StreamLog)
+    (rest : List ℕ) (inbox mid left : I) (event : PlainEvent) (events : List PlainEvent) (old now new : StreamLog)
     → Working replies works busy gives polls a b rest inbox mid (Appends old now) → Comes (busy b.adapter) gives
     polls mid (Event event) left
-    → b.present ≡ true → IsOpen rest → Tells event b.next next (Appends now new)
+    → b.present ≡ true → IsOpen rest → events ≡ event ∷ [] → Tells events b.next next (Appends now new)
     → Working replies works busy gives polls a (state b.adapter next true) rest inbox left (Appends old new)
-working_event replies works busy gives polls a b next rest inbox mid left event old now new first gave there is_open
-    tells =
+working_event replies works busy gives polls a b next rest inbox mid left event events old now new first gave there
+    is_open is all =
+    let tells = subst (λ l. Tells l b.next next (Appends now new)) is all in
     working_item replies works busy gives polls a b (state b.adapter next true) rest rest inbox mid left (Event
     event) tells.texts
     old now new first gave there is_open (tells.texts_are, ap (λ n. state b.adapter n true) tells.numbered, refl)
     tells.written
+
+-- the adapter is the same
+pub working_same : {S I : Type 0} (replies : Replies S) (works : Works S) (busy : S → Bool) (gives : Gives I)
+    (polls : Polls I) (a : State S) (s t : S) (next : ℕ) (rest : List ℕ) (inbox mid : I) (old now : StreamLog)
+    → Working replies works busy gives polls a (state s next true) rest inbox mid (Appends old now) → t ≡ s
+    → Working replies works busy gives polls a (state t next true) rest inbox mid (Appends old now)
+working_same replies works busy gives polls a s t next rest inbox mid old now working same =
+    subst (λ x. Working replies works busy gives polls a (state x next true) rest inbox mid (Appends old now))
+    (sym same) working
 
 -- the adapter works
 pub working_part : {S I : Type 0} (replies : Replies S) (works : Works S) (busy : S → Bool) (gives : Gives I)
@@ -74,7 +84,7 @@ pub working_part : {S I : Type 0} (replies : Replies S) (works : Works S) (busy 
     (events : List PlainEvent) (old now new : StreamLog)
     → Working replies works busy gives polls a b rest inbox mid (Appends old now)
     → (busy b.adapter ≡ true) × polls mid None left → b.present ≡ true → IsOpen rest → works b.adapter events adapter
-    → TellsAll events b.next next (Appends now new)
+    → Tells events b.next next (Appends now new)
     → Working replies works busy gives polls a (state adapter next true) rest inbox left (Appends old new)
 working_part replies works busy gives polls a b adapter next rest inbox mid left events old now new first looked
     there is_open

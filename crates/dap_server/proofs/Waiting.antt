@@ -1,27 +1,31 @@
 -- A session that only waits is one over an inbox.
-use Rattle.std.proofs.Common.{ℕ, Bool, true, true≢false, List, [], ◌∷◌, ◌++◌, refl, Option, None, Some, inl, inr}
+use Rattle.std.proofs.Common.{ℕ, Bool, true, false, List, [], ◌∷◌, ◌++◌, refl, Option, None, Some, inl, inr}
 use Rattle.std.specs.Prelude.{Result}
 use Rattle.byte_streams.specs.Streams.{StreamLog}
 use Rattle.dap_server.specs.Conversation.{State, state, Replies}
 use Rattle.dap_server.specs.Inbox.{PlainItem, Gives, Given, TakesAll}
 use Rattle.dap_server.specs.ServingInbox.{EndsAt, ServedInbox}
-use Rattle.dap_server.specs.Working.{Works, Awaits, Comes, Course, begins, takes, works_on, WorkerEnds, ServedWorker}
+use Rattle.dap_server.specs.Working.{Works, Polls, Comes, Course, begins, takes, works_on, WorkerEnds, ServedWorker}
 use Rattle.dap_server.specs.declared.ending.Ending.{Ending}
 use Rattle.dap_server.specs.declared.ending.ServeFault.{ServeFault}
 use Rattle.dap_server.proofs.Taking.{given_then, takes_then}
 
--- it always looks
-abbrev looks : {S : Type 0} → S → Bool
-looks adapter = true
+-- it is never busy
+abbrev idle : {S : Type 0} → S → Bool
+idle adapter = false
+
+-- it never looks
+abbrev unlooked : {I : Type 0} → Polls I
+unlooked before found after = ⊥
 
 came : {I : Type 0} (gives : Gives I) (before after : I) (item : PlainItem)
-    → Comes true gives (Awaits gives) before item after → gives before item after
-came gives before after item (inl found) = found
-came gives before after item (inr waited) = absurd (true≢false waited.0)
+    → Comes false gives unlooked before item after → gives before item after
+came gives before after item (inl found) = absurd found
+came gives before after item (inr waited) = waited.1
 
 module _ {S I : Type 0} (replies : Replies S) (works : Works S) (gives : Gives I) where
   all_taken : (a : State S) (inbox : I) (b : State S) (rest : List ℕ) (left : I) (texts : List (List ℕ))
-      → Course replies works looks gives (Awaits gives) a inbox b rest left texts
+      → Course replies works idle gives unlooked a inbox b rest left texts
       → (items : List PlainItem) × Given gives inbox items left × TakesAll replies a [] items texts b rest
   all_taken a inbox b rest left texts begins = ([], refl, (refl, refl, refl))
   all_taken a inbox b rest left texts (takes m c before more j k item sent later first there is_open comes taken) =
@@ -35,7 +39,7 @@ module _ {S I : Type 0} (replies : Replies S) (works : Works S) (gives : Gives I
 
   ends_at : (last : Option PlainItem) (taken left : I) (result : Result Ending ServeFault) (b : State S)
       (rest : List ℕ) (adapter : S) (written later : StreamLog)
-      → EndsAt last (Comes true gives (Awaits gives)) taken left result replies b rest adapter written later
+      → EndsAt last (Comes false gives unlooked) taken left result replies b rest adapter written later
       → EndsAt last gives taken left result replies b rest adapter written later
   ends_at None taken left result b rest adapter written later ends = ends
   ends_at (Some item) taken left result b rest adapter written later ends =
@@ -43,7 +47,7 @@ module _ {S I : Type 0} (replies : Replies S) (works : Works S) (gives : Gives I
 
   at_an_item : (taken left : I) (result : Result Ending ServeFault) (b : State S) (rest : List ℕ) (adapter : S)
       (written later : StreamLog)
-      → WorkerEnds works looks gives (Awaits gives) taken left result replies b rest adapter written later
+      → WorkerEnds works idle gives unlooked taken left result replies b rest adapter written later
       → (last : Option PlainItem) × EndsAt last gives taken left result replies b rest adapter written later
   at_an_item taken left result b rest adapter written later (inl ends) =
       (ends.0, ends_at ends.0 taken left result b rest adapter written later ends.1)
@@ -51,7 +55,7 @@ module _ {S I : Type 0} (replies : Replies S) (works : Works S) (gives : Gives I
 
   pub served_waiting : (before after : S) (inbox left : I) (written later : StreamLog)
       (result : Result Ending ServeFault)
-      → ServedWorker replies works looks gives (Awaits gives) before after inbox left written later result
+      → ServedWorker replies works idle gives unlooked before after inbox left written later result
       → ServedInbox replies gives before after inbox left written later result
   served_waiting before after inbox left written later result is =
       let all = all_taken (state before 1 true) inbox is.reached is.rest is.taken is.working.texts is.working.course in

@@ -1,8 +1,8 @@
 -- A worked example: what is sent for three requests, computed.
-use Rattle.std.specs.Prelude.{◌≡◌, List, ℕ, [], ◌∷◌, ◌++◌, codes, map, None, Some, Ok, Err}
+use Rattle.std.specs.Prelude.{◌≡◌, List, [], ◌∷◌, ◌++◌, codes, map, None, Some, Ok, Err}
 use Rattle.serde_json.specs.Data.{Data, object, number, unsigned, member, no_members}
 use Rattle.serde_json.specs.Written.{compact_text}
-use Rattle.dap_server.specs.Messages.{PlainEvent, PlainReply, messages}
+use Rattle.dap_server.specs.Messages.{PlainEvent, messages}
 
 abbrev exit_code : Data
 exit_code = object (member (codes "exitCode") (number (unsigned 0)) no_members)

@@ -1,16 +1,17 @@
 -- Defines the conversation of an adapter that works while nothing comes: `ServedWorker` is the contract of
 -- `serve_worker`.
-use Rattle.std.specs.Prelude.{◌≡◌, ◌≤◌, ◌+◌, ◌⊎◌, ℕ, Bool, true, false, List, [], ◌++◌, length, Option, None, Some, Result, Err}
-use Rattle.byte_streams.specs.Streams.{StreamLog, Appends, AppendsPart}
+use Rattle.std.specs.Prelude.{◌≡◌, ◌+◌, ◌⊎◌, ℕ, Bool, true, false, List, [], ◌++◌, map, length, Option, None, Some, Result, Err}
+use Rattle.byte_streams.specs.Streams.{StreamLog, Appends}
 use Rattle.dap_frame.specs.Frame.{IsOpen}
-use Rattle.dap_server.specs.Messages.{PlainEvent, events_from, AreTexts, frames_of, number_limit}
+use Rattle.dap_server.specs.Messages.{PlainEvent, plain_event, events_from, AreTexts, frames_of}
 use Rattle.dap_server.specs.Conversation.{State, state, Replies}
 use Rattle.dap_server.specs.Inbox.{PlainItem, plain_item, Gives, TakesOne}
-use Rattle.dap_server.specs.ServingInbox.{EndsAt}
+use Rattle.dap_server.specs.ServingInbox.{CannotTell, EndsAt}
 use Rattle.dap_server.specs.declared.ending.Ending.{Ending}
 use Rattle.dap_server.specs.declared.ending.ServeFault.{ServeFault}
 use Rattle.dap_server.specs.declared.ending.ServeFault.TheVariants as fault
-use Rattle.dap_server.specs.declared.inbox.Item.{Item}
+use Rattle.dap_server.specs.declared.pace.Next.{Next}
+use Rattle.dap_server.specs.declared.pace.Next.TheVariants.{Take, Tell}
 
 -- what an adapter promises of its work: before, the events that tell of it, and after
 abbrev pub Works : Type 0 → Type 1
@@ -49,20 +50,11 @@ pub record Working {S I : Type 0} (replies : Replies S) (works : Works S) (busy 
   pub course : Course replies works busy gives polls a inbox b rest later texts
   pub written : Written (frames_of texts)
 
--- Events, numbered from n on, aren't sent. Where memory or the numbers run out, nothing of them was written, and where
--- the output failed, a prefix.
-abbrev pub CannotTellAll : ServeFault → List PlainEvent → ℕ → StreamLog → StreamLog → Type 0
-CannotTellAll fault.Output events n written later =
-    (texts : List (List ℕ)) × AreTexts (events_from n events) texts × AppendsPart written later (frames_of texts)
-CannotTellAll fault.NoSeq events n written later = (number_limit ≤ n + length events) × (later ≡ written)
-CannotTellAll fault.NoMemory events n written later = later ≡ written
-CannotTellAll _ events n written later = ⊥
-
 -- the session ends in a part of the adapter's work, for which there is no memory, or whose events aren't sent
 abbrev pub EndsInWork : {S : Type 0} → ServeFault → Works S → State S → S → StreamLog → StreamLog → Type 0
 EndsInWork f works b adapter written later =
     ((f ≡ fault.NoMemory) × (later ≡ written))
-    ⊎ ((events : List PlainEvent) × works b.adapter events adapter × CannotTellAll f events b.next written later)
+    ⊎ ((events : List PlainEvent) × works b.adapter events adapter × CannotTell f events b.next written later)
 
 -- how a session ends: as over an inbox, or in a part of the adapter's work
 abbrev pub WorkerEnds : {S I : Type 0} → Works S → (S → Bool) → Gives I → Polls I → I → I → Result Ending ServeFault
@@ -88,18 +80,15 @@ pub record ServedWorker {S I : Type 0} (replies : Replies S) (works : Works S) (
 
 -- ---- for private contracts
 
--- what a look finds that waits until an item is there
-abbrev pub Awaits : {I : Type 0} → Gives I → Polls I
-Awaits gives before None after = ⊥
-Awaits gives before (Some item) after = gives before item after
-
--- what comes next: an item, or nothing yet, which is seen only where the adapter is busy
-abbrev pub ComesNext : {I : Type 0} → Bool → Gives I → Polls I → I → Option Item → I → Type 0
-ComesNext busy gives polls before None after = (busy ≡ true) × polls before None after
-ComesNext busy gives polls before (Some item) after = Comes busy gives polls before (plain_item item) after
+-- what comes next: an item; or nothing yet, which is seen only where the adapter is busy, and then it works
+abbrev pub ComesNext : {S I : Type 0} → Works S → (S → Bool) → Gives I → Polls I → S → I → Next → S → I → Type 0
+ComesNext works busy gives polls a before (Take item) b after =
+    (b ≡ a) × Comes (busy b) gives polls before (plain_item item) after
+ComesNext works busy gives polls a before (Tell events) b after =
+    ((busy a ≡ true) × polls before None after) × works a (map plain_event events.items) b
 
 -- events were sent, numbered on
-pub record TellsAll (events : List PlainEvent) (n m : ℕ) (Written : List ℕ → Type 0) : Type 0 where
+pub record Tells (events : List PlainEvent) (n m : ℕ) (Written : List ℕ → Type 0) : Type 0 where
   pub texts : List (List ℕ)
   pub texts_are : AreTexts (events_from n events) texts
   pub numbered : m ≡ n + length events

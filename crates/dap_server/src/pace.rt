@@ -8,10 +8,17 @@ use crate::worker::Worker;
 use std::alloc::{AllocError, Global};
 use std::sync::Wait;
 
+/// What a session does next.
+pub(crate) enum Next {
+    /// It takes this item.
+    Take(Item),
+    /// It sends these events, which tell of a part of the adapter's work.
+    Tell(Vec<Event>),
+}
+
 /// How a session comes to its next item: what it does while nothing has come.
 pub(crate) trait Pace<R, I> {
-    ghost use Rattle.std.specs.Prelude.{◌≡◌, Bool, true, IfOk, map};
-    ghost use Rattle.dap_server.specs.Messages.{plain_event};
+    ghost use Rattle.std.specs.Prelude.{◌≡◌, Bool, true, None, IfOk, OnErr};
     ghost use Rattle.dap_server.specs.Inbox.{Gives};
     ghost use Rattle.dap_server.specs.Working.{Works, Polls, ComesNext};
 
@@ -27,38 +34,43 @@ pub(crate) trait Pace<R, I> {
     /// What a look into the inbox finds.
     ghost polls: { Polls I };
 
-    /// Returns the next item, or `None` where there is none yet and the session is to work.
-    fn next_item(rt: &impl Wait, alloc: Global, responder: &R, inbox: &mut I) -> Option<Item>
-        ensures { ComesNext (busy responder.now) gives polls inbox.old result inbox.new };
-
-    /// Does a part of the adapter's work, and returns the events that tell of it.
-    fn work(alloc: Global, responder: &mut R) -> Result<Vec<Event>, AllocError>
-        requires { busy responder.old ≡ true }
-        ensures { IfOk result (λ events. works responder.old (map plain_event events.items) responder.new) };
+    /// Returns the next item; or, where the adapter is busy and none is there, does a part of its work.
+    ///
+    /// # Errors
+    ///
+    /// There is no memory for that part.
+    fn next_turn(
+        rt: &impl Wait,
+        alloc: Global,
+        responder: &mut R,
+        inbox: &mut I,
+    ) -> Result<Next, AllocError>
+        ensures ok { IfOk result (λ next. ComesNext works busy gives polls responder.old inbox.old next responder.new
+            inbox.new) }
+        ensures err { OnErr result ((busy responder.old ≡ true) × polls inbox.old None inbox.new) };
 }
 
-/// The session looks into the inbox until an item is there, so that it never works.
+/// The session waits for each item, and never works.
 pub(crate) struct Waiting;
 
 impl<R: Responder, I: Inbox> Pace<R, I> for Waiting {
-    ghost use Rattle.std.specs.Prelude.{true};
-    ghost use Rattle.dap_server.specs.Working.{Awaits};
+    ghost use Rattle.std.specs.Prelude.{false};
 
     ghost works = { λ _ _ _. ⊥ };
 
-    ghost busy = { λ _. true };
+    ghost busy = { λ _. false };
 
     ghost gives = { I.gives };
 
-    ghost polls = { Awaits I.gives };
+    ghost polls = { λ _ _ _. ⊥ };
 
-    fn next_item(rt: &impl Wait, alloc: Global, _responder: &R, inbox: &mut I) -> Option<Item> {
-        Some(inbox.next(rt, alloc))
-    }
-
-    // Nobody calls it: `next_item` always gives an item.
-    fn work(_alloc: Global, _responder: &mut R) -> Result<Vec<Event>, AllocError> {
-        Err(AllocError)
+    fn next_turn(
+        rt: &impl Wait,
+        alloc: Global,
+        _responder: &mut R,
+        inbox: &mut I,
+    ) -> Result<Next, AllocError> {
+        Ok(Next::Take(inbox.next(rt, alloc)))
     }
 }
 
@@ -74,15 +86,18 @@ impl<W: Worker, I: Polled> Pace<W, I> for Polling {
 
     ghost polls = { I.polls };
 
-    fn next_item(rt: &impl Wait, alloc: Global, responder: &W, inbox: &mut I) -> Option<Item> {
-        if responder.is_busy() {
-            inbox.poll(rt, alloc)
-        } else {
-            Some(inbox.next(rt, alloc))
+    fn next_turn(
+        rt: &impl Wait,
+        alloc: Global,
+        worker: &mut W,
+        inbox: &mut I,
+    ) -> Result<Next, AllocError> {
+        if !worker.is_busy() {
+            return Ok(Next::Take(inbox.next(rt, alloc)));
         }
-    }
-
-    fn work(alloc: Global, responder: &mut W) -> Result<Vec<Event>, AllocError> {
-        responder.work(alloc)
+        match inbox.poll(rt, alloc) {
+            Some(item) => Ok(Next::Take(item)),
+            None => Ok(Next::Tell(worker.work(alloc)?)),
+        }
     }
 }

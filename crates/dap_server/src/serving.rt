@@ -6,19 +6,16 @@ ghost use Rattle.byte_streams.specs.Streams.{Appends};
 ghost use Rattle.serde_json.specs.View.{view};
 ghost use Rattle.dap_frame.specs.Frame.{IsOpen};
 ghost use Rattle.dap_server.specs.Requests.{request_of, IsReadAs};
-ghost use Rattle.dap_server.specs.Messages.{plain_event};
 ghost use Rattle.dap_server.specs.Conversation.{state, Answers, Turns, Progress};
-ghost use Rattle.dap_server.specs.Inbox.{Tells};
-ghost use Rattle.dap_server.specs.ServingInbox.{ServedInbox, OutputFailures, CannotTell};
+ghost use Rattle.dap_server.specs.ServingInbox.{ServedInbox, OutputFailures};
 ghost use Rattle.dap_server.specs.Serving.{stays, FailsAt, FailsIn, HasFailed, Failures, Stops, Served};
 ghost use Rattle.dap_server.specs.declared.serving.Client.TheVariants.{Stays};
 
 use crate::ending::{Ending, ServeFault};
 use crate::inbox::Inbox;
-use crate::messages::{frame_of_event, frames_of};
+use crate::messages::frames_of;
 use crate::pace::Waiting;
 use crate::reading::{command_of, is_request, seq_of};
-use crate::reply::Event;
 use crate::responder::Responder;
 use crate::working::converse;
 use byte_streams::{Sink, Source, WriteFailed, write_all};
@@ -74,32 +71,6 @@ pub fn serve_inbox<R: Responder, I: Inbox, O: Sink>(
     ensures failures { OutputFailures result (O.output output.old).failures (O.output output.new).failures }
 {
     converse::<Waiting, R, I, O>(rt, alloc, responder, inbox, output)
-}
-
-/// Sends an event.
-pub(crate) fn tell<O: Sink>(
-    rt: &impl Wait,
-    alloc: Global,
-    event: Event,
-    next: &mut u64,
-    output: &mut O,
-) -> Result<(), ServeFault>
-    ensures ok { OnOk result (Tells (plain_event event) next.old next.new
-        (Appends (O.output output.old).written (O.output output.new).written)) }
-    ensures count { OnOk result ((O.output output.new).failures ≡ (O.output output.old).failures) }
-    ensures err { IfErr result (λ fault. CannotTell fault (plain_event event) next.old (O.output output.old).written
-        (O.output output.new).written) }
-    ensures failed { IfErr result (λ fault.
-        HasFailed fault (O.output output.old).failures (O.output output.new).failures) }
-{
-    let frame = match frame_of_event(alloc, event, next) {
-        Ok(frame) => frame,
-        Err(fault) => return Err(fault),
-    };
-    match write_all(rt, output, frame.as_slice()) {
-        Ok(()) => Ok(()),
-        Err(WriteFailed) => Err(ServeFault::Output),
-    }
 }
 
 /// Answers each request that has come whole.

@@ -1,20 +1,20 @@
 //! The conversation of an adapter that works while no request waits.
 
-ghost use Rattle.std.specs.Prelude.{◌≡◌, IfOk, IfErr, OnOk, map};
+ghost use Rattle.std.specs.Prelude.{◌≡◌, [], ◌∷◌, IfOk, IfErr, OnOk, map};
 ghost use Rattle.byte_streams.specs.Streams.{Appends};
 ghost use Rattle.dap_server.specs.Messages.{plain_event};
 ghost use Rattle.dap_server.specs.Serving.{HasFailed};
-ghost use Rattle.dap_server.specs.ServingInbox.{OutputFailures};
-ghost use Rattle.dap_server.specs.Working.{ServedWorker, TellsAll, CannotTellAll};
+ghost use Rattle.dap_server.specs.ServingInbox.{OutputFailures, CannotTell};
+ghost use Rattle.dap_server.specs.Working.{ServedWorker, Tells};
 
 use crate::ending::{Ending, ServeFault};
 use crate::inbox::Item;
 use crate::messages::frames_of_events;
-use crate::pace::{Pace, Polling};
+use crate::pace::{Next, Pace, Polling};
 use crate::polled::Polled;
 use crate::reply::Event;
 use crate::responder::Responder;
-use crate::serving::{Client, answer_all, tell};
+use crate::serving::{Client, answer_all};
 use crate::worker::Worker;
 use byte_streams::{Sink, WriteFailed, write_all};
 use dap_frame::Decoder;
@@ -57,15 +57,13 @@ pub(crate) fn converse<P: Pace<R, I>, R: Responder, I, O: Sink>(
     let mut decoder = Decoder::new(alloc);
     let mut next = 1;
     for _ in rt.forever() {
-        match P::next_item(rt, alloc, responder, inbox) {
-            None => {
-                let events = P::work(alloc, responder)?;
-                match tell_all(rt, alloc, events, &mut next, output) {
-                    Ok(()) => {}
-                    Err(fault) => return Err(fault),
-                }
+        match P::next_turn(rt, alloc, responder, inbox)? {
+            Next::Tell(events) => tell(rt, alloc, events, &mut next, output)?,
+            Next::Take(Item::Event(event)) => {
+                let events = only(alloc, event)?;
+                tell(rt, alloc, events, &mut next, output)?;
             }
-            Some(Item::Bytes(bytes)) => {
+            Next::Take(Item::Bytes(bytes)) => {
                 match decoder.feed(bytes.as_slice()) {
                     Ok(()) => {}
                     Err(_) => return Err(ServeFault::NoMemory),
@@ -76,30 +74,33 @@ pub(crate) fn converse<P: Pace<R, I>, R: Responder, I, O: Sink>(
                     Client::Left => return Ok(Ending::Disconnected),
                 }
             }
-            Some(Item::Event(event)) => match tell(rt, alloc, event, &mut next, output) {
-                Ok(()) => {}
-                Err(fault) => return Err(fault),
-            },
-            Some(Item::End) => return Ok(Ending::InputEnded),
-            Some(Item::Failed) => return Err(ServeFault::Input),
-            Some(Item::NoMemory) => return Err(ServeFault::NoMemory),
+            Next::Take(Item::End) => return Ok(Ending::InputEnded),
+            Next::Take(Item::Failed) => return Err(ServeFault::Input),
+            Next::Take(Item::NoMemory) => return Err(ServeFault::NoMemory),
         }
     }
     unreachable!()
 }
 
+/// Returns a list of this event alone.
+fn only(alloc: Global, event: Event) -> Result<Vec<Event>, AllocError>
+    ensures { IfOk result (λ events. events.items ≡ event ∷ []) }
+{
+    Ok(vec![in alloc; event]?)
+}
+
 /// Sends events.
-fn tell_all<O: Sink>(
+fn tell<O: Sink>(
     rt: &impl Wait,
     alloc: Global,
     events: Vec<Event>,
     next: &mut u64,
     output: &mut O,
 ) -> Result<(), ServeFault>
-    ensures ok { OnOk result (TellsAll (map plain_event events.items) next.old next.new
+    ensures ok { OnOk result (Tells (map plain_event events.items) next.old next.new
         (Appends (O.output output.old).written (O.output output.new).written)) }
     ensures count { OnOk result ((O.output output.new).failures ≡ (O.output output.old).failures) }
-    ensures err { IfErr result (λ fault. CannotTellAll fault (map plain_event events.items) next.old
+    ensures err { IfErr result (λ fault. CannotTell fault (map plain_event events.items) next.old
         (O.output output.old).written (O.output output.new).written) }
     ensures failed { IfErr result (λ fault. HasFailed fault (O.output output.old).failures
         (O.output output.new).failures) }

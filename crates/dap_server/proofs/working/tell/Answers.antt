@@ -2,7 +2,7 @@ use Rattle.std.proofs.Common.{◌+◌, ◌∙◌, ap, subst, map}
 use Rattle.byte_streams.specs.Streams.{Appends}
 use Rattle.dap_server.specs.Messages.{plain_event}
 use Rattle.dap_server.proofs.Adding.{events_from-length}
-use Rattle.dap_server.proofs.working.tell_all.Goals as goal
+use Rattle.dap_server.proofs.working.tell.Goals as goal
 
 pub returns-in-Ok-write_all-clause-ok : goal.returns-in-Ok-write_all-clause-ok
 returns-in-Ok-write_all-clause-ok g c =
