@@ -73,7 +73,6 @@ module _ (once : IsReadOnce) (one : HistoryIsOne) where
   output_is_of_history f wrote result before after driven = record {
     read = taken.read;
     consumed = taken.consumed;
-    events = session.events;
     begins = taken.begins;
     reached = few.0;
     is_reached = few.1;

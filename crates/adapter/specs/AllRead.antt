@@ -38,7 +38,7 @@ pub record AnswersAll (first : FirstSeq) (bytes : List ℕ) (messages : List Out
   pub answers : AnswersFrames first bytes requests rest messages
   pub unfinished : IsOpen rest
 
--- no byte is left, or a read failed
+-- a read found the end, or a read failed
 abbrev pub ClosesBy : Closed → Supply → Supply → Type 0
 ClosesBy closed.Disconnected old later = ⊥
 ClosesBy closed.InputEnded old later = later.ended ≡ true

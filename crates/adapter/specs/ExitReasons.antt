@@ -15,7 +15,7 @@ use Rattle.adapter.specs.declared.checking.CheckFault.TheVariants as check
 use Rattle.adapter.specs.declared.arguments.ArgumentsFault.{ArgumentsFault}
 use Rattle.adapter.specs.declared.arguments.ArgumentsFault.TheVariants as arguments
 use Rattle.adapter.specs.declared.exit_reason.ExitReason.{ExitReason}
-use Rattle.adapter.specs.declared.exit_reason.ExitReason.TheVariants.{Success, ReadFailed, WriteFailed, Framing, Refused, CannotRead, Syntax, NoMemory, NotUnderstood}
+use Rattle.adapter.specs.declared.exit_reason.ExitReason.TheVariants.{Success, ReadFailed, WriteFailed, Framing, Refused, CannotRead, Syntax, NoMemory, NotText, NotUnderstood}
 
 -- framing faults by their numbers; out of memory is a refusal of the session
 abbrev pub reason_of_framing : FramingFault → ExitReason
@@ -61,7 +61,7 @@ reason_of_arguments arguments.NoMemory = NoMemory
 -- why there are no arguments: no memory for them, or one of them is no text
 abbrev pub reason_of_reading : ErrorKind → ExitReason
 reason_of_reading kind.OutOfMemory = NoMemory
-reason_of_reading _ = NotUnderstood
+reason_of_reading _ = NotText
 
 -- the exit status
 abbrev pub status_of : ExitReason → ℕ
@@ -73,9 +73,11 @@ status_of (Refused number) = 3
 status_of CannotRead = 1
 status_of (Syntax number place) = 3
 status_of NoMemory = 3
+status_of NotText = 4
 status_of NotUnderstood = 4
 
--- the last line on standard error, without its line feed; none at success, nor where the usage stands in its place
+-- The last line on standard error, without its line feed. At success there is none, the usage stands in its place where
+-- arguments are not understood, and behind it where one is no text.
 abbrev pub last_line : ExitReason → List ℕ
 last_line Success = []
 last_line ReadFailed = codes "pl0dap: read failed"
@@ -87,4 +89,5 @@ last_line (Syntax number place) =
     codes "pl0dap: syntax " ++ (decimal number ++ (codes
     " " ++ (decimal place.line ++ (codes " " ++ decimal place.column))))
 last_line NoMemory = codes "pl0dap: no memory"
+last_line NotText = codes "pl0dap: an argument is not text"
 last_line NotUnderstood = []

@@ -15,7 +15,7 @@ use Rattle.adapter.specs.declared.arguments.ArgumentsFault.TheVariants as fault
 use Rattle.adapter.specs.declared.arguments.TheConstants.{HELP, USAGE}
 use Rattle.adapter.specs.declared.checking.CheckFault.{CheckFault}
 use Rattle.adapter.specs.declared.exit_reason.ExitReason.{ExitReason}
-use Rattle.adapter.specs.declared.exit_reason.ExitReason.TheVariants.{Success, WriteFailed, NoMemory, NotUnderstood}
+use Rattle.adapter.specs.declared.exit_reason.ExitReason.TheVariants.{Success, WriteFailed, NoMemory, NotText, NotUnderstood}
 use Rattle.adapter.specs.declared.serving.Served.{Served}
 use Rattle.adapter.specs.declared.serving.ServeFault.{ServeFault}
 use Rattle.adapter.specs.Arguments.{Reads, IsParsed, refusals}
@@ -65,10 +65,11 @@ Performs first arguments reason loads later_loads old later =
 abbrev pub IsUsage : List ℕ → Type 0
 IsUsage text = (message : List ℕ) × (text ≡ message ++ USAGE.now)
 
--- What is written to standard error: nothing at status 0, the usage at status 4, else the last line.
+-- What is written to standard error: nothing at status 0, the usage behind what was wrong at status 4, else the last line.
 abbrev pub Reports : ExitReason → Output → Output → Type 0
 Reports Success before after = after ≡ before
 Reports NotUnderstood before after = (text : List ℕ) × IsUsage text × WritesOrFails text before after
+Reports NotText before after = WritesOrFails (last_line NotText ++ (line_feed ++ USAGE.now)) before after
 Reports reason before after = WritesOrFails (last_line reason ++ line_feed) before after
 
 -- The program did what the arguments ask for, ended as that went, and said so on standard error.

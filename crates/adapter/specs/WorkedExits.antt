@@ -5,24 +5,24 @@ use Rattle.dap_history.specs.declared.fault.SessionFault.TheVariants as session
 use Rattle.pl0_tree.specs.Faults.{limit}
 use Rattle.byte_streams.specs.Beginning.{beginning_limit}
 use Rattle.adapter.specs.declared.serving.ServeFault.TheVariants as serve
-use Rattle.adapter.specs.declared.exit_reason.ExitReason.TheVariants.{Success, ReadFailed, WriteFailed, Framing, Refused, CannotRead, Syntax, NoMemory, NotUnderstood}
+use Rattle.adapter.specs.declared.exit_reason.ExitReason.TheVariants.{Success, ReadFailed, WriteFailed, Framing, Refused, CannotRead, Syntax, NoMemory, NotText, NotUnderstood}
 use Rattle.adapter.specs.ExitReasons.{reason_of_framing, reason_of_serve, status_of, last_line}
 
 -- the statuses
 abbrev pub StatusesAre : Type 0
 StatusesAre =
     map status_of (Success ∷ ReadFailed ∷ WriteFailed ∷ CannotRead ∷ Framing 6 ∷ Refused 7
-    ∷ Syntax 12 (record { line = 3; column = 9 }) ∷ NoMemory ∷ NotUnderstood ∷ [])
-    ≡ 0 ∷ 1 ∷ 1 ∷ 1 ∷ 2 ∷ 3 ∷ 3 ∷ 3 ∷ 4 ∷ []
+    ∷ Syntax 12 (record { line = 3; column = 9 }) ∷ NoMemory ∷ NotText ∷ NotUnderstood ∷ [])
+    ≡ 0 ∷ 1 ∷ 1 ∷ 1 ∷ 2 ∷ 3 ∷ 3 ∷ 3 ∷ 4 ∷ 4 ∷ []
 
 -- the last lines on standard error
 abbrev pub LastLinesAre : Type 0
 LastLinesAre =
     map last_line (Success ∷ ReadFailed ∷ WriteFailed ∷ CannotRead ∷ Framing 6 ∷ Refused 7
-    ∷ Syntax 12 (record { line = 3; column = 9 }) ∷ NoMemory ∷ NotUnderstood ∷ [])
+    ∷ Syntax 12 (record { line = 3; column = 9 }) ∷ NoMemory ∷ NotText ∷ NotUnderstood ∷ [])
     ≡ [] ∷ codes "pl0dap: read failed" ∷ codes "pl0dap: write failed" ∷ codes "pl0dap: cannot read"
     ∷ codes "pl0dap: frame 6" ∷ codes "pl0dap: refused 7" ∷ codes "pl0dap: syntax 12 3 9" ∷ codes "pl0dap: no memory"
-    ∷ [] ∷ []
+    ∷ codes "pl0dap: an argument is not text" ∷ [] ∷ []
 
 -- the numbers behind `frame`, and a lack of memory
 abbrev pub FramingFaultsAreNumbered : Type 0

@@ -14,12 +14,11 @@ use Rattle.byte_streams.specs.Streams.{Appends, IsReadOf}
 use Rattle.byte_streams.specs.declared.writing.WriteFailed.{WriteFailed}
 use Rattle.adapter.specs.Serving.{World, TasksEnd}
 
--- A prefix of what was read are the pieces among some events. A session with these reached a history, and what was
+-- The pieces among the events are a prefix of what was read. A session with these events reached a history, and what was
 -- written is a prefix of the frames of its messages, numbered 1, 2, 3 and so on.
-pub record TakesOfHistory (client_first : FirstSeq) (before after : World) : Type 0 where
+pub record TakesOfHistory (client_first : FirstSeq) (events : List Incoming) (before after : World) : Type 0 where
   pub read : List ℕ
   pub consumed : IsReadOf read before.streams.input after.streams.input
-  pub events : List Incoming
   pub begins : IsPrefixOf (stream_of events) read
   pub reached : History
   pub is_reached : IsReached client_first events reached
@@ -27,8 +26,9 @@ pub record TakesOfHistory (client_first : FirstSeq) (before after : World) : Typ
   pub appended : Appends before.streams.output.written after.streams.output.written written
   pub part : IsPrefixOf written (concat (frames_from 1 (messages_of reached)))
 
--- However session, reader, runner and writer ended, what was written is of one history of what was read.
+-- However session, reader, runner and writer ended, what was written is of the history that the session reached.
 abbrev pub OutputIsOfHistory : Type 0
 OutputIsOfHistory =
     (first : FirstSeq) (wrote : Result (Unit {0}) WriteFailed) (result : Result Closed SessionFault)
-    (before after : World) → TasksEnd first wrote result before after → TakesOfHistory first before after
+    (before after : World) → (driven : TasksEnd first wrote result before after)
+    → TakesOfHistory first driven.session.events before after

@@ -31,13 +31,15 @@ pub enum ExitReason {
     Syntax { number: u8, place: Place },
     /// Memory ran out while arguments were read or a file was checked.
     NoMemory,
+    /// An argument is no text.
+    NotText,
     /// The command line was not understood.
     NotUnderstood,
 }
 
 impl ExitReason {
     /// The exit status: 0 at success, 1 where reading or writing failed, 2 after a framing fault, 3 after any other
-    /// refusal, 4 where the command line was not understood.
+    /// refusal, 4 where the command line was not understood, or is no text.
     pub fn status(self) -> u8
         ensures { result ≡ status_of self }
     {
@@ -46,7 +48,7 @@ impl ExitReason {
             ExitReason::ReadFailed | ExitReason::WriteFailed | ExitReason::CannotRead => 1,
             ExitReason::Framing(_) => 2,
             ExitReason::Refused(_) | ExitReason::Syntax { .. } | ExitReason::NoMemory => 3,
-            ExitReason::NotUnderstood => 4,
+            ExitReason::NotText | ExitReason::NotUnderstood => 4,
         }
     }
 }
@@ -84,7 +86,7 @@ pub(crate) fn end_of_reading(error: &io::Error) -> ExitReason
 {
     match error.kind() {
         ErrorKind::OutOfMemory => ExitReason::NoMemory,
-        _ => ExitReason::NotUnderstood,
+        _ => ExitReason::NotText,
     }
 }
 

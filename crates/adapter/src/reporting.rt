@@ -20,9 +20,6 @@ use pl0_tree::{FaultKind, Place};
 use std::alloc::{AllocError, Global};
 use std::sync::Wait;
 
-/// What standard error gets first where an argument is no text.
-const NOT_TEXT: &str = "pl0dap: an argument is not text\n";
-
 /// Reports how serving ended on an output that was lent.
 #[derive(Drop)]
 pub(crate) struct EndReporter<'a, R, E> {
@@ -78,6 +75,7 @@ fn log_end<R: Eprint>(rt: &R, reason: ExitReason) {
     let is_unlogged = matches!(
         reason,
         ExitReason::Success
+            | ExitReason::NotText
             | ExitReason::NotUnderstood
             | ExitReason::Syntax { .. }
             | ExitReason::CannotRead
@@ -89,7 +87,8 @@ fn log_end<R: Eprint>(rt: &R, reason: ExitReason) {
 }
 
 /// Writes to `errors` what standard error gets for a reason to end: nothing for `Success`, the usage for
-/// `NotUnderstood`, after what wasn't understood of the arguments, and else the last line.
+/// `NotUnderstood`, after what wasn't understood of the arguments, and else the last line. Behind that of `NotText` stands
+/// the usage. No other reason than `NotUnderstood` looks at the arguments.
 pub fn say_reason<R: Wait + AllocGlobal, E: Sink>(
     rt: &R,
     arguments: &[&str],
@@ -107,6 +106,7 @@ pub fn say_reason<R: Wait + AllocGlobal, E: Sink>(
         ExitReason::CannotRead => say(rt, errors, &["pl0dap: cannot read\n"]),
         ExitReason::Syntax { number, place } => say_syntax(rt, errors, number, place),
         ExitReason::NoMemory => say(rt, errors, &["pl0dap: no memory\n"]),
+        ExitReason::NotText => say(rt, errors, &["pl0dap: an argument is not text\n", USAGE]),
         ExitReason::NotUnderstood => say_usage(rt, errors, arguments),
     }
 }
@@ -163,14 +163,10 @@ fn say_syntax<E: Sink>(rt: &impl Wait, errors: &mut E, number: u8, place: Place)
     say(rt, errors, &texts);
 }
 
-/// Writes what was wrong with the arguments, where there is memory for it, and then the usage. There are no arguments
-/// where one of them is no text.
+/// Writes what was wrong with the arguments, where there is memory for it, and then the usage.
 fn say_usage<R: Wait + AllocGlobal, E: Sink>(rt: &R, errors: &mut E, arguments: &[&str])
     ensures { (text : List ℕ) × IsUsage text × WritesOrFails text (E.output errors.old) (E.output errors.new) }
 {
-    if arguments.is_empty() {
-        return say(rt, errors, &[NOT_TEXT, USAGE]);
-    }
     match objection(rt.alloc(), arguments) {
         Ok(message) => say(rt, errors, &[message.as_str(), USAGE]),
         Err(AllocError) => say(rt, errors, &[USAGE]),
