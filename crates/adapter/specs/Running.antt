@@ -65,7 +65,8 @@ Performs first arguments reason loads later_loads old later =
 abbrev pub IsUsage : List ℕ → Type 0
 IsUsage text = (message : List ℕ) × (text ≡ message ++ USAGE.now)
 
--- What is written to standard error: nothing at status 0, the usage behind what was wrong at status 4, else the last line.
+-- What is written to standard error: nothing at status 0, at status 4 what was wrong and then the usage, else the last
+-- line.
 abbrev pub Reports : ExitReason → Output → Output → Type 0
 Reports Success before after = after ≡ before
 Reports NotUnderstood before after = (text : List ℕ) × IsUsage text × WritesOrFails text before after

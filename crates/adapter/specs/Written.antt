@@ -14,8 +14,8 @@ use Rattle.byte_streams.specs.Streams.{Appends, IsReadOf}
 use Rattle.byte_streams.specs.declared.writing.WriteFailed.{WriteFailed}
 use Rattle.adapter.specs.Serving.{World, TasksEnd}
 
--- The pieces among the events are a prefix of what was read. A session with these events reached a history, and what was
--- written is a prefix of the frames of its messages, numbered 1, 2, 3 and so on.
+-- The pieces among the events are a prefix of what was read. A session with these events reached a history, and what
+-- was written is a prefix of the frames of its messages, numbered 1, 2, 3 and so on.
 pub record TakesOfHistory (client_first : FirstSeq) (events : List Incoming) (before after : World) : Type 0 where
   pub read : List ℕ
   pub consumed : IsReadOf read before.streams.input after.streams.input
