@@ -37,10 +37,6 @@ LONG_FUNCTIONS = {
         "four tasks, on a line for each field",
     ("crates/adapter/src/serving.rt", "serve_over"):
         "nine parameters with their bounds, on 19 lines; four tasks, of which one proof speaks",
-    ("crates/pl0_machine/src/finish.rt", "take_turn"):
-        "one line for each of 38 operations",
-    ("crates/pl0_machine/src/take.rt", "take"):
-        "one table of jumps: a line for each form",
     ("crates/test_kit/src/runner.rt", "report_next"):
         "the runner's turn in one thread, which the runner itself takes in two functions between threads",
 }
