@@ -154,8 +154,10 @@ pub returns-in-Err-clause-served : goal.returns-in-Err-clause-served
 returns-in-Err-clause-served g c =
     let came : (c.next_turn.new.responder ≡ c.loop.responder) × Comes (g.P.Pace.busy c.next_turn.new.responder)
     g.P.Pace.gives
-    g.P.Pace.polls c.loop.inbox (Bytes c.in-Take-Bytes.bytes.items) c.next_turn.new.inbox = rw (c.in-Take-Bytes.is,
-    c.in-Take-Bytes.field-0-is) at c.in_ok-events.ensures.ok in
+    g.P.Pace.polls c.loop.inbox (Bytes c.in-Take-Bytes.bytes.items) c.next_turn.new.inbox = rw (
+      c.in-Take-Bytes.is,
+      c.in-Take-Bytes.field-0-is,
+    ) at c.in_ok-events.ensures.ok in
     let working = working_same _ _ _ _ _ _ _ _ _ _ _ _ _ _ c.loop.invariant.working came.0 in
     let here = state c.next_turn.new.responder c.loop.next true in
     worker_ended_by g.R.Responder.replies g.P.Pace.works g.P.Pace.busy g.P.Pace.gives g.P.Pace.polls
@@ -176,8 +178,10 @@ pub returns-in_err-client-in-Take-Bytes-clause-served :
 returns-in_err-client-in-Take-Bytes-clause-served g c =
     let came : (c.next_turn.new.responder ≡ c.loop.responder) × Comes (g.P.Pace.busy c.next_turn.new.responder)
     g.P.Pace.gives
-    g.P.Pace.polls c.loop.inbox (Bytes c.in-Take-Bytes.bytes.items) c.next_turn.new.inbox = rw (c.in-Take-Bytes.is,
-    c.in-Take-Bytes.field-0-is) at c.in_ok-events.ensures.ok in
+    g.P.Pace.polls c.loop.inbox (Bytes c.in-Take-Bytes.bytes.items) c.next_turn.new.inbox = rw (
+      c.in-Take-Bytes.is,
+      c.in-Take-Bytes.field-0-is,
+    ) at c.in_ok-events.ensures.ok in
     let working = working_same _ _ _ _ _ _ _ _ _ _ _ _ _ _ c.loop.invariant.working came.0 in
     let p = err_from_is_err_and c.from_residual-in_err-client-in-Take-Bytes.result
     c.from_residual-in_err-client-in-Take-Bytes.ensures.1 in
@@ -205,8 +209,10 @@ pub returns-in-Left-clause-served : goal.returns-in-Left-clause-served
 returns-in-Left-clause-served g c =
     let came : (c.next_turn.new.responder ≡ c.loop.responder) × Comes (g.P.Pace.busy c.next_turn.new.responder)
     g.P.Pace.gives
-    g.P.Pace.polls c.loop.inbox (Bytes c.in-Take-Bytes.bytes.items) c.next_turn.new.inbox = rw (c.in-Take-Bytes.is,
-    c.in-Take-Bytes.field-0-is) at c.in_ok-events.ensures.ok in
+    g.P.Pace.polls c.loop.inbox (Bytes c.in-Take-Bytes.bytes.items) c.next_turn.new.inbox = rw (
+      c.in-Take-Bytes.is,
+      c.in-Take-Bytes.field-0-is,
+    ) at c.in_ok-events.ensures.ok in
     let working = working_same _ _ _ _ _ _ _ _ _ _ _ _ _ _ c.loop.invariant.working came.0 in
     let left = state c.answer_all.new.responder c.answer_all.new.next false in
     worker_ended_within g.R.Responder.replies g.P.Pace.works g.P.Pace.busy g.P.Pace.gives g.P.Pace.polls
@@ -233,8 +239,10 @@ pub loop-preserved : goal.loop-preserved
 loop-preserved g c =
     let came : (c.next_turn.new.responder ≡ c.loop.responder) × Comes (g.P.Pace.busy c.next_turn.new.responder)
     g.P.Pace.gives
-    g.P.Pace.polls c.loop.inbox (Bytes c.in-Take-Bytes.bytes.items) c.next_turn.new.inbox = rw (c.in-Take-Bytes.is,
-    c.in-Take-Bytes.field-0-is) at c.in_ok-events.ensures.ok in
+    g.P.Pace.polls c.loop.inbox (Bytes c.in-Take-Bytes.bytes.items) c.next_turn.new.inbox = rw (
+      c.in-Take-Bytes.is,
+      c.in-Take-Bytes.field-0-is,
+    ) at c.in_ok-events.ensures.ok in
     let working = working_same _ _ _ _ _ _ _ _ _ _ _ _ _ _ c.loop.invariant.working came.0 in
     let now = state c.answer_all.new.responder c.answer_all.new.next true in record {
       sound = c.in_ok-client-in-Take-Bytes.ensures.sound;
@@ -301,8 +309,10 @@ pub returns-in-Take-NoMemory-clause-served : goal.returns-in-Take-NoMemory-claus
 returns-in-Take-NoMemory-clause-served g c =
     let came : (c.next_turn.new.responder ≡ c.loop.responder) × Comes (g.P.Pace.busy c.next_turn.new.responder)
     g.P.Pace.gives
-    g.P.Pace.polls c.loop.inbox NoMemory c.next_turn.new.inbox = rw (c.in-Take-NoMemory.is,
-    c.in-Take-NoMemory.field-0-is) at c.in_ok-events.ensures.ok in
+    g.P.Pace.polls c.loop.inbox NoMemory c.next_turn.new.inbox = rw (
+      c.in-Take-NoMemory.is,
+      c.in-Take-NoMemory.field-0-is,
+    ) at c.in_ok-events.ensures.ok in
     let working = working_same _ _ _ _ _ _ _ _ _ _ _ _ _ _ c.loop.invariant.working came.0 in
     let here = state c.next_turn.new.responder c.loop.next true in
     worker_ended_by g.R.Responder.replies g.P.Pace.works g.P.Pace.busy g.P.Pace.gives g.P.Pace.polls
