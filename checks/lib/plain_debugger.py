@@ -342,9 +342,9 @@ def parts_of(message: str) -> tuple[tuple[bool, str], ...]:
 def start(world: World, given: dict, folder: str) -> tuple[dict | None, list[dict], World]:
     if world.phase != "configuring":
         raise Refused("no program waits to be started")
-    if world.entry:
-        return None, [stopped("entry")], world.having(phase="stopped")
     told, after = arrive(world.having(phase="running", mode=("continue", 0)))
+    if world.entry and after.phase == "running":
+        return None, [*told, stopped("entry")], after.having(phase="stopped")
     return None, told, after
 
 

@@ -1,6 +1,6 @@
 -- Each run ends once.
 use Rattle.std.specs.Prelude.{min, slice_get, codes, Result, Ok, Err}
-use Rattle.std.proofs.Common.{◌≡◌, ◌+◌, ℕ, true, false, List, [], ◌∷◌, ◌++◌, ◌∙◌, refl, sym, ap, map, arith, Option, None, Some, inl, inr}
+use Rattle.std.proofs.Common.{◌≡◌, ◌+◌, ℕ, Bool, true, false, List, [], ◌∷◌, ◌++◌, ◌∙◌, refl, sym, ap, map, arith, Option, None, Some, inl, inr}
 use Rattle.serde_json.specs.Data.{Data}
 use Rattle.dap_server.specs.Messages.{PlainEvent, PlainReply}
 use Rattle.debuggee.specs.Plain.{PlainBreakpoint, PlainEvaluated, Value, NoValue, PlainHalt, AtBreakpoint, AtStep, AtEnd, AtFault, PlainOutput, Printed, Logged}
@@ -22,7 +22,7 @@ use Rattle.dap_debug.specs.Inspecting.{ShowsScopes, ShowsScope, ShowsVariables, 
 use Rattle.dap_debug.specs.Loading.{LoadsAs, LoadsGiven, LoadsAt, LoadsFrom}
 use Rattle.dap_debug.specs.Shown.{PlainFrame, PlainScope}
 use Rattle.dap_debug.specs.Replies.{Known, Replies}
-use Rattle.dap_debug.specs.Running.{GoesFrom, WorksOn, StartsFrom, ResumesFrom, PausesFrom, IsRefused, ended, mode_of, phase_after}
+use Rattle.dap_debug.specs.Running.{EntersFrom, GoesFrom, GoesOn, WorksOn, StartsFrom, ResumesFrom, PausesFrom, IsRefused, ended, mode_of, phase_after}
 use Rattle.dap_debug.specs.Standings.{Standing}
 use Rattle.dap_debug.specs.Telling.{event_of, merged, told_end, told_of}
 use Rattle.dap_debug.specs.Laws.{ends_told, owed, asks}
@@ -96,17 +96,31 @@ replied stands now reply says n is so sum =
     let owes = ap owed so in
     omega (arith, told, owes, sum)
 
+entered : {S : Type 0} (p : Phase S) (stood stands : Standing S) (events : List PlainEvent) → stood.phase ≡ p
+    → EntersFrom p stood events stands → owed stands.phase + ends_told events ≡ owed p
+entered (phase.Running a how) stood stands events at is =
+    let told = ap ends_told is.0 in
+    let owes = ap (λ (s : Standing _). owed s.phase) is.1 in
+    omega (arith, told, owes)
+entered (phase.Configuring a stop_on_entry) stood stands events at is = still stood stands events _ is.0 is.1 at
+entered (phase.Stopped a) stood stands events at is = still stood stands events _ is.0 is.1 at
+entered phase.NoProgram stood stands events at is = still stood stands events _ is.0 is.1 at
+
+goes_on : {S : Type 0} (takes : Meaning S) (sees : Sight S) (stop_on_entry : Bool) (stood stands : Standing S)
+    (events : List PlainEvent) → GoesOn takes sees stop_on_entry stood events stands
+    → owed stands.phase + ends_told events ≡ owed stood.phase
+goes_on takes sees true stood stands events is = entered stood.phase stood stands events refl is
+goes_on takes sees false stood stands events is = work_balanced takes sees stood stands events is
+
 started : {S : Type 0} (takes : Meaning S) (sees : Sight S) (p : Phase S) (stood stands : Standing S)
     (reply : PlainReply) → stood.phase ≡ p → StartsFrom takes sees p stood reply stands
     → owed stands.phase + ends_told reply.events ≡ owed p + asks command.ConfigurationDone p
-started takes sees (phase.Configuring a true) stood stands reply at is =
-    replied stands (phase.Stopped a) reply _ 1 is.0 (ap (λ (s : Standing _). s.phase) is.1) refl
-started takes sees (phase.Configuring a false) stood stands reply at is =
+started takes sees (phase.Configuring a stop_on_entry) stood stands reply at is =
     let begun = is.1 in
     let once = told_once begun.arrives.1 begun.arrives.0 a mode.Continue in
     let first = ap ends_told begun.arrives.3 in
     let owes = ap owed begun.arrives.4 in
-    let later = work_balanced takes sees begun.there stands begun.more begun.goes in
+    let later = goes_on takes sees stop_on_entry begun.there stands begun.more begun.goes in
     let both = ends_append begun.first begun.more in
     let all = ap ends_told begun.events_are in
     let told = ap (λ (r : PlainReply). ends_told r.events) is.2 in

@@ -1,5 +1,5 @@
 -- Defines how a program is started, goes on, is paused and ended, by the steps that its language takes.
-use Rattle.std.specs.Prelude.{◌≡◌, ℕ, true, false, List, [], ◌∷◌, ◌++◌, codes, Option, None, Some, Ok, Err}
+use Rattle.std.specs.Prelude.{◌≡◌, ℕ, Bool, true, false, List, [], ◌∷◌, ◌++◌, codes, Option, None, Some, Ok, Err}
 use Rattle.serde_json.specs.Data.{Data, boolean, object, no_members, member}
 use Rattle.dap_server.specs.Messages.{PlainEvent, PlainReply}
 use Rattle.dap_bodies.specs.Events.{stopped, exited, terminated}
@@ -86,23 +86,33 @@ Arrival sees program old events now fault new =
     (halt : Option PlainHalt) × (told : List PlainOutput) × Arrives sees mode.Continue program old halt new [] told
     × (events ≡ told_of told halt) × (now ≡ phase_after halt program mode.Continue) × (fault ≡ fault_of halt)
 
--- Else it goes on, and what is told of its first slice follows.
-pub record Begins {S : Type 0} (takes : Meaning S) (sees : Sight S) (program : S) (old : List PlainBreakpoint)
-    (path : List ℕ) (events : List PlainEvent) (stands : Standing S) : Type 0 where
+-- a program that still runs stops where it begins
+abbrev pub EntersFrom : {S : Type 0} → Phase S → Standing S → List PlainEvent → Standing S → Type 0
+EntersFrom (phase.Running program how) stood events stands =
+    (events ≡ stopped (codes "entry") None ∷ []) × (stands ≡ with_phase stood (phase.Stopped program))
+EntersFrom _ stood events stands = (events ≡ []) × (stands ≡ stood)
+
+-- a program that has arrived where it begins, and still runs, stops there, if that was asked for, and else goes on
+abbrev pub GoesOn : {S : Type 0} → Meaning S → Sight S → Bool → Standing S → List PlainEvent → Standing S → Type 0
+GoesOn takes sees true stood events stands = EntersFrom stood.phase stood events stands
+GoesOn takes sees false stood events stands = WorksOn takes sees stood events stands
+
+-- First it arrives. What is told of its entry, or of its first slice, follows.
+pub record Begins {S : Type 0} (takes : Meaning S) (sees : Sight S) (stop_on_entry : Bool) (program : S)
+    (old : List PlainBreakpoint) (path : List ℕ) (events : List PlainEvent) (stands : Standing S) : Type 0 where
   pub there : Standing S
   pub more : List PlainEvent
-  pub goes : WorksOn takes sees there more stands
+  pub goes : GoesOn takes sees stop_on_entry there more stands
   pub first : List PlainEvent
   pub arrives : Arrival sees program old first there.phase there.fault there.breakpoints
   pub path_is : there.path ≡ path
   pub events_are : events ≡ first ++ more
 
--- A program that waits is started: it stops where it begins, if that was asked for.
+-- a program that waits is started
 abbrev pub StartsFrom : {S : Type 0} → Meaning S → Sight S → Phase S → Standing S → PlainReply → Standing S → Type 0
-StartsFrom takes sees (phase.Configuring program true) stood reply stands =
-    (reply ≡ success None (stopped (codes "entry") None ∷ [])) × (stands ≡ with_phase stood (phase.Stopped program))
-StartsFrom takes sees (phase.Configuring program false) stood reply stands =
-    (events : List PlainEvent) × Begins takes sees program stood.breakpoints stood.path events stands
+StartsFrom takes sees (phase.Configuring program stop_on_entry) stood reply stands =
+    (events : List PlainEvent)
+    × Begins takes sees stop_on_entry program stood.breakpoints stood.path events stands
     × (reply ≡ success None events)
 StartsFrom takes sees _ stood reply stands = IsRefused stood reply stands
 

@@ -4,7 +4,7 @@ ghost use Rattle.std.specs.Prelude.{◌≡◌, ◌++◌, [], None, IfOk, map, op
 ghost use Rattle.dap_server.specs.Messages.{plain_event, plain_reply};
 ghost use Rattle.debuggee.specs.Plain.{plain_breakpoint, plain_halt};
 ghost use Rattle.dap_debug.specs.Standings.{standing};
-ghost use Rattle.dap_debug.specs.Running.{Arrival, Begins, fault_of, mode_of, phase_after, resumed, success, Pauses, Resumes, Slice, Starts, Terminates, WorksOn};
+ghost use Rattle.dap_debug.specs.Running.{Arrival, Begins, EntersFrom, GoesOn, fault_of, mode_of, phase_after, resumed, success, Pauses, Resumes, Slice, Starts, Terminates, WorksOn};
 
 use crate::command::Resume;
 use crate::language::Language;
@@ -51,14 +51,8 @@ impl<L: Language> State<L> {
             (standing self.new)) }
     {
         match mem::replace(&mut self.phase, Phase::NoProgram) {
-            Phase::Configuring(program, true) => {
-                self.phase = Phase::Stopped(program);
-                let mut reply = Reply::done(alloc);
-                reply.push(stopped(alloc, "entry", None)?)?;
-                Ok(reply)
-            }
-            Phase::Configuring(program, false) => {
-                let events = self.begin(alloc, program)?;
+            Phase::Configuring(program, stop_on_entry) => {
+                let events = self.begin(alloc, program, stop_on_entry)?;
                 Ok(done_with(alloc, events))
             }
             phase => {
@@ -68,16 +62,49 @@ impl<L: Language> State<L> {
         }
     }
 
-    /// Lets a program arrive where it begins, and go on, if it isn't to stop there. Returns what is told of that.
-    fn begin(&mut self, alloc: Global, program: L) -> Result<Vec<Event>, AllocError>
-        ensures { IfOk result (λ events. Begins L.takes L.sees program (standing self.old).breakpoints
+    /// Lets a program arrive where it begins, and then stop there or go on. Returns what is told of that.
+    fn begin(
+        &mut self,
+        alloc: Global,
+        program: L,
+        stop_on_entry: bool,
+    ) -> Result<Vec<Event>, AllocError>
+        ensures { IfOk result (λ events. Begins L.takes L.sees stop_on_entry program (standing self.old).breakpoints
             (standing self.old).path (map plain_event events.items) (standing self.new)) }
     {
         let ran = arrive_first(alloc, program, &mut self.breakpoints)?;
         self.phase = ran.phase;
         self.fault = ran.fault;
-        let more = self.run_on(alloc)?;
+        let more = self.go_on(alloc, stop_on_entry)?;
         let events = joined(ran.events, more)?;
+        Ok(events)
+    }
+
+    /// Stops a program that has arrived where it begins, or lets it go on, if it still runs.
+    fn go_on(&mut self, alloc: Global, stop_on_entry: bool) -> Result<Vec<Event>, AllocError>
+        ensures { IfOk result (λ events. GoesOn L.takes L.sees stop_on_entry (standing self.old)
+            (map plain_event events.items) (standing self.new)) }
+    {
+        if stop_on_entry {
+            self.enter(alloc)
+        } else {
+            self.run_on(alloc)
+        }
+    }
+
+    /// Stops a program that still runs where it begins.
+    fn enter(&mut self, alloc: Global) -> Result<Vec<Event>, AllocError>
+        ensures { IfOk result (λ events. EntersFrom (standing self.old).phase (standing self.old)
+            (map plain_event events.items) (standing self.new)) }
+    {
+        let mut events = Vec::new(alloc);
+        match mem::replace(&mut self.phase, Phase::NoProgram) {
+            Phase::Running(program, _) => {
+                self.phase = Phase::Stopped(program);
+                events.push(stopped(alloc, "entry", None)?)?;
+            }
+            phase => self.phase = phase,
+        }
         Ok(events)
     }
 
