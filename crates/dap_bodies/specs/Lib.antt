@@ -2,3 +2,5 @@
 pub mod Events
 -- bodies of responses
 pub mod Bodies
+-- an example of each, as text
+pub mod WorkedBodies

@@ -17,16 +17,18 @@
 //! ```
 //!
 //! Each contract says which event or body it is, in full: `specs/Events.antt` and `specs/Bodies.antt` have the members and
-//! their values, as the Debug Adapter Protocol names them. Lines and columns are as the adapter counts them. An `Err` means
+//! their values, as the Debug Adapter Protocol names them, and `worked_bodies` an example of each. Lines and columns are as the adapter counts them. An `Err` means
 //! that an allocation failed.
 #![tactic(auto)]
 
 mod events;
+mod laws;
 mod placing;
 mod showing;
 mod values;
 
 pub use events::{THREAD, exited, initialized, output, stopped, terminated};
+pub use laws::worked_bodies;
 pub use placing::{Breakpoint, breakpoints};
 pub use showing::{
     Scope, StackFrame, Variable, evaluated, exception_info, scopes, stack_trace, threads, variables,

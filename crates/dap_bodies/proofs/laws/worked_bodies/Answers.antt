@@ -1,0 +1,24 @@
+use Rattle.std.proofs.Common.{refl}
+use Rattle.std.specs.Fmt.{digits}
+use Rattle.json.specs.Print.{escape_byte}
+use Rattle.dap_bodies.proofs.laws.worked_bodies.Goals as goal
+
+pub returns-clause-events : goal.returns-clause-events
+unfolding digits escape_byte
+returns-clause-events c = refl
+
+pub returns-clause-stops : goal.returns-clause-stops
+unfolding digits escape_byte
+returns-clause-stops c = refl
+
+pub returns-clause-frames : goal.returns-clause-frames
+unfolding digits escape_byte
+returns-clause-frames c = refl
+
+pub returns-clause-variables : goal.returns-clause-variables
+unfolding digits escape_byte
+returns-clause-variables c = refl
+
+pub returns-clause-others : goal.returns-clause-others
+unfolding digits escape_byte
+returns-clause-others c = refl
