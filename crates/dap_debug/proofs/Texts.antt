@@ -101,6 +101,15 @@ no_number text some unmarked unlike none rule has = by_rule rule has
     by_rule (Some (Exactly n)) reads = unlike (decimal n) reads.0
     by_rule (Some (Every n)) reads = unmarked (decimal n) reads.0
 
+-- a zero in front makes no number
+pub zero_in_front : (rest : List ℕ) (rule : Option Rule) → ¬ IsRule (48 ∷ rest) rule
+zero_in_front rest =
+    no_number (48 ∷ rest) (not_nil 48 rest) (λ other is. no_zero_as 37 rest other (omega arith) is)
+    (λ other is. no_zero_as 61 rest other (omega arith) is) (λ n fits. no_mark 48 n rest (omega arith) fits)
+  where
+    no_zero_as : (mark : ℕ) (xs ys : List ℕ) → 48 ≢ mark → 48 ∷ xs ≢ mark ∷ ys
+    no_zero_as mark xs ys other is = other (ap (λ t. get_or t 0 0) is)
+
 -- by what `split_once` says of the part before the byte
 pub lacks : (byte : ℕ) (text : List ℕ) → ((i : ℕ) → i < length text → get_or text i 0 ≢ byte) → Lacks byte text
 lacks byte text none = λ k d lt is. none k lt (get_or_default text k 0 d lt ∙ is)

@@ -24,3 +24,5 @@ pub mod Laws
 pub mod Serving
 -- what holds of a whole conversation
 pub mod Sums
+-- worked examples: commands, modes, events, hit conditions, identifiers and references
+pub mod WorkedDebugger

@@ -1,5 +1,5 @@
--- States what holds of a whole conversation: each request that lets the program go on, or ends it, is followed by one
--- event that tells that it has stopped or is gone, and no other event tells that.
+-- States what holds of a whole conversation: the events that tell that a program has stopped or is gone are as many as
+-- the requests that let one go on, or ended one that didn't run, but for one that is owed while it runs.
 use Rattle.std.specs.Prelude.{◌≡◌, ◌+◌, ℕ, List, [], ◌∷◌, Option, None, Some}
 use Rattle.dap_server.specs.Messages.{events_after}
 use Rattle.dap_server.specs.Requests.{Request}

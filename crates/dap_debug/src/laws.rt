@@ -2,13 +2,14 @@
 
 ghost use Rattle.dap_debug.specs.Laws.{WorkIsBalanced, RepliesAreBalanced, TextsAreKept, FramesAreFound, ScopesAreFound};
 ghost use Rattle.dap_debug.specs.Sums.{EachEndsOnce};
+ghost use Rattle.dap_debug.specs.WorkedDebugger.{CommandsAreNamed, ModesFollow, TextsAreTold, HaltsAreTold, RulesAreRead, ShownAreNumbered, NumbersAreFound};
 
 use crate::language::Language;
 use dap_server::Polled;
 
-/// Each run ends once: each request that lets the program go on, or ends it, is followed by just one event that tells that
-/// the program has stopped or is gone, unless the program still runs. And each byte that is printed or said is told, in
-/// order. It does nothing: its contract is the laws.
+/// Each run ends once: a request that lets the program go on, or ends one that doesn't run, owes one event that tells that
+/// the program has stopped or is gone, and what was owed is told, but for what is still owed while the program runs. And
+/// each byte that is printed or said is told, in order. It does nothing: its contract is the laws.
 pub fn debug_laws<L: Language>()
     ensures work { WorkIsBalanced L.takes L.sees }
     ensures replies { RepliesAreBalanced (record {
@@ -40,4 +41,16 @@ pub fn conversation_laws<L: Language, I: Polled>()
 pub fn shown_laws()
     ensures frames { FramesAreFound }
     ensures scopes { ScopesAreFound }
+{}
+
+/// Examples of commands, modes, what is told of a run, hit conditions, identifiers and references, computed. It does
+/// nothing: its contract is the examples.
+pub fn worked_debugger()
+    ensures commands { CommandsAreNamed }
+    ensures modes { ModesFollow }
+    ensures texts { TextsAreTold }
+    ensures halts { HaltsAreTold }
+    ensures rules { RulesAreRead }
+    ensures numbered { ShownAreNumbered }
+    ensures found { NumbersAreFound }
 {}

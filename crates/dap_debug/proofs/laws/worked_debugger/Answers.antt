@@ -1,0 +1,35 @@
+use Rattle.std.proofs.Common.{refl, ◌∷◌, [], arith}
+use Rattle.std.specs.Fmt.{digits}
+use Rattle.json.specs.Print.{escape_byte}
+use Rattle.dap_debug.proofs.Texts.{zero_in_front}
+use Rattle.dap_debug.proofs.laws.worked_debugger.Goals as goal
+
+pub returns-clause-commands : goal.returns-clause-commands
+returns-clause-commands c = refl
+
+pub returns-clause-modes : goal.returns-clause-modes
+returns-clause-modes c = refl
+
+pub returns-clause-texts : goal.returns-clause-texts
+unfolding digits escape_byte
+returns-clause-texts c = refl
+
+pub returns-clause-halts : goal.returns-clause-halts
+unfolding digits escape_byte
+returns-clause-halts c = refl
+
+pub returns-clause-rules : goal.returns-clause-rules
+unfolding digits
+returns-clause-rules c = (
+  refl,
+  (refl, (omega arith, omega arith)),
+  (refl, (omega arith, omega arith)),
+  (refl, (omega arith, omega arith)),
+  zero_in_front (51 ∷ []),
+)
+
+pub returns-clause-numbered : goal.returns-clause-numbered
+returns-clause-numbered c = (refl, refl, refl)
+
+pub returns-clause-found : goal.returns-clause-found
+returns-clause-found c = (refl, refl, refl)
