@@ -199,6 +199,8 @@ def with_pending(world: World, told: list[dict]) -> World:
 # ---- requests
 
 NO_VARIABLE = "no variable has this name"
+REASONS = {FileNotFoundError: ": there is no such file", IsADirectoryError: ": it is a folder",
+           PermissionError: ": it is not allowed"}
 
 
 class Request(NamedTuple):
@@ -274,8 +276,8 @@ def launch(world: World, given: dict, folder: str) -> tuple[dict | None, list[di
     try:
         with open(os.path.join(folder, path), encoding="utf-8", newline="") as file:
             program = Program(read(file.read()))
-    except OSError:
-        raise Refused("the program can't be read") from None
+    except OSError as error:
+        raise Refused(f"the program can't be read{REASONS.get(type(error), '')}") from None
     except UnicodeDecodeError:
         raise Refused("the program isn't UTF-8") from None
     except Mistake as mistake:

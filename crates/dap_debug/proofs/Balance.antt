@@ -14,6 +14,7 @@ use Rattle.dap_debug.specs.declared.command.Resume.{Resume}
 use Rattle.dap_debug.specs.declared.command.Question.{Question}
 use Rattle.dap_debug.specs.declared.command.Question.TheVariants as question
 use Rattle.dap_debug.specs.declared.language.Location.{Location}
+use Rattle.dap_debug.specs.declared.launching.Unread.{Unread}
 use Rattle.dap_debug.specs.declared.state.Phase.{Phase}
 use Rattle.dap_debug.specs.declared.state.Phase.TheVariants as phase
 use Rattle.dap_debug.specs.Breakpoints.{SetsIn, Own, Other, SetsOnly, SetsFrom}
@@ -169,13 +170,13 @@ loaded_as arguments (Ok program) p stood stands reply at none is =
 loaded_as arguments (Err mistake) p stood stands reply at none is = quiet stood stands reply _ p is.0 refl is.1 at
 
 loaded_given : {S : Type 0} (begins : List ℕ → Result S (List ℕ) → Type 0) (arguments : Option Data)
-    (given : Option (List ℕ)) (p : Phase S) (stood stands : Standing S) (reply : PlainReply) → stood.phase ≡ p
+    (given : Result (List ℕ) Unread) (p : Phase S) (stood stands : Standing S) (reply : PlainReply) → stood.phase ≡ p
     → owed p ≡ 0 → LoadsGiven begins arguments given stood reply stands
     → owed stands.phase + ends_told reply.events ≡ owed p
-loaded_given begins arguments None p stood stands reply at none is = quiet stood stands reply _ p is.0 refl is.1 at
-loaded_given begins arguments (Some bytes) p stood stands reply at none (inl is) =
+loaded_given begins arguments (Err why) p stood stands reply at none is = quiet stood stands reply _ p is.0 refl is.1 at
+loaded_given begins arguments (Ok bytes) p stood stands reply at none (inl is) =
     loaded_as arguments is.1 p stood stands reply at none is.3
-loaded_given begins arguments (Some bytes) p stood stands reply at none (inr is) =
+loaded_given begins arguments (Ok bytes) p stood stands reply at none (inr is) =
     quiet stood stands reply _ p is.1.0 refl is.1.1 at
 
 loaded_at : {S : Type 0} (begins : List ℕ → Result S (List ℕ) → Type 0) (arguments : Option Data)

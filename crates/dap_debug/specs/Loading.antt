@@ -4,6 +4,8 @@ use Rattle.std.specs.Str.{IsUtf8}
 use Rattle.serde_json.specs.Data.{Data}
 use Rattle.dap_bodies.specs.Events.{initialized}
 use Rattle.dap_server.specs.Messages.{PlainReply}
+use Rattle.dap_debug.specs.declared.launching.Unread.{Unread}
+use Rattle.dap_debug.specs.declared.launching.Unread.TheVariants.{Missing, Folder, Forbidden, Failed}
 use Rattle.dap_debug.specs.declared.state.Phase.{Phase}
 use Rattle.dap_debug.specs.declared.state.Phase.TheVariants as phase
 use Rattle.dap_debug.specs.Arguments.{text_at, truth_at}
@@ -25,12 +27,18 @@ abbrev pub LoadsAs : {S : Type 0} → Option Data → Result S (List ℕ) → St
 LoadsAs arguments (Ok program) stood reply stands = IsLoaded arguments program reply stands
 LoadsAs arguments (Err mistake) stood reply stands = IsQuiet (refusal mistake) stood reply stands
 
--- What a file gave, or nothing where it couldn't be opened or read. Where it is UTF-8, the language reads all of it.
-abbrev pub LoadsGiven : {S : Type 0} → (List ℕ → Result S (List ℕ) → Type 0) → Option Data → Option (List ℕ)
+-- why a file gave nothing, as far as it is known
+abbrev pub unread_text : Unread → List ℕ
+unread_text Missing = codes "the program can't be read: there is no such file"
+unread_text Folder = codes "the program can't be read: it is a folder"
+unread_text Forbidden = codes "the program can't be read: it is not allowed"
+unread_text Failed = codes "the program can't be read"
+
+-- What a file gave, or why it couldn't be opened or read. Where it is UTF-8, the language reads all of it.
+abbrev pub LoadsGiven : {S : Type 0} → (List ℕ → Result S (List ℕ) → Type 0) → Option Data → Result (List ℕ) Unread
     → Standing S → PlainReply → Standing S → Type 0
-LoadsGiven begins arguments None stood reply stands =
-    IsQuiet (refusal (codes "the program can't be read")) stood reply stands
-LoadsGiven {S} begins arguments (Some bytes) stood reply stands =
+LoadsGiven begins arguments (Err why) stood reply stands = IsQuiet (refusal (unread_text why)) stood reply stands
+LoadsGiven {S} begins arguments (Ok bytes) stood reply stands =
     (IsUtf8 bytes × (loaded : Result S (List ℕ)) × begins bytes loaded × LoadsAs arguments loaded stood reply stands)
     ⊎ ((¬ IsUtf8 bytes) × IsQuiet (refusal (codes "the program isn't UTF-8")) stood reply stands)
 
@@ -39,7 +47,7 @@ abbrev pub LoadsAt : {S : Type 0} → (List ℕ → Result S (List ℕ) → Type
     → PlainReply → Standing S → Type 0
 LoadsAt begins arguments None stood reply stands = IsQuiet (refusal (codes "`program` is missing")) stood reply stands
 LoadsAt begins arguments (Some path) stood reply stands =
-    (given : Option (List ℕ)) × LoadsGiven begins arguments given stood reply stands
+    (given : Result (List ℕ) Unread) × LoadsGiven begins arguments given stood reply stands
 
 -- a program is loaded in the place of another, but for one that runs
 abbrev pub LoadsFrom : {S : Type 0} → (List ℕ → Result S (List ℕ) → Type 0) → Phase S → Option Data → Standing S

@@ -1,12 +1,12 @@
 //! Loading a program.
 
-ghost use Rattle.std.specs.Prelude.{◌≡◌, ◌<◌, Err, IfOk, OnOk, Some, codes, option_map, true};
+ghost use Rattle.std.specs.Prelude.{◌≡◌, ◌<◌, Err, IfOk, Ok, OnOk, Some, codes, option_map, true};
 ghost use Rattle.serde_json.specs.View.{view};
 ghost use Rattle.byte_streams.specs.Streams.{Appends};
 ghost use Rattle.byte_streams.specs.declared.beginning.ReadFault.TheVariants.{CannotRead};
 ghost use Rattle.dap_server.specs.Messages.{plain_reply};
 ghost use Rattle.dap_debug.specs.Arguments.{text_at};
-ghost use Rattle.dap_debug.specs.Loading.{Loads, LoadsGiven};
+ghost use Rattle.dap_debug.specs.Loading.{Loads, LoadsGiven, unread_text};
 ghost use Rattle.dap_debug.specs.Standings.{standing};
 
 use crate::arguments::{text, truth};
@@ -18,15 +18,32 @@ use dap_server::Reply;
 use serde_json::Value;
 use std::alloc::{AllocError, Global};
 use std::fs;
-use std::io::{self, ErrorKind};
+use std::io::ErrorKind;
 use std::rt::{Clock, Files};
 use std::sync::Wait;
 
 /// How many bytes are read at once.
 const ROOM: usize = 4096;
 
+/// Why nothing is read of a file.
+#[derive(Clone, Copy)]
+pub enum Unread {
+    /// There is none at the path.
+    Missing,
+    /// It is a folder.
+    Folder,
+    /// It must not be read.
+    Forbidden,
+    /// For a reason that isn't known.
+    Failed,
+}
+
 impl<L: Language> State<L> {
     /// Loads the program of the file that is asked for, in the place of the one that there is.
+    ///
+    /// # Errors
+    ///
+    /// An allocation failed. The program is that from before, or the one that was asked for.
     pub fn launch<R: Wait + Files + Clock>(
         &mut self,
         rt: &R,
@@ -43,11 +60,11 @@ impl<L: Language> State<L> {
             return Reply::refused(alloc, "`program` is missing");
         };
         match read_file(rt, alloc, path)? {
-            Some(bytes) => {
+            Ok(bytes) => {
                 let reply = self.load(alloc, arguments, path, bytes)?;
                 Ok(reply)
             }
-            None => Reply::refused(alloc, "the program can't be read"),
+            Err(why) => Reply::refused(alloc, unread_text(why)),
         }
     }
 
@@ -61,7 +78,7 @@ impl<L: Language> State<L> {
     ) -> Result<Reply, AllocError>
         requires { text_at (codes "program") (option_map (λ v. view v.now) arguments) ≡ Some path.now }
         ensures { IfOk result (λ reply. LoadsGiven L.begins (option_map (λ v. view v.now) arguments.entry)
-            (Some bytes.items) (standing self.old) (plain_reply reply) (standing self.new)) }
+            (Ok bytes.items) (standing self.old) (plain_reply reply) (standing self.new)) }
     {
         let Ok(source) = String::from_utf8(bytes) else {
             return Reply::refused(alloc, "the program isn't UTF-8");
@@ -81,33 +98,60 @@ impl<L: Language> State<L> {
     }
 }
 
-/// Reads a regular file; `None` where it can't be opened or read.
+/// Returns what is told of a file that isn't read.
+fn unread_text(why: Unread) -> &'static str
+    ensures { result.now ≡ unread_text why }
+{
+    match why {
+        Unread::Missing => "the program can't be read: there is no such file",
+        Unread::Folder => "the program can't be read: it is a folder",
+        Unread::Forbidden => "the program can't be read: it is not allowed",
+        Unread::Failed => "the program can't be read",
+    }
+}
+
+/// Reads a regular file, or says why it can't be opened or read.
 fn read_file<R: Wait + Files + Clock>(
     rt: &R,
     alloc: Global,
     path: &str,
-) -> Result<Option<Vec<u8>>, AllocError> {
-    let Ok(file) = open_regular(rt, path) else {
-        return Ok(None);
+) -> Result<Result<Vec<u8>, Unread>, AllocError> {
+    let file = match open_regular(rt, path) {
+        Ok(file) => file,
+        Err(why) => return Ok(Err(why)),
     };
     match read_all(rt, alloc, &mut Reading::new(rt, file)) {
-        Ok(bytes) => Ok(Some(bytes)),
-        Err(ReadFault::CannotRead) => Ok(None),
+        Ok(bytes) => Ok(Ok(bytes)),
+        Err(ReadFault::CannotRead) => Ok(Err(Unread::Failed)),
         Err(ReadFault::NoMemory) => Err(AllocError),
     }
 }
 
-/// Opens a regular file. It looks at the kind of the file first, since opening a named pipe waits for whoever writes to it:
-/// so does one that takes the file's place in between.
+/// Opens a regular file. It looks at the kind of the file first, since opening a named pipe waits for whoever writes to it.
+/// A pipe that takes the file's place in between is waited for all the same.
 ///
 /// # Errors
 ///
-/// `InvalidInput` where the path leads to what isn't a regular file, and else as `fs::open`.
-fn open_regular<R: Files>(rt: &R, path: &str) -> io::Result<R::File> {
-    if fs::metadata(rt, path)?.is_file() {
-        fs::open(rt, path)
-    } else {
-        Err(ErrorKind::InvalidInput.into())
+/// Why it can't be opened: `Failed` also where the path leads to neither a regular file nor a folder.
+fn open_regular<R: Files>(rt: &R, path: &str) -> Result<R::File, Unread> {
+    match fs::metadata(rt, path) {
+        Ok(found) if found.is_dir() => return Err(Unread::Folder),
+        Ok(found) if !found.is_file() => return Err(Unread::Failed),
+        Ok(_) => {}
+        Err(error) => return Err(reason_of(error.kind())),
+    }
+    match fs::open(rt, path) {
+        Ok(file) => Ok(file),
+        Err(error) => Err(reason_of(error.kind())),
+    }
+}
+
+/// Returns why a file can't be opened.
+fn reason_of(kind: ErrorKind) -> Unread {
+    match kind {
+        ErrorKind::NotFound => Unread::Missing,
+        ErrorKind::PermissionDenied => Unread::Forbidden,
+        _ => Unread::Failed,
     }
 }
 
