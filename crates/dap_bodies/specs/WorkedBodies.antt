@@ -1,5 +1,5 @@
 -- Worked examples: the text of each event, and of each body, computed.
-use Rattle.std.specs.Prelude.{◌≡◌, List, [], ◌∷◌, ◌++◌, codes, map, None, Some}
+use Rattle.std.specs.Prelude.{◌≡◌, [], ◌∷◌, ◌++◌, codes, map, None, Some}
 use Rattle.serde_json.specs.Written.{compact_text}
 use Rattle.dap_server.specs.Messages.{events_from}
 use Rattle.dap_bodies.specs.Bodies.{SetAt, Refused, breakpoints, evaluated, exception_info, scopes, stack_trace, threads, variables}

@@ -214,16 +214,12 @@ set_only first_place p a arguments stood stands reply at is =
     let owes = ap (λ (s : Standing _). owed s.phase) is.1 ∙ ap owed at in
     omega (arith, told, owes)
 
-sets : {S : Type 0} (first_place : S → ℕ → Option Location → Type 0) (p : Phase S) (arguments : Option Data)
-    (stood stands : Standing S) (reply : PlainReply) → stood.phase ≡ p
-    → SetsFrom first_place p arguments stood reply stands → owed stands.phase + ends_told reply.events ≡ owed p
-sets first_place (phase.Running a how) arguments stood stands reply at is =
-    set_only first_place _ a arguments stood stands reply at is
-sets first_place (phase.Configuring a stop_on_entry) arguments stood stands reply at is =
-    set_only first_place _ a arguments stood stands reply at is
-sets first_place (phase.Stopped a) arguments stood stands reply at is =
-    set_only first_place _ a arguments stood stands reply at is
-sets first_place phase.NoProgram arguments stood stands reply at is = refused stood stands reply _ is at
+sets : {S : Type 0} (first_place : S → ℕ → Option Location → Type 0) (program : Option S) (p : Phase S)
+    (arguments : Option Data) (stood stands : Standing S) (reply : PlainReply) → stood.phase ≡ p
+    → SetsFrom first_place program arguments stood reply stands → owed stands.phase + ends_told reply.events ≡ owed p
+sets first_place None p arguments stood stands reply at is = refused stood stands reply p is at
+sets first_place (Some a) p arguments stood stands reply at is =
+    set_only first_place p a arguments stood stands reply at is
 
 -- ---- questions
 
@@ -298,7 +294,7 @@ replies_balanced known command.Initialize arguments stood stands reply is =
 replies_balanced known command.Launch arguments stood stands reply is =
     let so = loaded known.begins stood.phase arguments stood stands reply refl is in omega (arith, so)
 replies_balanced known command.SetBreakpoints arguments stood stands reply is =
-    let so = sets known.first_place stood.phase arguments stood stands reply refl is in omega (arith, so)
+    let so = sets known.first_place _ stood.phase arguments stood stands reply refl is in omega (arith, so)
 replies_balanced known command.ConfigurationDone arguments stood stands reply is =
     started known.takes known.sees stood.phase stood stands reply refl is
 replies_balanced known command.Threads arguments stood stands reply is =

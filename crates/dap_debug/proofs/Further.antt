@@ -15,8 +15,7 @@ use Rattle.dap_server.specs.Messages.{PlainReply}
 use Rattle.debuggee.specs.Plain.{PlainBreakpoint}
 use Rattle.dap_debug.specs.declared.language.Location.{Location}
 use Rattle.dap_debug.specs.declared.language.Scope.{Scope}
-use Rattle.dap_debug.specs.declared.state.Phase.{Phase}
-use Rattle.dap_debug.specs.Standings.{Standing}
+use Rattle.dap_debug.specs.Standings.{Standing, program_in}
 use Rattle.dap_debug.specs.Arguments.{list_at}
 use Rattle.dap_debug.specs.Shown.{PlainFrame, PlainScope, plain_scope}
 use Rattle.dap_debug.specs.Inspecting.{ShowsFrame, ShowFrames, shown_scope, shown_scopes}
@@ -135,11 +134,11 @@ pub set_within : {S : Type 0} (first_place : S → ℕ → Option Location → T
 set_within first_place arguments program path stood stands reply at only is =
     (subst (λ p. SetsIn first_place arguments program p stood.breakpoints reply stands.breakpoints) at is, only)
 
-pub sets_from : {S : Type 0} (first_place : S → ℕ → Option Location → Type 0) (arguments : Option Data) (p : Phase S)
-    (stood stands : Standing S) (reply : PlainReply) → stood.phase ≡ p
-    → SetsFrom first_place p arguments stood reply stands → Sets first_place arguments stood reply stands
-sets_from first_place arguments p stood stands reply at is =
-    subst (λ q. SetsFrom first_place q arguments stood reply stands) (sym at) is
+pub sets_from : {S : Type 0} (first_place : S → ℕ → Option Location → Type 0) (arguments : Option Data) (program : S)
+    (stood stands : Standing S) (reply : PlainReply) → Some program ≡ program_in stood.phase
+    → SetsOnly first_place arguments program stood reply stands → Sets first_place arguments stood reply stands
+sets_from first_place arguments program stood stands reply at is =
+    subst (λ found. SetsFrom first_place found arguments stood reply stands) at is
 
 set_more : {S : Type 0} (first_place : S → ℕ → Option Location → Type 0) (a : S) (asked : List Data)
     (answers : List Answer) (set : List PlainBreakpoint) (more : Option PlainBreakpoint) (one : Data) (answer : Answer)

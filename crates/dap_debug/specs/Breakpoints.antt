@@ -8,11 +8,9 @@ use Rattle.debuggee.specs.Plain.{PlainPart, Text, Expression, PlainBreakpoint}
 use Rattle.debuggee.specs.declared.breakpoint.Rule.{Rule}
 use Rattle.debuggee.specs.declared.breakpoint.Rule.TheVariants.{From, Exactly, Every}
 use Rattle.dap_debug.specs.declared.language.Location.{Location}
-use Rattle.dap_debug.specs.declared.state.Phase.{Phase}
-use Rattle.dap_debug.specs.declared.state.Phase.TheVariants as phase
 use Rattle.dap_debug.specs.Arguments.{list_at, member_at, text_at, whole_at}
 use Rattle.dap_debug.specs.Running.{success, IsRefused}
-use Rattle.dap_debug.specs.Standings.{Standing}
+use Rattle.dap_debug.specs.Standings.{Standing, program_in}
 
 -- ---- texts
 
@@ -142,16 +140,13 @@ SetsOnly first_place arguments program stood reply stands =
     × (stands ≡ record stood { breakpoints = stands.breakpoints })
 
 -- breakpoints are set in a program that there is, also while it runs
-abbrev pub SetsFrom : {S : Type 0} → (S → ℕ → Option Location → Type 0) → Phase S → Option Data → Standing S
+abbrev pub SetsFrom : {S : Type 0} → (S → ℕ → Option Location → Type 0) → Option S → Option Data → Standing S
     → PlainReply → Standing S → Type 0
-SetsFrom first_place phase.NoProgram arguments stood reply stands = IsRefused stood reply stands
-SetsFrom first_place (phase.Configuring program stop_on_entry) arguments stood reply stands =
-    SetsOnly first_place arguments program stood reply stands
-SetsFrom first_place (phase.Running program how) arguments stood reply stands =
-    SetsOnly first_place arguments program stood reply stands
-SetsFrom first_place (phase.Stopped program) arguments stood reply stands =
+SetsFrom first_place None arguments stood reply stands = IsRefused stood reply stands
+SetsFrom first_place (Some program) arguments stood reply stands =
     SetsOnly first_place arguments program stood reply stands
 
 abbrev pub Sets : {S : Type 0} → (S → ℕ → Option Location → Type 0) → Option Data → Standing S → PlainReply
     → Standing S → Type 0
-Sets first_place arguments stood reply stands = SetsFrom first_place stood.phase arguments stood reply stands
+Sets first_place arguments stood reply stands =
+    SetsFrom first_place (program_in stood.phase) arguments stood reply stands

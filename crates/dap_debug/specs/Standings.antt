@@ -1,5 +1,5 @@
 -- Defines how a session stands.
-use Rattle.std.specs.Prelude.{ℕ, Bool, true, false, List, [], map, Option, None, option_map, string_bytes}
+use Rattle.std.specs.Prelude.{ℕ, Bool, true, false, List, [], map, Option, None, Some, option_map, string_bytes}
 use Rattle.debuggee.specs.Plain.{PlainBreakpoint, plain_breakpoint}
 use Rattle.dap_debug.specs.declared.state.Phase.{Phase}
 use Rattle.dap_debug.specs.declared.state.Phase.TheVariants as phase
@@ -24,6 +24,13 @@ standing state = record {
 -- a session that has just begun
 abbrev pub unused : {S : Type 0} → Standing S
 unused = record { phase = phase.NoProgram; path = []; fault = None; breakpoints = [] }
+
+-- the program, if there is one
+abbrev pub program_in : {S : Type 0} → Phase S → Option S
+program_in phase.NoProgram = None
+program_in (phase.Configuring program stop_on_entry) = Some program
+program_in (phase.Running program how) = Some program
+program_in (phase.Stopped program) = Some program
 
 -- the program runs
 abbrev pub is_running : {S : Type 0} → Phase S → Bool

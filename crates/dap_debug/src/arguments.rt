@@ -6,28 +6,28 @@ ghost use Rattle.dap_debug.specs.Arguments.{list_at, member_at, text_at, truth_a
 
 use serde_json::Value;
 
-/// Returns a member.
+/// Returns the member at a key of arguments, or of a value among them; `None` where there is none.
 pub fn member<'v>(arguments: Option<&'v Value>, key: &str) -> Option<&'v Value>
     ensures { option_map (λ v. view v.now) result ≡ member_at key.now (option_map (λ v. view v.now) arguments.entry) }
 {
     arguments?.get(key)
 }
 
-/// Returns a text.
+/// Returns the text at a key; `None` where there is none.
 pub fn text<'v>(arguments: Option<&'v Value>, key: &str) -> Option<&'v str>
     ensures { option_map (λ s. s.now) result ≡ text_at key.now (option_map (λ v. view v.now) arguments.entry) }
 {
     arguments?.get(key)?.as_str()
 }
 
-/// Returns a whole number.
+/// Returns the whole number at a key; `None` where there is none.
 pub fn whole(arguments: Option<&Value>, key: &str) -> Option<u64>
     ensures { result ≡ whole_at key.now (option_map (λ v. view v.now) arguments.entry) }
 {
     arguments?.get(key)?.as_u64()
 }
 
-/// Returns a truth value; `false` where there is none.
+/// Returns the truth value at a key; `false` where there is none.
 pub fn truth(arguments: Option<&Value>, key: &str) -> bool
     ensures { result ≡ truth_at key.now (option_map (λ v. view v.now) arguments.entry) }
 {
@@ -37,7 +37,7 @@ pub fn truth(arguments: Option<&Value>, key: &str) -> bool
     }
 }
 
-/// Returns a list; an empty one where there is none.
+/// Returns the list at a key; an empty one where there is none.
 pub fn list<'v>(arguments: Option<&'v Value>, key: &str) -> &'v [Value]
     ensures { items_view result.now ≡ list_at key.now (option_map (λ v. view v.now) arguments.entry) }
 {

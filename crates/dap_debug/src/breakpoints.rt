@@ -13,7 +13,7 @@ ghost use Rattle.dap_debug.specs.Breakpoints.{AreParts, AreSet, AreUnset, HasExp
 
 use crate::arguments::{list, member, text, whole};
 use crate::language::{Language, Location};
-use crate::state::{Phase, State};
+use crate::state::State;
 use dap_bodies::Breakpoint as Answer;
 use dap_server::Reply;
 use debuggee::{Breakpoint, Part, Rule};
@@ -36,6 +36,10 @@ pub struct AllAnswered {
 
 impl<L: Language> State<L> {
     /// Sets the breakpoints of the program, also while it runs: from its next step on they count.
+    ///
+    /// # Errors
+    ///
+    /// An allocation failed. The breakpoints are those from before, or those that were asked for.
     pub fn set_breakpoints(
         &mut self,
         alloc: Global,
@@ -44,18 +48,12 @@ impl<L: Language> State<L> {
         ensures { IfOk result (λ reply. Sets L.first_place (option_map (λ v. view v.now) arguments.entry)
             (standing self.old) (plain_reply reply) (standing self.new)) }
     {
-        let path = self.path.as_str();
-        match &self.phase {
-            Phase::NoProgram => Reply::refused(alloc, "no program is loaded"),
-            Phase::Configuring(program, _) => {
+        match self.phase.program() {
+            Some(program) => {
+                let path = self.path.as_str();
                 set_in(alloc, program, path, arguments, &mut self.breakpoints)
             }
-            Phase::Running(program, _) => {
-                set_in(alloc, program, path, arguments, &mut self.breakpoints)
-            }
-            Phase::Stopped(program) => {
-                set_in(alloc, program, path, arguments, &mut self.breakpoints)
-            }
+            None => Reply::refused(alloc, "no program is loaded"),
         }
     }
 }

@@ -22,11 +22,15 @@ use std::alloc::{AllocError, Global};
 /// How many scopes of a frame are shown at most.
 const SCOPE_LIMIT: usize = 16;
 
-/// Of how many frames scopes are shown at most. So a reference is less than 2^31.
+/// Scopes are shown of this many frames at most, so that a reference is less than 2^31.
 const FRAME_LIMIT: usize = 67_108_864;
 
 impl<L: Language> State<L> {
     /// Answers a question, if the program is stopped.
+    ///
+    /// # Errors
+    ///
+    /// An allocation failed.
     pub fn inspect(
         &self,
         alloc: Global,
@@ -45,6 +49,10 @@ impl<L: Language> State<L> {
     }
 
     /// Tells why the next step can't be taken, if the program has stopped at a fault.
+    ///
+    /// # Errors
+    ///
+    /// An allocation failed.
     pub fn explain(&self, alloc: Global) -> Result<Reply, AllocError>
         ensures { IfOk result (λ reply. Explains (standing self.now) (plain_reply reply)) }
     {

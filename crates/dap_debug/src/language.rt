@@ -6,7 +6,7 @@ use debuggee::Debuggee;
 use std::alloc::{AllocError, Global};
 
 /// A place where a breakpoint can be set.
-#[derive(Clone, Copy, Debug)]
+#[derive(Clone, Copy)]
 pub struct Location {
     /// The place, as [`Debuggee::place`] returns it.
     pub place: usize,
@@ -76,7 +76,7 @@ pub trait Language: Debuggee + Drop {
         requires { index < Self.sees.depth_of self.now }
         ensures { IfOk result (λ frame. frame_of self.now index (plain_frame frame)) };
 
-    /// Returns the scopes of a frame that is alive, each with its variables.
+    /// Returns the scopes of a frame that is alive, each with its variables. The first 16 are shown.
     ///
     /// # Errors
     ///

@@ -27,6 +27,10 @@ struct Ran<L> {
 
 impl<L: Language> State<L> {
     /// Runs the program for a slice, if it runs, and returns what is told of that.
+    ///
+    /// # Errors
+    ///
+    /// An allocation failed. The program is gone.
     pub fn run_on(&mut self, alloc: Global) -> Result<Vec<Event>, AllocError>
         ensures { IfOk result (λ events. WorksOn L.takes L.sees (standing self.old) (map plain_event events.items)
             (standing self.new)) }
@@ -46,6 +50,10 @@ impl<L: Language> State<L> {
     }
 
     /// Starts the program once the client has set its breakpoints.
+    ///
+    /// # Errors
+    ///
+    /// An allocation failed. How far the program has come isn't known.
     pub fn start(&mut self, alloc: Global) -> Result<Reply, AllocError>
         ensures { IfOk result (λ reply. Starts L.takes L.sees (standing self.old) (plain_reply reply)
             (standing self.new)) }
@@ -109,6 +117,10 @@ impl<L: Language> State<L> {
     }
 
     /// Lets the program go on. What is told of its first slice comes with the reply.
+    ///
+    /// # Errors
+    ///
+    /// An allocation failed. The program is gone, or runs from where it stood.
     pub fn resume(&mut self, alloc: Global, resume: Resume) -> Result<Reply, AllocError>
         ensures { IfOk result (λ reply. Resumes L.takes L.sees resume (standing self.old) (plain_reply reply)
             (standing self.new)) }
@@ -129,6 +141,10 @@ impl<L: Language> State<L> {
     }
 
     /// Stops a program that runs.
+    ///
+    /// # Errors
+    ///
+    /// An allocation failed. A program that ran is stopped.
     pub fn pause(&mut self, alloc: Global) -> Result<Reply, AllocError>
         ensures { IfOk result (λ reply. Pauses (standing self.old) (plain_reply reply) (standing self.new)) }
     {
@@ -147,6 +163,10 @@ impl<L: Language> State<L> {
     }
 
     /// Ends the program, if there is one.
+    ///
+    /// # Errors
+    ///
+    /// An allocation failed. The program is gone.
     pub fn terminate(&mut self, alloc: Global) -> Result<Reply, AllocError>
         ensures { IfOk result (λ reply. Terminates (standing self.old) (plain_reply reply) (standing self.new)) }
     {

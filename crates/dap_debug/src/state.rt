@@ -1,7 +1,7 @@
 //! How far a session has come.
 
-ghost use Rattle.std.specs.Prelude.{◌≡◌};
-ghost use Rattle.dap_debug.specs.Standings.{standing, unused};
+ghost use Rattle.std.specs.Prelude.{◌≡◌, option_map};
+ghost use Rattle.dap_debug.specs.Standings.{program_in, standing, unused};
 
 use debuggee::{Breakpoint, Mode};
 use std::alloc::Global;
@@ -15,6 +15,19 @@ pub enum Phase<L> {
     Configuring(L, bool),
     Running(L, Mode),
     Stopped(L),
+}
+
+impl<L> Phase<L> {
+    /// Returns the program, if there is one.
+    pub fn program(&self) -> Option<&L>
+        ensures { option_map (λ program. program.now) result ≡ program_in self.now }
+    {
+        match self {
+            Phase::NoProgram => None,
+            Phase::Configuring(program, _) | Phase::Running(program, _) | Phase::Stopped(program) =>
+                { Some(program) }
+        }
+    }
 }
 
 /// The program, its path, its fault, and the breakpoints that are set in it.

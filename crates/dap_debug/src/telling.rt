@@ -12,6 +12,10 @@ use std::alloc::{AllocError, Global};
 
 /// Returns the events that tell of a part of a run: all that was told, in as few as there can be, and then why it halted,
 /// if it did.
+///
+/// # Errors
+///
+/// An allocation failed.
 pub fn tell(alloc: Global, told: Vec<Output>, halt: &Option<Halt>) -> Result<Vec<Event>, AllocError>
     ensures { IfOk result (λ events. map plain_event events.items ≡
         told_of (map plain_output told.items) (option_map plain_halt halt.now)) }
