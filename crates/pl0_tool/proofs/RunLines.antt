@@ -1,18 +1,15 @@
 -- What a run of a machine writes, up to a step that writes a number, faults or ends the program.
-use Rattle.pl0_tool.proofs.Common.{[], ahead, ap, append-nil, append_assoc, arith, Assign, at_next, Block, Bool, Call, cond, Configuration, depth_of, Done, Err, FailsIn, false, Fault, Frame, frames_of, HasRun, Holds, home, If, IsLast, length, lines_between, List, nat_eq, nat_lt, None, number_lines, Ok, Option, option_and_then, option_map_or, option_to_list, outcome_of, Output, program, Ran, RanOn, refl, Result, signed_decimal, Some, Standing, Statement, Stepped, Stretches, subst, suc, sym, told, told_numbers, true, truth, value, Went, While, Write, WritesAll, zero, ℕ, ℤ, ◌++◌, ◌+◌, ◌<◌, ◌∙◌, ◌∷◌, ◌≡◌, ◌≤◌}
+use Rattle.pl0_tool.proofs.Common.{[], ahead, ap, append-nil, append_assoc, arith, Assign, at_next, Block, Bool, Call, cond, Configuration, depth_of, Done, Err, FailsIn, false, Fault, Frame, frames_of, HasRun, Holds, home, If, IsLast, length, lines_between, List, nat_eq, nat_lt, None, number_lines, Ok, Option, option_and_then, option_map_or, option_to_list, outcome_of, Output, program, Ran, refl, Result, signed_decimal, Some, Standing, Statement, Stepped, subst, sym, told, told_numbers, true, truth, value, Went, While, Write, WritesAll, ℕ, ℤ, ◌++◌, ◌+◌, ◌<◌, ◌∙◌, ◌∷◌, ◌≡◌, ◌≤◌}
 use Rattle.pl0_machine.specs.Machine.{configuration}
 use Rattle.pl0_meaning.proofs.SharedLemmas.{written-next}
 use Rattle.pl0_meaning.specs.declared.RunFault.{RunFault}
 use Rattle.pl0_meaning.specs.declared.RunFault.TheVariants.{Depth, StepLimit}
-use Rattle.pl0_meaning.specs.Runs.{Outcome, Goes, Faults, Stuck, at, led_to, outcome, step_at, step, frame_step, statement_step, on_value, entered, callee, assigned, doing, opened, frame_limit, last_position, written, written_by}
+use Rattle.pl0_meaning.specs.Runs.{Outcome, Goes, Faults, Stuck, at, led_to, step_at, step, frame_step, statement_step, on_value, entered, callee, assigned, doing, opened, frame_limit, last_position, written, written_by}
 use Rattle.pl0_machine.specs.declared.outcome.StepOutcome.{StepOutcome}
 use Rattle.pl0_tool.specs.declared.running.RunEnd.TheVariants.{Ended, Faulted, FaultedUnwritten, WriteFailed}
 use Rattle.pl0_tool.specs.declared.running.RunEnd.{RunEnd}
-use Rattle.pl0_tool.specs.Running.{HasRunSlice, slice_steps}
+use Rattle.pl0_tool.specs.Running.{HasRunSlice, RanToNumber, slice_steps}
 use Rattle.std.proofs.Common.{◌⊎◌, inl, inr}
-use Rattle.std.specs.declared.vec.Vec.{Vec}
-use Rattle.std.specs.declared.alloc.Global.{Global}
-use Rattle.std.specs.Vec.{vec_capacity}
 use Rattle.pl0_meaning.specs.Laws.{WrittenJoins}
 use Rattle.pl0_tool.proofs.PendingBytes.{writes_both, writes_and_fails}
 
@@ -169,31 +166,13 @@ ran_after old new told n silent stepped =
       led = more.1 ∙ ahead-ahead old n more.0;
     }
 
--- a run for whose numbers there is no room
-abbrev pub RanSilently : ℕ → Standing → Option StepOutcome → Standing → List ℕ → List ℕ → Type 0
-RanSilently limit old told new counts after = RanOn limit 0 None old told new counts after 0 [] []
-
-pub fits_in : (v : Vec ℤ Global) (room : ℕ) → vec_capacity v ≡ room → length v.items ≤ room
-fits_in v room is = omega (arith, v.ok.0, v.ok.1, is)
-
-pub silently : {counts after : List ℕ} (limit : ℕ) (old new : Standing) (told : Option StepOutcome) (room : ℕ)
-    (before numbers : List ℤ) → room ≡ 0 → before ≡ [] → length numbers ≤ room
-    → RanOn limit 0 None old told new counts after room before numbers → RanSilently limit old told new counts after
-silently {counts} {after} limit old new told room before numbers none empty few ran =
-    subst (λ l. RanOn limit 0 None old told new counts after 0 [] l) (no_items numbers (omega (arith, few, none)))
-    (subst (λ l. RanOn limit 0 None old told new counts after 0 l numbers) empty
-    (subst (λ n. RanOn limit 0 None old told new counts after n before numbers) none ran))
-  where
-    no_items : (l : List ℤ) → length l ≤ 0 → l ≡ []
-    no_items [] le = refl
-    no_items (x ∷ l) le = absurd (omega (arith, le))
-
-pub ran_on : {counts after : List ℕ} → WrittenJoins → (limit : ℕ) (old new : Standing) (told : StepOutcome)
-    → RanSilently limit old (Some told) new counts after
-    → Ran old new told
+-- a run that ended before its limit
+pub ran_on : WrittenJoins → (limit : ℕ) (old new : Standing) (told : StepOutcome)
+    → RanToNumber limit old (Some told) new → Ran old new told
 ran_on joins limit old new told r =
-    ran_after old new told r.1.steps (silent joins old r.0 r.1.steps r.1.led (sym r.5))
-    (subst (λ (m : Standing). Stepped (outcome_of m) m told new) r.1.led r.3)
+    let passed = r.ran.1 in
+    ran_after old new told passed.steps (silent joins old r.ran.0 passed.steps passed.led (sym r.ran.5))
+    (subst (λ (m : Standing). Stepped (outcome_of m) m told new) passed.led r.ran.3)
 
 -- ---- the last step
 
@@ -326,53 +305,48 @@ pub running_on : (now new : Standing) (number : Option ℤ) → Ran now new (Wen
 running_on now new number r = runs_on (ahead now r.before) new number r.last
 
 -- a run that goes on or ends before a limit is no further
-pub before_limit : {counts after : List ℕ} (limit : ℕ) (old new : Standing) (told : StepOutcome)
-    → RanSilently limit old (Some told) new counts after
+pub before_limit : (limit : ℕ) (old new : Standing) (told : StepOutcome) → RanToNumber limit old (Some told) new
     → new.position ≤ limit
-before_limit {counts} {after} limit old new told r = by_outcome (outcome_of r.0) r.3
+before_limit limit old new told r = by_outcome (outcome_of r.ran.0) r.ran.3
   where
-    by_outcome : (o : Outcome) → Stepped o r.0 told new → new.position ≤ limit
+    by_outcome : (o : Outcome) → Stepped o r.ran.0 told new → new.position ≤ limit
     by_outcome (Goes number c) s =
-        let led = ap (λ (m : Standing). m.position) s.1 in let lt = r.2 in omega (arith, led, lt)
+        let led = ap (λ (m : Standing). m.position) s.1 in let lt = r.ran.2 in omega (arith, led, lt)
     by_outcome (Faults fault) s =
-        let led = ap (λ (m : Standing). m.position) s.1 in let lt = r.2 in omega (arith, led, lt)
+        let led = ap (λ (m : Standing). m.position) s.1 in let lt = r.ran.2 in omega (arith, led, lt)
     by_outcome Stuck s = absurd s
 
 -- ---- slices
 
 -- a run to its limit leaves all as it was
-abbrev StretchesOn : Standing → Standing → ℕ → List ℕ → List ℕ → Standing → Type 0
-StretchesOn start new limit counts after m =
-    RanSilently limit m None new counts after
-    → Came start new × (lines_between start new ≡ lines_between start m)
+abbrev StretchesOn : Standing → Standing → ℕ → Standing → Type 0
+StretchesOn start new limit m =
+    RanToNumber limit m None new → Came start new × (lines_between start new ≡ lines_between start m)
 
-pub stretched_on : {counts after : List ℕ} → WrittenJoins → (limit : ℕ) (start now new : Standing) → Came start now
-    → RanSilently limit now None new counts after
-    → Came start new × (lines_between start new ≡ lines_between start now)
-stretched_on {counts} {after} joins limit start now new came r =
-    subst (StretchesOn start new limit counts after) (sym came.1) at r
+stretched_on : WrittenJoins → (limit : ℕ) (start now new : Standing) → Came start now
+    → RanToNumber limit now None new → Came start new × (lines_between start new ≡ lines_between start now)
+stretched_on joins limit start now new came r = subst (StretchesOn start new limit) (sym came.1) at r
   where
-    at : StretchesOn start new limit counts after (ahead start came.0)
+    at : StretchesOn start new limit (ahead start came.0)
     at r =
-        let s = r.0 in
+        let s = r.ran.0 in
         let here = ahead start came.0 in (
           (came.0 + s.steps, s.led ∙ ahead-ahead start came.0 s.steps),
           ap (λ (m : Standing). lines_between start m) s.led
-              ∙ ap number_lines (silent joins here new s.steps s.led (sym r.2) start.position (omega arith)),
+              ∙ ap number_lines (silent joins here new s.steps s.led (sym r.ran.2) start.position (omega arith)),
         )
 
 -- what is pending stays so over it
-pub held_still : {counts after : List ℕ} → WrittenJoins → (limit : ℕ) (start now new : Standing)
-    (before out : Output) (pending : List ℕ) → Came start now → RanSilently limit now None new counts after
-    → Holds before out pending (lines_between start now)
+pub held_still : WrittenJoins → (limit : ℕ) (start now new : Standing) (before out : Output) (pending : List ℕ)
+    → Came start now → RanToNumber limit now None new → Holds before out pending (lines_between start now)
     → Holds before out pending (lines_between start new)
 held_still joins limit start now new before out pending came r held =
     subst (Holds before out pending) (sym (stretched_on joins limit start now new came r).1) held
 
 -- a slice of a run is over, and all was written, or the output failed in it
-pub slice_over : {counts left : List ℕ} → WrittenJoins → (limit : ℕ) (start now new : Standing)
-    (result : Option RunEnd) (before after : Output) → Came start now
-    → RanSilently limit now None new counts left → new.position ≡ start.position + slice_steps
+pub slice_over : WrittenJoins → (limit : ℕ) (start now new : Standing) (result : Option RunEnd)
+    (before after : Output) → Came start now
+    → RanToNumber limit now None new → new.position ≡ start.position + slice_steps
     → ((result ≡ None) × WritesAll (lines_between start new) before after)
     ⊎ ((result ≡ Some WriteFailed) × FailsIn (lines_between start new) before after)
     → HasRunSlice result start new before after
@@ -381,7 +355,7 @@ slice_over joins limit start now new result before after came r whole (inl (is, 
     let there = ap (λ (m : Standing). m.position) came_here.1 in
     let steps : came_here.0 ≡ slice_steps = omega (arith, there, whole) in
     subst (λ r. HasRunSlice r start new before after) (sym is)
-    (record { led = came_here.1 ∙ ap (λ k. ahead start k) steps; running = r.0.running; wrote = wrote })
+    (record { led = came_here.1 ∙ ap (λ k. ahead start k) steps; running = r.ran.0.running; wrote = wrote })
 slice_over joins limit start now new result before after came r whole (inr (is, failed)) =
     let came_here = (stretched_on joins limit start now new came r).0 in
     subst (λ r. HasRunSlice r start new before after) (sym is) (came_here.0, came_here.1, failed)

@@ -1,5 +1,5 @@
 -- What a trace tells: rows that are added one by one, and positions to which a run doesn't come.
-use Rattle.pl0_tool.proofs.Common.{[], ahead, ap, arith, at_next, at_position, Block, Bool, cond, Configuration, depth_of, Done, false, Fault, Frame, frame_of, frames_of, IsFrameRow, IsRow, IsTold, length, length_push, List, nat_eq, None, number_of, numbers_in, Option, option_map_or, outcome_of, program, RanOn, refl, same_Some, slice_get, Some, Standing, Stepped, Stretches, subst, suc, sym, take, take_all, true, variables_of, Went, zero, ℕ, ℤ, ◌++◌, ◌+◌, ◌-◌, ◌<◌, ◌∙◌, ◌∷◌, ◌≡◌, ◌≤◌}
+use Rattle.pl0_tool.proofs.Common.{[], ahead, ap, arith, at_next, at_position, Block, Bool, cond, Configuration, depth_of, Done, false, Fault, Frame, frame_of, frames_of, IsFrameRow, IsRow, IsTold, length, length_push, List, nat_eq, None, number_of, numbers_in, Option, option_map_or, outcome_of, program, refl, same_Some, slice_get, Some, Standing, Stepped, Stretches, subst, suc, sym, take, take_all, true, variables_of, Went, zero, ℕ, ℤ, ◌++◌, ◌+◌, ◌-◌, ◌<◌, ◌∙◌, ◌∷◌, ◌≡◌, ◌≤◌}
 use Rattle.pl0_meaning.specs.declared.RunFault.{RunFault}
 use Rattle.pl0_meaning.specs.declared.RunFault.TheVariants.{StepLimit}
 use Rattle.pl0_meaning.specs.Runs.{Outcome, Goes, Faults, Stuck, at, led_to, outcome, step_at, step, last_position}
@@ -11,6 +11,7 @@ use Rattle.pl0_tool.specs.declared.tracing.View.{View}
 use Rattle.pl0_tool.specs.declared.tracing.TraceEnd.TheVariants.{GoesOn, Ended, EndedBefore, Faulted, WriteFailed}
 use Rattle.pl0_tool.proofs.RunLines.{Came, ahead-ahead, ended_behind, fault_is, runs_on}
 use Rattle.pl0_tool.proofs.PendingBytes.{holds_all, holds_more}
+use Rattle.pl0_tool.specs.Running.{RanToNumber}
 use Rattle.pl0_tool.specs.Table.{head, row_text, table}
 use Rattle.pl0_tool.specs.Traced.{HasPart, HasTable, HasTraced, PutsRow, StopsBefore}
 use Rattle.pl0_unit.specs.declared.unit.Unit.{Unit as Compiled}
@@ -141,33 +142,29 @@ came_same : (start now : Standing) (q : ℕ) → Came start now → at_position 
 came_same start now q came = ap (λ (m : Standing). at_position m q) came.1
 
 -- a machine that came to a position
-pub came_to : {counts after : List ℕ} {room : ℕ} {before numbers : List ℤ} (start now new : Standing)
-    (position : ℕ) → Came start now
-    → RanOn position 0 None now None new counts after room before numbers
+pub came_to : (start now new : Standing) (position : ℕ) → Came start now → RanToNumber position now None new
     → (0 < depth_of new) × (new ≡ at_position start position)
-came_to {counts} {after} start now new position came ran =
+came_to start now new position came r =
     let more : at_position new position ≡ at_position now position =
-    ap (λ (m : Standing). at_position m position) ran.0.led in (
-      ran.0.running,
-      ap (λ p. at_position new p) ran.1 ∙ more ∙ came_same start now position came,
+    ap (λ (m : Standing). at_position m position) r.ran.0.led in (
+      r.ran.0.running,
+      ap (λ p. at_position new p) r.ran.1 ∙ more ∙ came_same start now position came,
     )
 
 -- after a number the run goes on, and is no further
-pub goes_further : {number : Option ℤ} {counts after : List ℕ} {room : ℕ} {before numbers : List ℤ}
-    (start now new : Standing) (position : ℕ) (outcome : StepOutcome)
-    → outcome ≡ Went number → Came start now
-    → RanOn position 0 None now (Some outcome) new counts after room before numbers
+pub goes_further : {number : Option ℤ} (start now new : Standing) (position : ℕ) (outcome : StepOutcome)
+    → outcome ≡ Went number → Came start now → RanToNumber position now (Some outcome) new
     → (0 < depth_of new) × (new.position ≤ position) × Came start new
-goes_further {number} {counts} {after} start now new position outcome is came ran =
-    let stepped = subst (λ o. Stepped (outcome_of ran.0) ran.0 o new) is ran.3 in
-    let led = ap (λ (m : Standing). m.position) (went_on ran.0 new number stepped) in
-    let lt = ran.2 in (
-      runs_on ran.0 new number stepped,
+goes_further {number} start now new position outcome is came r =
+    let stepped = subst (λ o. Stepped (outcome_of r.ran.0) r.ran.0 o new) is r.ran.3 in
+    let led = ap (λ (m : Standing). m.position) (went_on r.ran.0 new number stepped) in
+    let lt = r.ran.2 in (
+      runs_on r.ran.0 new number stepped,
       omega (arith, led, lt),
       (
-        came.0 + (ran.1.steps + 1),
-        went_on ran.0 new number stepped ∙ ap (λ m. ahead m 1) ran.1.led ∙ ahead-ahead now ran.1.steps 1
-            ∙ ap (λ m. ahead m (ran.1.steps + 1)) came.1 ∙ ahead-ahead start came.0 (ran.1.steps + 1),
+        came.0 + (r.ran.1.steps + 1),
+        went_on r.ran.0 new number stepped ∙ ap (λ m. ahead m 1) r.ran.1.led ∙ ahead-ahead now r.ran.1.steps 1
+            ∙ ap (λ m. ahead m (r.ran.1.steps + 1)) came.1 ∙ ahead-ahead start came.0 (r.ran.1.steps + 1),
       ),
     )
 
@@ -189,54 +186,47 @@ came_there {counts} {after} start now last position came passed =
     ap (λ (m : Standing). at_position m position) passed.led ∙ came_same start now position came
 
 -- a run that is done before a position has ended there
-pub ends_before : {counts after : List ℕ} {room : ℕ} {before numbers : List ℤ} (start now new : Standing)
-    (position : ℕ) → Came start now
-    → RanOn position 0 None now (Some Done) new counts after room before numbers
-    → StopsBefore EndedBefore start position new
-ends_before {counts} {after} start now new position came ran =
-    let behind = ended_behind ran.0 new ran.3 in
-    let led : new.position ≡ ran.0.position + 1 = ap (λ (m : Standing). m.position) behind.0 in
-    let lt = ran.2 in (
+pub ends_before : (start now new : Standing) (position : ℕ) → Came start now
+    → RanToNumber position now (Some Done) new → StopsBefore EndedBefore start position new
+ends_before start now new position came r =
+    let behind = ended_behind r.ran.0 new r.ran.3 in
+    let led : new.position ≡ r.ran.0.position + 1 = ap (λ (m : Standing). m.position) behind.0 in
+    let lt = r.ran.2 in (
       behind.0
-          ∙ came_there start now ran.0 (ran.0.position + 1) came ran.1
+          ∙ came_there start now r.ran.0 (r.ran.0.position + 1) came r.ran.1
           ∙ ap (λ p. at_position start p) (sym led),
       omega (arith, led, lt),
       behind.1,
     )
 
 -- a run that faults before a position stands there
-pub faults_before : {counts after : List ℕ} {room : ℕ} {before numbers : List ℤ} (start now new : Standing)
-    (position : ℕ) (fault : RunFault)
-    → Came start now
-    → RanOn position 0 None now (Some (Fault fault)) new counts after room before numbers
-    → StopsBefore (Faulted fault) start position new
-faults_before {counts} {after} start now new position fault came ran =
-    let stays = same_place ran.0 new fault ran.3 in
-    let same : new.position ≡ ran.0.position = ap (λ (m : Standing). m.position) stays in
-    let lt = ran.2 in (
+pub faults_before : (start now new : Standing) (position : ℕ) (fault : RunFault) → Came start now
+    → RanToNumber position now (Some (Fault fault)) new → StopsBefore (Faulted fault) start position new
+faults_before start now new position fault came r =
+    let stays = same_place r.ran.0 new fault r.ran.3 in
+    let same : new.position ≡ r.ran.0.position = ap (λ (m : Standing). m.position) stays in
+    let lt = r.ran.2 in (
       stays
-          ∙ came_there start now ran.0 ran.0.position came ran.1
+          ∙ came_there start now r.ran.0 r.ran.0.position came r.ran.1
           ∙ ap (λ p. at_position start p) (sym same),
       omega (arith, same, lt),
-      fault_is ran.0 new fault ran.3,
+      fault_is r.ran.0 new fault r.ran.3,
     )
 
 -- where a run stops before a position, no frame is alive there
-pub never_there : {counts after : List ℕ} {room : ℕ} {before numbers : List ℤ} (start now new : Standing)
-    (position : ℕ) (outcome : StepOutcome)
-    → Came start now
-    → RanOn position 0 None now (Some outcome) new counts after room before numbers → IsStop outcome
+pub never_there : (start now new : Standing) (position : ℕ) (outcome : StepOutcome) → Came start now
+    → RanToNumber position now (Some outcome) new → IsStop outcome
     → depth_of (at_position start position) ≡ 0
-never_there {counts} {after} start now new position outcome came ran stop =
-    let last = ran.0 in
-    let lt = ran.2 in
+never_there start now new position outcome came r stop =
+    let last = r.ran.0 in
+    let lt = r.ran.2 in
     let left : last.position + 1 + (position - (last.position + 1)) ≡ position = omega (arith, lt) in
     let there : depth_of (at_position last position) ≡ 0 =
     subst (λ q. depth_of (at_position last q) ≡ 0) left
     (none_after last (last.position + 1) (position - (last.position + 1))
-    (none_behind last new outcome ran.3 stop)) in
+    (none_behind last new outcome r.ran.3 stop)) in
     subst (λ (m : Standing). depth_of m ≡ 0)
-    (ap (λ (m : Standing). at_position m position) ran.1.led ∙ came_same start now position came) there
+    (ap (λ (m : Standing). at_position m position) r.ran.1.led ∙ came_same start now position came) there
 
 -- ---- rows that are told one by one
 

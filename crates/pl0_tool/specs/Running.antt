@@ -5,7 +5,7 @@ use Rattle.pl0_meaning.specs.Runs.{Goes, Faults, written}
 use Rattle.pl0_machine.specs.Machine.{Standing, program, depth_of, outcome_of, Stepped}
 use Rattle.pl0_machine.specs.declared.outcome.StepOutcome.{StepOutcome}
 use Rattle.pl0_machine.specs.declared.outcome.StepOutcome.TheVariants.{Went, Done, Fault}
-use Rattle.pl0_machine.specs.Stretches.{ahead}
+use Rattle.pl0_machine.specs.Stretches.{ahead, RanOn}
 use Rattle.byte_streams.specs.Streams.{Output, WritesAll, FailsIn}
 use Rattle.pl0_tool.specs.declared.running.RunEnd.{RunEnd}
 use Rattle.pl0_tool.specs.declared.running.RunEnd.TheVariants.{Ended, Faulted, FaultedUnwritten, WriteFailed}
@@ -34,6 +34,12 @@ pub record Ran (old new : Standing) (told : StepOutcome) : Type 0 where
   pub last : Stepped (outcome_of (ahead old before)) (ahead old before) told new
   pub steps : ℕ
   pub led : new ≡ ahead old steps
+
+-- From old the machine ran to a limit, or before it to a step that wrote a number, ended the program or faulted, which
+-- was told.
+pub record RanToNumber (limit : ℕ) (old : Standing) (told : Option StepOutcome) (new : Standing) : Type 0 where
+  pub counts : List ℕ
+  pub ran : RanOn limit 0 None old told new [] counts 0 [] []
 
 -- the step at which the machine stands is the main block's return, or another that leads to no frames
 abbrev pub IsLast : Standing → Type 0

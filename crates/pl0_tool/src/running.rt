@@ -5,13 +5,14 @@ ghost use Rattle.std.specs.Fmt.{signed_decimal};
 ghost use Rattle.pl0_machine.specs.Machine.{depth_of};
 ghost use Rattle.byte_streams.specs.Streams.{Output, WritesAll, FailsIn};
 ghost use Rattle.pl0_tool.specs.Pending.{Holds};
-ghost use Rattle.pl0_tool.specs.Running.{HasRun, HasRunSlice, slice_steps};
+ghost use Rattle.pl0_tool.specs.Running.{HasRun, HasRunSlice, RanToNumber, slice_steps};
 
 use crate::output::{flush, put};
 use byte_streams::{Sink, WriteFailed};
 use itoa::Buffer;
 use pl0_machine::{Machine, StepOutcome};
 use pl0_meaning::{RunFault, meaning_laws};
+use std::alloc::Global;
 use std::sync::Wait;
 
 /// How a run ended.
@@ -73,9 +74,7 @@ pub fn run_slice<O: Sink>(
     meaning_laws();
     let limit = machine.position().saturating_add(SLICE);
     'numbers: for _ in rt.forever() {
-        // Without room for a number a run ends at each.
-        let mut none = Vec::new(*pending.allocator());
-        match machine.run(limit, 0, None, &mut [], &mut none) {
+        match run_to_number(*pending.allocator(), machine, limit) {
             None => return finish(rt, output, pending, None, RunEnd::WriteFailed),
             Some(StepOutcome::Went(None)) => {}
             Some(StepOutcome::Went(Some(number))) => {
@@ -101,6 +100,18 @@ pub fn run_slice<O: Sink>(
         }
     }
     unreachable!()
+}
+
+/// Runs a machine to the position `limit`, and returns `None`. Or runs it only to a step before that which writes a
+/// number, ends the program or faults, and returns what the step did.
+pub fn run_to_number(alloc: Global, machine: &mut Machine, limit: u64) -> Option<StepOutcome>
+    requires alive { 0 < depth_of machine.old }
+    requires within { machine.old.position ≤ limit }
+    ensures { RanToNumber limit machine.old result machine.new }
+{
+    // A run ends at a number for which there is no room.
+    let mut none = Vec::new(alloc);
+    machine.run(limit, 0, None, &mut [], &mut none)
 }
 
 /// Writes what is pending at the end of a slice or of a run, and returns how it ended, which is `end`, or `failed`

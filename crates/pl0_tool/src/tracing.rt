@@ -9,6 +9,7 @@ ghost use Rattle.pl0_tool.specs.Table.{head};
 use crate::drawing::{Drawing, draw_if};
 use crate::instructions::{begin_if, finish};
 use crate::output::spill;
+use crate::running::run_to_number;
 use crate::table::put_row;
 use byte_streams::{Sink, WriteFailed};
 use pl0_machine::{Machine, StepOutcome};
@@ -152,8 +153,7 @@ fn go_to(rt: &impl Wait, alloc: Global, machine: &mut Machine, position: u64) ->
         × (depth_of (at_position machine.old position) ≡ 0)) }
 {
     'numbers: for _ in rt.forever() {
-        let mut none = Vec::new(alloc);
-        match machine.run(position, 0, None, &mut [], &mut none) {
+        match run_to_number(alloc, machine, position) {
             None => return None,
             Some(StepOutcome::Went(_)) => {}
             Some(StepOutcome::Done) => return Some(TraceEnd::EndedBefore),

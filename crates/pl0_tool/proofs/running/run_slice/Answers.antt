@@ -1,20 +1,18 @@
 use Rattle.pl0_tool.proofs.Common.{[], ap, Done, FailsIn, Fault, FitsSigned, Holds, lines_between, None, Ran, refl, rules, signed_decimal, Some, subst, sym, to_z-of_z, w64, Went, ◌++◌, ◌∙◌, ◌+◌, ◌≡◌, ◌∷◌}
-use Rattle.pl0_tool.specs.Running.{slice_steps}
-use Rattle.pl0_tool.proofs.RunLines.{RanSilently, before_limit, came_on, failed_so, fits_in, held_on, held_still, ran_on, running_on, silently, slice_ended, slice_faulted, slice_over, wrote_on}
+use Rattle.pl0_tool.specs.Running.{RanToNumber, slice_steps}
+use Rattle.pl0_tool.proofs.RunLines.{before_limit, came_on, failed_so, held_on, held_still, ran_on, running_on, slice_ended, slice_faulted, slice_over, wrote_on}
 use Rattle.pl0_tool.proofs.running.run_slice.Goals as goal
 
-pub returns-in-None-run-clause-ran : goal.returns-in-None-run-clause-ran
-returns-in-None-run-clause-ran g c =
+pub returns-in-None-run_to_number-clause-ran : goal.returns-in-None-run_to_number-clause-ran
+returns-in-None-run_to_number-clause-ran g c =
     let start = c.args.machine.now in
     let now = c.numbers.machine in
-    let new = c.run.new.self in
+    let new = c.run_to_number.new.machine in
     let came = c.numbers.invariant.1 in
     let before = (g.O.Sink.output c.args.output.now) in
     let limit = c.saturating_add-limit.result in
-    let s =
-    silently limit now new None _ _ _ c.new-none.ensures.capacity c.new-none.ensures.items
-    (fits_in _ _ c.run.ensures.capacity) c.in-None-run.ensures.ran in
-    let at_limit = s.1 in
+    let s = c.in-None-run_to_number.ensures in
+    let at_limit = s.ran.1 in
     let whole : new.position ≡ start.position + slice_steps = search (rules, at_limit) in
     slice_over c.meaning_laws.ensures.joins limit start now new c.finish.result before _ came s whole
     (c.finish.ensures.written before (lines_between start new)
@@ -24,16 +22,14 @@ pub numbers-preserved-in-Some-Went-None : goal.numbers-preserved-in-Some-Went-No
 numbers-preserved-in-Some-Went-None g c =
     let start = c.args.machine.now in
     let now = c.numbers.machine in
-    let new = c.run.new.self in
+    let new = c.run_to_number.new.machine in
     let came = c.numbers.invariant.1 in
     let limit = c.saturating_add-limit.result in
     let arm = c.in-Some-Went-None in
     let before = (g.O.Sink.output c.args.output.now) in
     let out = (g.O.Sink.output c.numbers.output) in
-    let told : RanSilently limit now (Some (Went None)) new _ _ =
-    subst (λ o. RanSilently limit now (Some o) new _ c.run.new.counts) (arm.field-0-is ∙ ap Went arm.field-0-0-is)
-    (silently limit now new _ _ _ _ c.new-none.ensures.capacity c.new-none.ensures.items
-    (fits_in _ _ c.run.ensures.capacity) arm.ensures.ran) in
+    let told : RanToNumber limit now (Some (Went None)) new =
+    subst (λ o. RanToNumber limit now (Some o) new) (arm.field-0-is ∙ ap Went arm.field-0-0-is) arm.ensures in
     let ran = ran_on c.meaning_laws.ensures.joins limit now new (Went None) told in (
       running_on now new None ran,
       came_on start now new (Went None) came ran,
@@ -45,7 +41,7 @@ pub returns-in-Err-clause-ran : goal.returns-in-Err-clause-ran
 returns-in-Err-clause-ran g c =
     let start = c.args.machine.now in
     let now = c.numbers.machine in
-    let new = c.run.new.self in
+    let new = c.run_to_number.new.machine in
     let came = c.numbers.invariant.1 in
     let limit = c.saturating_add-limit.result in
     let arm = c.in-Some-Went-Some in
@@ -53,10 +49,8 @@ returns-in-Err-clause-ran g c =
     let fits : FitsSigned w64 number = search rules in
     let before = (g.O.Sink.output c.args.output.now) in
     let out = (g.O.Sink.output c.put_line.new.output) in
-    let told : RanSilently limit now (Some (Went (Some number))) new _ _ =
-    subst (λ o. RanSilently limit now (Some o) new _ c.run.new.counts) (arm.field-0-is ∙ ap Went arm.field-0-0-is)
-    (silently limit now new _ _ _ _ c.new-none.ensures.capacity c.new-none.ensures.items
-    (fits_in _ _ c.run.ensures.capacity) arm.ensures.ran) in
+    let told : RanToNumber limit now (Some (Went (Some number))) new =
+    subst (λ o. RanToNumber limit now (Some o) new) (arm.field-0-is ∙ ap Went arm.field-0-0-is) arm.ensures in
     let ran = ran_on c.meaning_laws.ensures.joins limit now new (Went (Some number)) told in
     failed_so start now new (Went (Some number)) before out came ran
     (subst (λ l. FailsIn l before out) (sym (wrote_on start now new (Went (Some number)) came ran))
@@ -67,7 +61,7 @@ pub numbers-preserved : goal.numbers-preserved
 numbers-preserved g c =
     let start = c.args.machine.now in
     let now = c.numbers.machine in
-    let new = c.run.new.self in
+    let new = c.run_to_number.new.machine in
     let came = c.numbers.invariant.1 in
     let limit = c.saturating_add-limit.result in
     let arm = c.in-Some-Went-Some in
@@ -75,10 +69,8 @@ numbers-preserved g c =
     let fits : FitsSigned w64 number = search rules in
     let before = (g.O.Sink.output c.args.output.now) in
     let out = (g.O.Sink.output c.put_line.new.output) in
-    let told : RanSilently limit now (Some (Went (Some number))) new _ _ =
-    subst (λ o. RanSilently limit now (Some o) new _ c.run.new.counts) (arm.field-0-is ∙ ap Went arm.field-0-0-is)
-    (silently limit now new _ _ _ _ c.new-none.ensures.capacity c.new-none.ensures.items
-    (fits_in _ _ c.run.ensures.capacity) arm.ensures.ran) in
+    let told : RanToNumber limit now (Some (Went (Some number))) new =
+    subst (λ o. RanToNumber limit now (Some o) new) (arm.field-0-is ∙ ap Went arm.field-0-0-is) arm.ensures in
     let ran = ran_on c.meaning_laws.ensures.joins limit now new (Went (Some number)) told in (
       running_on now new (Some number) ran,
       came_on start now new (Went (Some number)) came ran,
@@ -94,7 +86,7 @@ pub returns-in-Some-Done-clause-ran : goal.returns-in-Some-Done-clause-ran
 returns-in-Some-Done-clause-ran g c =
     let start = c.args.machine.now in
     let now = c.numbers.machine in
-    let new = c.run.new.self in
+    let new = c.run_to_number.new.machine in
     let came = c.numbers.invariant.1 in
     let limit = c.saturating_add-limit.result in
     let arm = c.in-Some-Done in
@@ -102,9 +94,7 @@ returns-in-Some-Done-clause-ran g c =
     let mid = (g.O.Sink.output c.numbers.output) in
     let ran : Ran now new Done =
     ran_on c.meaning_laws.ensures.joins limit now new Done
-    (subst (λ o. RanSilently limit now (Some o) new _ c.run.new.counts) arm.field-0-is
-    (silently limit now new _ _ _ _ c.new-none.ensures.capacity c.new-none.ensures.items
-    (fits_in _ _ c.run.ensures.capacity) arm.ensures.ran)) in
+    (subst (λ o. RanToNumber limit now (Some o) new) arm.field-0-is arm.ensures) in
     slice_ended start now new c.finish-in-Some-Done.result before _ came ran
     (c.finish-in-Some-Done.ensures.written before (lines_between start new)
     (held_on start now new Done before mid c.numbers.pending.items refl came ran c.numbers.invariant.3))
@@ -113,7 +103,7 @@ pub returns-in-Some-Fault-clause-ran : goal.returns-in-Some-Fault-clause-ran
 returns-in-Some-Fault-clause-ran g c =
     let start = c.args.machine.now in
     let now = c.numbers.machine in
-    let new = c.run.new.self in
+    let new = c.run_to_number.new.machine in
     let came = c.numbers.invariant.1 in
     let limit = c.saturating_add-limit.result in
     let arm = c.in-Some-Fault in
@@ -122,9 +112,7 @@ returns-in-Some-Fault-clause-ran g c =
     let mid = (g.O.Sink.output c.numbers.output) in
     let ran : Ran now new (Fault fault) =
     ran_on c.meaning_laws.ensures.joins limit now new (Fault fault)
-    (subst (λ o. RanSilently limit now (Some o) new _ c.run.new.counts) arm.field-0-is
-    (silently limit now new _ _ _ _ c.new-none.ensures.capacity c.new-none.ensures.items
-    (fits_in _ _ c.run.ensures.capacity) arm.ensures.ran)) in
+    (subst (λ o. RanToNumber limit now (Some o) new) arm.field-0-is arm.ensures) in
     slice_faulted start now new fault c.finish-in-Some-Fault.result before _ came ran
     (c.finish-in-Some-Fault.ensures.written before (lines_between start new)
     (held_on start now new (Fault fault) before mid c.numbers.pending.items refl came ran c.numbers.invariant.3))
