@@ -22,8 +22,10 @@ returns-in-Some-Done g c =
     let ran =
     subst (λ o. RanToNumber c.args.position c.numbers.machine (Some o) c.run_to_number.new.machine)
     c.in-Some-Done.field-0-is c.in-Some-Done.ensures in (
-      ends_before c.args.machine.now c.numbers.machine c.run_to_number.new.machine c.args.position c.numbers.invariant.2 ran,
-      never_there c.args.machine.now c.numbers.machine c.run_to_number.new.machine c.args.position Done c.numbers.invariant.2 ran tt,
+      ends_before c.args.machine.now c.numbers.machine c.run_to_number.new.machine c.args.position
+          c.numbers.invariant.2 ran,
+      never_there c.args.machine.now c.numbers.machine c.run_to_number.new.machine c.args.position Done
+          c.numbers.invariant.2 ran tt,
     )
 
 pub returns-in-Some-Fault : goal.returns-in-Some-Fault
@@ -32,7 +34,8 @@ returns-in-Some-Fault g c =
     let ran =
     subst (λ o. RanToNumber c.args.position c.numbers.machine (Some o) c.run_to_number.new.machine)
     c.in-Some-Fault.field-0-is c.in-Some-Fault.ensures in (
-      faults_before c.args.machine.now c.numbers.machine c.run_to_number.new.machine c.args.position fault c.numbers.invariant.2 ran,
+      faults_before c.args.machine.now c.numbers.machine c.run_to_number.new.machine c.args.position fault
+          c.numbers.invariant.2 ran,
       never_there c.args.machine.now c.numbers.machine c.run_to_number.new.machine c.args.position (Fault fault)
           c.numbers.invariant.2 ran tt,
     )
