@@ -22,7 +22,7 @@ runs_on last new number stepped = by_outcome (outcome_of last) refl stepped
 
 pub steps-preserved : goal.steps-preserved
 steps-preserved c =
-    let ran = c.in-Some-Went.ensures in
+    let ran = c.in-Some-Went.ensures.ran in
     let new = c.run.new.self in
     runs_on ran.0 new c.in-Some-Went.field-0-0
     (subst (λ o. Stepped (outcome_of ran.0) ran.0 o new) c.in-Some-Went.field-0-is ran.3)
