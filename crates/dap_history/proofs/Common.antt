@@ -17,7 +17,7 @@ pub use Rattle.dap_history.specs.LineAnswers.{GiveBreakpoints}
 pub use Rattle.dap_history.specs.Plans.{Plan, no_plan}
 pub use Rattle.dap_history.specs.Reactions.{Close, Inspects, InspectsAs, Interrupt, Reaction, Reacts, Refuse, Resume, Retreat, SetBreakpoints, SetsOf, Start, for_thread, other_source, reply_of}
 pub use Rattle.dap_history.specs.Readings.{answer_mark, closing, closing_command, closing_report, command_mark, end_of, ending_of, event_mark, go, hold_mark, is_back, last_run, launched, message_mark, numbers, numbers_told, order_mark, output, plan, reached, runs, settings, settings_by, situation, step_mark, waiting_pause, waiting_plan, waits_by}
-pub use Rattle.dap_history.specs.Replies.{OfProgram, Reply, answered, causing, exception_of, exited_events, log_events, nothing, ordering, refused, stop_of, stopped_events, text_of_log}
+pub use Rattle.dap_history.specs.Replies.{OfProgram, Reply, answered, exception_of, exited_events, log_events, nothing, only_orders, refused, reply_with, stop_of, stopped_events, text_of_log}
 pub use Rattle.dap_history.specs.Reports.{Accepts, from_next, held_effect, outputs, put_in_at, report_effect}
 pub use Rattle.dap_history.specs.Running.{body_of, due_first, enters, first_logs, mode_of, resumes, retreat_mode}
 pub use Rattle.dap_history.specs.Runs.{Grants, held_mode, mode_asked, mode_by}

@@ -1,5 +1,5 @@
 -- No item leads nowhere: what its texts read as, or that they don't, gives it an answer.
-use Rattle.dap_history.proofs.Common.{Accepted, AreResolved, At, BadCondition, Block, Breakpoint, Command, Configuration, Configuring, Content, Ended, Err, EvalFault, EvaluatesIn, Expression, Fault, Faulted, Frame, Fresh, HasConditionAt, HasRule, History, InputEnd, Inspects, IsResolvedTo, IsSome, Item, Launch, Launched, Loaded, MemoryFailure, NoStep, None, OfProgram, Ok, Option, Reaction, Reacts, ReadFailure, Refuse, Ready, RepliesAt, Request, Resolution, RunFault, Running, SetsOf, Situation, Some, Stopped, WrittenJoins, [], at, causing, frame_by_id, inl, inr, is_same_path, launched, launches, line_offset, name_of, refl, refused, reply_of, situation, step_from, string_bytes, subject_in, subst, sym, value, ℕ, ◌++◌, ◌-◌, ◌∷◌, ◌≡◌}
+use Rattle.dap_history.proofs.Common.{Accepted, AreResolved, At, BadCondition, Block, Breakpoint, Command, Configuration, Configuring, Content, Ended, Err, EvalFault, EvaluatesIn, Expression, Fault, Faulted, Frame, Fresh, HasConditionAt, HasRule, History, InputEnd, Inspects, IsResolvedTo, IsSome, Item, Launch, Launched, Loaded, MemoryFailure, NoStep, None, OfProgram, Ok, Option, Reaction, Reacts, ReadFailure, Refuse, Ready, RepliesAt, Request, Resolution, RunFault, Running, SetsOf, Situation, Some, Stopped, WrittenJoins, [], at, frame_by_id, inl, inr, is_same_path, launched, launches, line_offset, name_of, refl, refused, reply_of, reply_with, situation, step_from, string_bytes, subject_in, subst, sym, value, ℕ, ◌++◌, ◌-◌, ◌∷◌, ◌≡◌}
 use Rattle.std.proofs.Common.{List, Bool, true, false, ℤ, Result}
 use Rattle.dap_msg.specs.declared.question.Question.TheVariants as question
 use Rattle.dap_msg.specs.declared.question.Shown.{Shown}
@@ -116,7 +116,7 @@ module _ (one : OneProgram) (joins : WrittenJoins) (no_gaps : RunsHaveNoGaps) (t
   launch_leads launch text none = texts text (
     λ main is. none (by_step one joins no_gaps past here (Loaded launch (Some text)) (Some
         (Answer launch.seq (name.Supported supported.Launch) (Ok body.None))) (launches launch.arguments text main) (
-          causing body.None (launches launch.arguments text main),
+          reply_with body.None (launches launch.arguments text main),
           inr (record { program = main; reads = ∣ is ∣₁; reply_is = refl }),
           record { answer_is = refl; effect_is = refl },
         )),

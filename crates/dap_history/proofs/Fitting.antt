@@ -1,5 +1,5 @@
 -- The numbers of a history's messages fit in 64 bits.
-use Rattle.dap_history.proofs.Common.{FirstSeq, Accepted, All, All-cons, All-nil, Answers, At, Block, Body, Breakpoint, Causes, Command, CommandName, Configuration, Configuring, Content, Counting, DivideByZero, Effect, Err, EvalFault, EvaluatesIn, Event, EventBody, Frame, FramesAreFew, HasEffect, History, Incoming, InputEnd, IsHistoryOf, Item, LaunchArguments, Launched, Launches, Loaded, Log, None, OfProgram, Ok, Option, Outgoing, Overflow, PlainReport, Question, Reaction, ReadFailure, Reason, Refusal, RepliesAt, RepliesFrom, RepliesIn, Reply, Resolution, Rest, ResumeKind, Scope, Situation, SliceOutcome, Some, Step, StepAt, Subject, [], answer_to_line, answered, ap, arith, at, at_most, body_of, cond, due_first, effect_in, enters, eqb-true, exited_events, first_logs, frame_by_id, frame_limit, frame_name, held_effect, inl, inr, launched, length, line_offset, log_events, messages, messages_of, next_step, nothing, option_map_or, or_else, ordering, other_source, outputs, refl, refused, reply_of, report_effect, result_answer, scopes, scopes_from, shown_column, shown_frame, shown_frames, shown_line, situation, slice_get, stopped_events, subject_in, subst, suc, sym, waiting_pause, with_answer, zero, ℕ, ◌++◌, ◌+◌, ◌-◌, ◌<◌, ◌^◌, ◌∙◌, ◌∷◌, ◌≡◌, ◌≤◌}
+use Rattle.dap_history.proofs.Common.{FirstSeq, Accepted, All, All-cons, All-nil, Answers, At, Block, Body, Breakpoint, Causes, Command, CommandName, Configuration, Configuring, Content, Counting, DivideByZero, Effect, Err, EvalFault, EvaluatesIn, Event, EventBody, Frame, FramesAreFew, HasEffect, History, Incoming, InputEnd, IsHistoryOf, Item, LaunchArguments, Launched, Launches, Loaded, Log, None, OfProgram, Ok, Option, Outgoing, Overflow, PlainReport, Question, Reaction, ReadFailure, Reason, Refusal, RepliesAt, RepliesFrom, RepliesIn, Reply, Resolution, Rest, ResumeKind, Scope, Situation, SliceOutcome, Some, Step, StepAt, Subject, [], answer_to_line, answered, ap, arith, at, at_most, body_of, cond, due_first, effect_in, enters, eqb-true, exited_events, first_logs, frame_by_id, frame_limit, frame_name, held_effect, inl, inr, launched, length, line_offset, log_events, messages, messages_of, next_step, nothing, only_orders, option_map_or, or_else, other_source, outputs, refl, refused, reply_of, report_effect, result_answer, scopes, scopes_from, shown_column, shown_frame, shown_frames, shown_line, situation, slice_get, stopped_events, subject_in, subst, suc, sym, waiting_pause, with_answer, zero, ℕ, ◌++◌, ◌+◌, ◌-◌, ◌<◌, ◌^◌, ◌∙◌, ◌∷◌, ◌≡◌, ◌≤◌}
 use Rattle.std.proofs.Common.{Bool, true, false, nat_eq, List, map, option_map, Result, ℤ, lit≤}
 use Rattle.std.proofs.lemmas.List.Elements.{All-take, All-drop, All-map}
 use Rattle.dap_msg.specs.declared.question.Question.TheVariants as question
@@ -312,8 +312,8 @@ module _ (few : FramesAreFew) where
       answer_step step launch.seq _ causes.0 causes.2 small (launch_fits launch.arguments file causes.0 causes.1)
   step_fits past (Accepted r) step near small causes =
       effect_step step (report_effect past r r.outcome) causes (report_fits past r r.outcome)
-  step_fits past InputEnd step near small causes = effect_step step (ordering _) causes tt
-  step_fits past ReadFailure step near small causes = effect_step step (ordering _) causes tt
+  step_fits past InputEnd step near small causes = effect_step step (only_orders _) causes tt
+  step_fits past ReadFailure step near small causes = effect_step step (only_orders _) causes tt
   step_fits past _ step near small causes = effect_step step nothing causes tt
 
   -- ---- what is launched

@@ -1,5 +1,5 @@
 -- Each item that reads no text leads from a history to another.
-use Rattle.dap_history.proofs.Common.{Accepted, Block, Body, Breakpoint, Causes, Command, Configuration, Configuring, Content, Effect, EndsBy, Err, Fault, Faulted, Fresh, GoesBackBy, History, InputEnd, Inspects, IsAfter, IsSome, IsStopped, Item, Launch, Launched, Launches, Loaded, MemoryFailure, Mode, None, OfProgram, Ok, Option, Outgoing, PlainReport, Question, Quit, Reaction, Reacts, ReadFailure, Ready, Reason, RepliesAt, RepliesFrom, RepliesIn, Reply, Resume, Retreat, Situation, SliceOutcome, Some, Start, Step, Stop, Stopped, Went, WrittenJoins, [], ap, arith, at, due, end_of, faults, for_thread, goal_of, goes_back, has_come, has_no_memory, if◌then◌else◌, inl, inr, is_due, is_some, is_spent, lacks_memory, last_due, launched, length, name_of, nothing, option_map_or, or_else, ordering, refl, refused, reply_of, report_effect, situation, step_mark, stop_at, subject_in, subst, suc, sym, takes_all, unwrap_or, zero, ℕ, ◌++◌, ◌-◌, ◌<◌, ◌∙◌, ◌∷◌, ◌≡◌, ◌≤◌, ◌⊎◌, back_if}
+use Rattle.dap_history.proofs.Common.{Accepted, Block, Body, Breakpoint, Causes, Command, Configuration, Configuring, Content, Effect, EndsBy, Err, Fault, Faulted, Fresh, GoesBackBy, History, InputEnd, Inspects, IsAfter, IsSome, IsStopped, Item, Launch, Launched, Launches, Loaded, MemoryFailure, Mode, None, OfProgram, Ok, Option, Outgoing, PlainReport, Question, Quit, Reaction, Reacts, ReadFailure, Ready, Reason, RepliesAt, RepliesFrom, RepliesIn, Reply, Resume, Retreat, Situation, SliceOutcome, Some, Start, Step, Stop, Stopped, Went, WrittenJoins, [], ap, arith, at, due, end_of, faults, for_thread, goal_of, goes_back, has_come, has_no_memory, if◌then◌else◌, inl, inr, is_due, is_some, is_spent, lacks_memory, last_due, launched, length, name_of, nothing, only_orders, option_map_or, or_else, refl, refused, reply_of, report_effect, situation, step_mark, stop_at, subject_in, subst, suc, sym, takes_all, unwrap_or, zero, ℕ, ◌++◌, ◌-◌, ◌<◌, ◌∙◌, ◌∷◌, ◌≡◌, ◌≤◌, ◌⊎◌, back_if}
 use Rattle.std.proofs.Common.{List, Bool, true, false}
 use Rattle.std.specs.Prelude.{Result}
 use Rattle.dap_msg.specs.declared.question.Question.TheVariants as question
@@ -145,10 +145,10 @@ item_early past (Fault k) step item_is taken is none early =
     (inl early)
 item_early past InputEnd step item_is taken is none early =
     subst (EarlyOr (situation past)) (sym
-    (same_step step InputEnd None (ordering (Quit ∷ [])) item_is is.answer_is is.effect_is)) (inl early)
+    (same_step step InputEnd None (only_orders (Quit ∷ [])) item_is is.answer_is is.effect_is)) (inl early)
 item_early past ReadFailure step item_is taken is none early =
     subst (EarlyOr (situation past)) (sym
-    (same_step step ReadFailure None (ordering (Quit ∷ [])) item_is is.answer_is is.effect_is)) (inl early)
+    (same_step step ReadFailure None (only_orders (Quit ∷ [])) item_is is.answer_is is.effect_is)) (inl early)
 item_early past MemoryFailure step item_is taken is none early =
     subst (EarlyOr (situation past)) (sym (same_step step MemoryFailure None nothing item_is is.answer_is is.effect_is))
     (inl early)
@@ -330,9 +330,9 @@ module _ (one : OneProgram) (joins : WrittenJoins) (no_gaps : RunsHaveNoGaps) wh
         by_step (Accepted r) None (report_effect past r r.outcome) (record { answer_is = refl; effect_is = refl })
     leads_on (Fault k) plain = by_step (Fault k) None nothing (record { answer_is = refl; effect_is = refl })
     leads_on InputEnd plain =
-        by_step InputEnd None (ordering (Quit ∷ [])) (record { answer_is = refl; effect_is = refl })
+        by_step InputEnd None (only_orders (Quit ∷ [])) (record { answer_is = refl; effect_is = refl })
     leads_on ReadFailure plain =
-        by_step ReadFailure None (ordering (Quit ∷ [])) (record { answer_is = refl; effect_is = refl })
+        by_step ReadFailure None (only_orders (Quit ∷ [])) (record { answer_is = refl; effect_is = refl })
     leads_on MemoryFailure plain = by_step MemoryFailure None nothing (record { answer_is = refl; effect_is = refl })
 
   pub each_item_leads : EachItemLeads

@@ -1,5 +1,5 @@
 -- Each line of a granted `setBreakpoints` is answered from the program, in the client's own counting.
-use Rattle.dap_history.proofs.Common.{FirstSeq, Accepted, AreAskedAs, AreResolved, At, BadCondition, BadHitCondition, BadLogMessage, Block, Body, Breakpoint, BreakpointAnswer, Causes, Command, Content, Err, Fresh, GiveBreakpoints, HasConditionAt, HasRule, History, Incoming, InitializeArguments, IsAskedAs, IsHistoryOf, IsResolvedTo, Item, Launched, Loaded, NoStep, None, Ok, Option, Reaction, ReadsConditionAt, ReadsMessageAt, ReadsRule, Refusal, RepliesIn, Reply, Resolution, Rest, SetBreakpointsArguments, Situation, Some, SourceBreakpoint, Step, StepAt, [], after_step, answer_to_line, ap, arith, causing, effect_in, get_or, inl, inr, item_leads, launched, length, less_by, line_offset, name_of, offset, option_map_or, other_source, refl, reply_of, settings, settings_by, situation, slice_get, step_from, steps, stop_in, string_bytes, subst, sym, unwrap_or, ℕ, ◌++◌, ◌+◌, ◌-◌, ◌<◌, ◌∙◌, ◌∷◌, ◌≡◌, ◌≤◌, ◌⊎◌}
+use Rattle.dap_history.proofs.Common.{FirstSeq, Accepted, AreAskedAs, AreResolved, At, BadCondition, BadHitCondition, BadLogMessage, Block, Body, Breakpoint, BreakpointAnswer, Causes, Command, Content, Err, Fresh, GiveBreakpoints, HasConditionAt, HasRule, History, Incoming, InitializeArguments, IsAskedAs, IsHistoryOf, IsResolvedTo, Item, Launched, Loaded, NoStep, None, Ok, Option, Reaction, ReadsConditionAt, ReadsMessageAt, ReadsRule, Refusal, RepliesIn, Reply, Resolution, Rest, SetBreakpointsArguments, Situation, Some, SourceBreakpoint, Step, StepAt, [], after_step, answer_to_line, ap, arith, effect_in, get_or, inl, inr, item_leads, launched, length, less_by, line_offset, name_of, offset, option_map_or, other_source, refl, reply_of, reply_with, settings, settings_by, situation, slice_get, step_from, steps, stop_in, string_bytes, subst, sym, unwrap_or, ℕ, ◌++◌, ◌+◌, ◌-◌, ◌<◌, ◌∙◌, ◌∷◌, ◌≡◌, ◌≤◌, ◌⊎◌}
 use Rattle.std.proofs.Common.{List, map, Bool, true, false, Result}
 use Rattle.std.specs.List.{position, position_or_len}
 use Rattle.std.proofs.lemmas.Grind.{common_steps}
@@ -267,7 +267,8 @@ reaction_answers : (past : History) {s : Situation} {asked : Command} {reaction 
     → (a : SetBreakpointsArguments) (b : Body) → asked ≡ command.SetBreakpoints a
     → (reply_of past reaction).result ≡ Ok b → AnswersSet past a (reply_of past reaction)
 reaction_answers past (by_setting s c l found bs there path_is resolved) a b asks granted =
-    subst (λ x. AnswersSet past x (causing (body.Breakpoints (map (answer_to_line l.program (line_offset past)) found))
+    subst (λ x. AnswersSet past x
+    (reply_with (body.Breakpoints (map (answer_to_line l.program (line_offset past)) found))
     (effect_in (situation past) past bs))) (let e : c ≡ a = cc in e) (record {
       l = l;
       answers = map (answer_to_line l.program (line_offset past)) found;

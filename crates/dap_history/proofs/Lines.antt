@@ -1,5 +1,5 @@
 -- Each run is under the breakpoints of the lines that were set last, and counts from where they were set.
-use Rattle.dap_history.proofs.Common.{FirstSeq, Accepted, Accepts, AreLawful, Body, Breakpoint, BreakpointAnswer, Causes, Command, Configuring, Content, Effect, Ended, Event, Fault, Faulted, Fresh, GiveBreakpoints, Go, Heading, History, Hold, Incoming, InitializeArguments, InputEnd, IsHistoryOf, IsResolved, IsStopped, Item, Launch, Launched, Launches, Loaded, MemoryFailure, Mode, None, Ok, Option, Orders, Outgoing, PlainOrder, PlainReport, Plan, Quit, Reaction, ReadFailure, Ready, Reason, Refusal, Reply, Resolution, Rest, Running, SetBreakpointsArguments, Situation, SliceOutcome, Some, SourceBreakpoint, Step, Stopped, ThreadArguments, WrittenJoins, [], answer_to_line, ap, body_of, causing, due_first, effect_in, end_of, enters, exception_of, exited_events, from_next, go, goes_back, held_effect, hold_once, if◌then◌else◌, inl, inr, is_back, is_same_path, is_some, last_run, last_such, launched, launches, line_offset, message_mark, name_of, no_plan, nothing, offset, option_map_or, or_else, order_mark, ordering, plan, put_in_at, refl, refused, reply_of, report_effect, resumes, run_in, runs, settings, settings_by, situation, starts_by, step_mark, stop_of, stopped_events, subst, sym, unwrap_or, waiting_pause, waiting_plan, waits_by, ℕ, ◌++◌, ◌+◌, ◌||◌, ◌∙◌, ◌∷◌, ◌≡◌}
+use Rattle.dap_history.proofs.Common.{FirstSeq, Accepted, Accepts, AreLawful, Body, Breakpoint, BreakpointAnswer, Causes, Command, Configuring, Content, Effect, Ended, Event, Fault, Faulted, Fresh, GiveBreakpoints, Go, Heading, History, Hold, Incoming, InitializeArguments, InputEnd, IsHistoryOf, IsResolved, IsStopped, Item, Launch, Launched, Launches, Loaded, MemoryFailure, Mode, None, Ok, Option, Orders, Outgoing, PlainOrder, PlainReport, Plan, Quit, Reaction, ReadFailure, Ready, Reason, Refusal, Reply, Resolution, Rest, Running, SetBreakpointsArguments, Situation, SliceOutcome, Some, SourceBreakpoint, Step, Stopped, ThreadArguments, WrittenJoins, [], answer_to_line, ap, body_of, due_first, effect_in, end_of, enters, exception_of, exited_events, from_next, go, goes_back, held_effect, hold_once, if◌then◌else◌, inl, inr, is_back, is_same_path, is_some, last_run, last_such, launched, launches, line_offset, message_mark, name_of, no_plan, nothing, offset, only_orders, option_map_or, or_else, order_mark, plan, put_in_at, refl, refused, reply_of, reply_with, report_effect, resumes, run_in, runs, settings, settings_by, situation, starts_by, step_mark, stop_of, stopped_events, subst, sym, unwrap_or, waiting_pause, waiting_plan, waits_by, ℕ, ◌++◌, ◌+◌, ◌||◌, ◌∙◌, ◌∷◌, ◌≡◌}
 use Rattle.std.proofs.Common.{List, Bool, true, false, Result}
 use Rattle.std.specs.Prelude.{map, option_map}
 use Rattle.dap_msg.specs.declared.command.Command.TheVariants as command
@@ -160,7 +160,7 @@ module _ (l : Launched) (v : View) where
   -- a run is ordered where the program stands
   goes_planned : (seq : ℕ) (asked : Command) → IsGoing asked → (b : Body) (s : Situation) (run : Heading)
       → run.counted_from ≡ v.now.counted_from → Stands l v → After l s
-      (answering seq asked (Ok b) (ordering (Go run ∷ []))) v
+      (answering seq asked (Ok b) (only_orders (Go run ∷ []))) v
   goes_planned seq (command.Resume k a) going b s run counted here = (here.0, run, refl, sym counted, refl)
   goes_planned seq (command.Retreat k a) going b s run counted here = (here.0, run, refl, sym counted, refl)
   goes_planned seq _ going b s run counted here = absurd going
@@ -187,7 +187,7 @@ module _ (l : Launched) (v : View) where
 
   -- a pause, which may hold the run
   pause_planned : (seq n : ℕ) (a : ThreadArguments) (t : Bool) → Planned l Running v
-      → After l Running (answering seq (command.Pause a) (Ok body.None) (ordering (if t then [] else Hold n ∷ []))) v
+      → After l Running (answering seq (command.Pause a) (Ok body.None) (only_orders (if t then [] else Hold n ∷ []))) v
   pause_planned seq n a true here = here
   pause_planned seq n a false here = here
 
@@ -419,13 +419,13 @@ module _ (one : OneProgram) (joins : WrittenJoins) where
 
   -- a step that has no effect, and answers nothing
   aside : (past : History) (item : Item) (orders : List PlainOrder) → ((path : List ℕ) → lines_by path item None ≡ None)
-      → (effect : Effect) → effect ≡ ordering orders
+      → (effect : Effect) → effect ≡ only_orders orders
       → ((l : Launched) → Planned l (situation past) (view l past)
-      → After l (situation past) (step_of item None (ordering orders)) (view l past)) → Kept past
+      → After l (situation past) (step_of item None (only_orders orders)) (view l past)) → Kept past
       → Both (past ++ step_of item None effect ∷ [])
   aside past item orders lines effect is after here =
       subst (λ e. Both (past ++ step_of item None e ∷ [])) (sym is)
-      (still past (step_of item None (ordering orders)) refl (λ none. record { lines = lines; put_in = refl })
+      (still past (step_of item None (only_orders orders)) refl (λ none. record { lines = lines; put_in = refl })
       (λ l there. after l (here.planned l there)) here)
 
   launch_both : (past : History) (launch : Launch) (file : Option (List ℕ)) (reply : Reply) → situation past ≡ Ready
@@ -453,7 +453,7 @@ module _ (one : OneProgram) (joins : WrittenJoins) where
           (λ none. absurd (let e = sym (launched-snoc past new) ∙ none in cc), at_launch)
         where
           new : Step
-          new = launching launch (Some text) (causing body.None (launches launch.arguments text is.program))
+          new = launching launch (Some text) (reply_with body.None (launches launch.arguments text is.program))
 
           at_launch : (l : Launched) → launched (past ++ new ∷ []) ≡ Some l
               → Planned l (situation (past ++ new ∷ [])) (view l (past ++ new ∷ []))

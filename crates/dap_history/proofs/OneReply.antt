@@ -1,5 +1,5 @@
 -- A command and a launch each have at most one reply, and so an item has at most one step.
-use Rattle.dap_history.proofs.Common.{Accepted, Answers, AreAskedAs, AreResolved, At, AtMostOne, BadCondition, BadHitCondition, BadLogMessage, Block, Breakpoint, Causes, Command, CommandName, Configuration, Configuring, Content, DivideByZero, Effect, Err, EvalFault, EvaluatesIn, Faulted, Frame, Fresh, HasConditionAt, HasEffect, HasRule, History, Inspects, InspectsAs, IsAfter, IsAskedAs, IsResolvedTo, IsTreeOf, Item, LaunchArguments, Launched, Launches, Loaded, NoStep, None, OfProgram, Ok, Option, Overflow, Path, Question, Reaction, Reacts, ReadsConditionAt, ReadsMessageAt, ReadsRule, Ready, RepliesAt, RepliesFrom, RepliesIn, Reply, Resolution, Resume, Retreat, SetBreakpoints, SetBreakpointsArguments, SetsOf, Situation, Some, SourceBreakpoint, Start, Step, Stopped, Subject, [], answer_to_line, ap, arith, at, causing, for_thread, frame_by_id, get_or, inl, inr, is_same_path, launched, launches, line_offset, refl, refused, reply_of, result_answer, situation, step_from, string_bytes, subject_in, subst, sym, value, ℕ, ∥∥₁_elim, ◌++◌, ◌<◌, ◌^◌, ◌∙◌, ◌∷◌, ◌≡◌}
+use Rattle.dap_history.proofs.Common.{Accepted, Answers, AreAskedAs, AreResolved, At, AtMostOne, BadCondition, BadHitCondition, BadLogMessage, Block, Breakpoint, Causes, Command, CommandName, Configuration, Configuring, Content, DivideByZero, Effect, Err, EvalFault, EvaluatesIn, Faulted, Frame, Fresh, HasConditionAt, HasEffect, HasRule, History, Inspects, InspectsAs, IsAfter, IsAskedAs, IsResolvedTo, IsTreeOf, Item, LaunchArguments, Launched, Launches, Loaded, NoStep, None, OfProgram, Ok, Option, Overflow, Path, Question, Reaction, Reacts, ReadsConditionAt, ReadsMessageAt, ReadsRule, Ready, RepliesAt, RepliesFrom, RepliesIn, Reply, Resolution, Resume, Retreat, SetBreakpoints, SetBreakpointsArguments, SetsOf, Situation, Some, SourceBreakpoint, Start, Step, Stopped, Subject, [], answer_to_line, ap, arith, at, for_thread, frame_by_id, get_or, inl, inr, is_same_path, launched, launches, line_offset, refl, refused, reply_of, reply_with, result_answer, situation, step_from, string_bytes, subject_in, subst, sym, value, ℕ, ∥∥₁_elim, ◌++◌, ◌<◌, ◌^◌, ◌∙◌, ◌∷◌, ◌≡◌}
 use Rattle.std.proofs.Common.{Bool, true, false, ℤ, List, Result}
 use Rattle.std.specs.Prelude.{map}
 use Rattle.std.specs.Fmt.{decimal}
@@ -400,7 +400,7 @@ module _ (once : IsTextOnce) where
   one_launch arguments (Some text) r s (inr a) (inl b) =
       absurd (∥∥₁_elim a.reads none_prop (λ reads. once.not_both text b.kind b.place a.program b.first reads))
   one_launch arguments (Some text) r s (inr a) (inr b) =
-      a.reply_is ∙ ap (λ p. causing body.None (launches arguments text p))
+      a.reply_is ∙ ap (λ p. reply_with body.None (launches arguments text p))
       (one_program once.one_tree text a.program b.program a.reads b.reads) ∙ sym b.reply_is
 
   -- ---- items

@@ -30,7 +30,7 @@ no_answer_unlogged step is = ap (λ a. log_texts (with_answer a (map Event step.
 -- ---- a report's outputs, and what follows them
 
 abbrev pub told_numbers : History → PlainReport → List ℤ
-told_numbers past r = drop (numbers_told past - r.before) r.numbers
+told_numbers past r = drop (numbers_told past - r.numbers_before) r.numbers
 
 abbrev pub told_texts : PlainReport → List (List ℕ)
 told_texts r = map (text_of_log r.plan) r.logs
@@ -104,8 +104,9 @@ report_events past r (slice.Fault fault) none = refl
 report_events past r slice.NoMemory none =
     sym
     (append-nil (outputs past r)
-    ∙ ap (λ vs. map event.Output (drop (numbers_told past - r.before) vs) ++ log_events r.plan r.logs) (none refl).0
-    ∙ ap (λ vs. map event.Output vs ++ log_events r.plan r.logs) (drop-nil (numbers_told past - r.before))
+    ∙ ap (λ vs. map event.Output (drop (numbers_told past - r.numbers_before) vs) ++ log_events r.plan r.logs)
+        (none refl).0
+    ∙ ap (λ vs. map event.Output vs ++ log_events r.plan r.logs) (drop-nil (numbers_told past - r.numbers_before))
     ∙ ap (log_events r.plan) (none refl).1)
 
 pub following_numbers : (past : History) (e : SliceOutcome) → numbers_in (following past e) ≡ []

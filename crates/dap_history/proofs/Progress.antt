@@ -1,5 +1,5 @@
 -- The numbers reported are those that the program wrote, step by step.
-use Rattle.dap_history.proofs.Common.{Accepted, Accepts, Answers, Causes, Configuring, Content, Effect, Event, Fault, Fresh, HasEffect, Heading, History, InputEnd, IsLawfulReport, IsTreeOf, Item, Launch, Launched, Launches, Loaded, MemoryFailure, None, Option, PlainReport, Quit, ReadFailure, Ready, Reply, Situation, Some, Step, WrittenJoins, [], answer_mark, ap, append-nil, arith, end_of, filter_map, go, goes_back, inl, inr, last_run, last_such, launched, launches, max, message_mark, messages, messages_of, name_of, nothing, numbers, or_else, order_mark, ordering, output, reached, refl, report_effect, situation, step_mark, subst, sym, unwrap_or, with_answer, written, ℕ, ◌++◌, ◌∙◌, ◌∷◌, ◌≡◌, ◌≤◌, ◌⊎◌}
+use Rattle.dap_history.proofs.Common.{Accepted, Accepts, Answers, Causes, Configuring, Content, Effect, Event, Fault, Fresh, HasEffect, Heading, History, InputEnd, IsLawfulReport, IsTreeOf, Item, Launch, Launched, Launches, Loaded, MemoryFailure, None, Option, PlainReport, Quit, ReadFailure, Ready, Reply, Situation, Some, Step, WrittenJoins, [], answer_mark, ap, append-nil, arith, end_of, filter_map, go, goes_back, inl, inr, last_run, last_such, launched, launches, max, message_mark, messages, messages_of, name_of, nothing, numbers, only_orders, or_else, order_mark, output, reached, refl, report_effect, situation, step_mark, subst, sym, unwrap_or, with_answer, written, ℕ, ◌++◌, ◌∙◌, ◌∷◌, ◌≡◌, ◌≤◌, ◌⊎◌}
 use Rattle.std.proofs.Common.{List, Bool}
 use Rattle.std.specs.Prelude.{map}
 use Rattle.dap_msg.specs.declared.outgoing.EventBody.TheVariants as event
@@ -273,9 +273,9 @@ module _ (one : OneProgram) (joins : WrittenJoins) where
   progress_more past (Fault k) step is taken causes so_far =
       nothing_aside past (Fault k) step is refl nothing (nothing_silent past) causes so_far
   progress_more past InputEnd step is taken causes so_far =
-      nothing_aside past InputEnd step is refl (ordering (Quit ∷ [])) (quit_silent past) causes so_far
+      nothing_aside past InputEnd step is refl (only_orders (Quit ∷ [])) (quit_silent past) causes so_far
   progress_more past ReadFailure step is taken causes so_far =
-      nothing_aside past ReadFailure step is refl (ordering (Quit ∷ [])) (quit_silent past) causes so_far
+      nothing_aside past ReadFailure step is refl (only_orders (Quit ∷ [])) (quit_silent past) causes so_far
   progress_more past MemoryFailure step is taken causes so_far =
       nothing_aside past MemoryFailure step is refl nothing (nothing_silent past) causes so_far
 

@@ -1,12 +1,12 @@
 -- No reply reports a number or launches a program but that of a launch, and each Go of a reply is of the launched text.
-use Rattle.dap_history.proofs.Common.{Body, Breakpoint, Command, CommandName, Configuring, Effect, Ended, Event, EventBody, Fresh, Heading, History, Hold, Launched, Log, Mode, None, Option, Quit, Reaction, Ready, Reason, RepliesIn, Reply, Running, Situation, Some, StopReason, [], answered, ap, append-nil, due_first, effect_in, enters, exited_events, filter_map, first_logs, go, if◌then◌else◌, is_back, last_such, launched, name_of, nothing, ordering, output, plan, refl, reply_of, resumes, runs, situation, starts_by, stop_of, stop_of_event, stopped_events, subst, sym, ◌++◌, ◌+◌, ◌||◌, ◌∙◌, ◌∷◌, ◌≡◌}
+use Rattle.dap_history.proofs.Common.{Body, Breakpoint, Command, CommandName, Configuring, Effect, Ended, Event, EventBody, Fresh, Heading, History, Hold, Launched, Log, Mode, None, Option, Quit, Reaction, Ready, Reason, RepliesIn, Reply, Running, Situation, Some, StopReason, [], answered, ap, append-nil, due_first, effect_in, enters, exited_events, filter_map, first_logs, go, if◌then◌else◌, is_back, last_such, launched, name_of, nothing, only_orders, output, plan, refl, reply_of, resumes, runs, situation, starts_by, stop_of, stop_of_event, stopped_events, subst, sym, ◌++◌, ◌+◌, ◌||◌, ◌∙◌, ◌∷◌, ◌≡◌}
 use Rattle.std.proofs.Common.{List, Bool, true, false}
 use Rattle.std.specs.Prelude.{map}
 use Rattle.dap_msg.specs.declared.command.Command.TheVariants as command
 use Rattle.dap_msg.specs.declared.outgoing.Outgoing.TheVariants.{Answer}
 use Rattle.dbg_plan.specs.Logs.{logs as position_logs}
 use Rattle.dap_history.specs.Readings.{is_held, position}
-use Rattle.dap_history.specs.Replies.{reporting}
+use Rattle.dap_history.specs.Replies.{only_events}
 use Rattle.dap_history.proofs.Reacted.{IsCalm, Reacted, by_refusing, by_answering, by_setting, by_starting, by_resuming, by_ending, by_retreating, by_interrupting, by_closing, by_reaction}
 use Rattle.dap_history.proofs.Told.{numbers_in, texts_in, numbers_of_logs, stop_of_logs}
 
@@ -58,7 +58,7 @@ nothing_silent past =
     }
 
 hold_silent : {s : Situation} (past : History) (held : Bool)
-    → IsSilent false s past (ordering (if held then [] else Hold (runs past) ∷ []))
+    → IsSilent false s past (only_orders (if held then [] else Hold (runs past) ∷ []))
 hold_silent past true = nothing_silent past
 hold_silent past false =
     record {
@@ -72,7 +72,7 @@ hold_silent past false =
     }
 
 resumes_silent : {s : Situation} (past : History) (l : Launched) (m : Mode) → launched past ≡ Some l
-    → IsSilent false s past (ordering (resumes past l m))
+    → IsSilent false s past (only_orders (resumes past l m))
 resumes_silent past l m there =
     record {
       no_numbers = refl;
@@ -83,7 +83,7 @@ resumes_silent past l m there =
       logs = no_logs refl;
     }
 
-over_silent : {s : Situation} (past : History) → IsSilent false s past (reporting (exited_events 1))
+over_silent : {s : Situation} (past : History) → IsSilent false s past (only_events (exited_events 1))
 over_silent past =
     record {
       no_numbers = refl;
@@ -95,7 +95,7 @@ over_silent past =
           refl;
     }
 
-pub quit_silent : {s : Situation} (past : History) → IsSilent false s past (ordering (Quit ∷ []))
+pub quit_silent : {s : Situation} (past : History) → IsSilent false s past (only_orders (Quit ∷ []))
 quit_silent past =
     record {
       no_numbers = refl;

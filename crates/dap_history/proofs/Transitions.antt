@@ -1,5 +1,5 @@
 -- Each step leads where the table of transitions says, so the situation is where the steps lead from Fresh.
-use Rattle.dap_history.proofs.Common.{FirstSeq, Accepted, Answers, Body, Breakpoint, Causes, Command, CommandName, Configuring, Content, Effect, Event, Fault, Faulted, Fresh, HasEffect, Heading, History, Incoming, InputEnd, IsHistoryOf, IsStopped, Item, Launch, Launched, Launches, Loaded, MemoryFailure, Mode, None, Ok, Option, Outgoing, PlainReport, Quit, Reaction, ReadFailure, Ready, Reason, Refusal, RepliesIn, Reply, Rest, RetreatKind, Running, SetBreakpointsArguments, Situation, SliceOutcome, Some, Step, Stopped, ThreadArguments, [], after_step, ap, append-nil, due_first, effect_in, enters, exception_of, exited_events, first_logs, held_effect, hold_once, inl, inr, item_leads, last_such, message_mark, name_of, nothing, or_else, order_mark, ordering, plan, refl, reply_of, report_effect, resumes, retreat_mode, situation, stop_of, stop_of_event, stopped_events, subst, sym, unwrap_or, waiting_pause, with_answer, ℕ, ◌++◌, ◌∙◌, ◌∷◌, ◌≡◌}
+use Rattle.dap_history.proofs.Common.{FirstSeq, Accepted, Answers, Body, Breakpoint, Causes, Command, CommandName, Configuring, Content, Effect, Event, Fault, Faulted, Fresh, HasEffect, Heading, History, Incoming, InputEnd, IsHistoryOf, IsStopped, Item, Launch, Launched, Launches, Loaded, MemoryFailure, Mode, None, Ok, Option, Outgoing, PlainReport, Quit, Reaction, ReadFailure, Ready, Reason, Refusal, RepliesIn, Reply, Rest, RetreatKind, Running, SetBreakpointsArguments, Situation, SliceOutcome, Some, Step, Stopped, ThreadArguments, [], after_step, ap, append-nil, due_first, effect_in, enters, exception_of, exited_events, first_logs, held_effect, hold_once, inl, inr, item_leads, last_such, message_mark, name_of, nothing, only_orders, or_else, order_mark, plan, refl, reply_of, report_effect, resumes, retreat_mode, situation, stop_of, stop_of_event, stopped_events, subst, sym, unwrap_or, waiting_pause, with_answer, ℕ, ◌++◌, ◌∙◌, ◌∷◌, ◌≡◌}
 use Rattle.std.proofs.Common.{List, Bool, true, false, Result}
 use Rattle.std.specs.Prelude.{map, option_map}
 use Rattle.dap_msg.specs.declared.command.Command.TheVariants as command
@@ -73,7 +73,7 @@ module _ (seq : ℕ) (past : History) where
       ∙ sym (ap runs_unless (stop_of_logs (plan past).breakpoints (first_at past l) (stopped_events (stop_of r))))
 
   back_leads : (s : Situation) (kind : RetreatKind) (a : ThreadArguments) (l : Launched) (m : Mode) → IsStopped s
-      → Granted s (command.Retreat kind a) (ordering (resumes past l m))
+      → Granted s (command.Retreat kind a) (only_orders (resumes past l m))
   back_leads Stopped kind a l m stands = refl
   back_leads Faulted kind a l m stands = refl
   back_leads _ kind a l m stands = absurd stands
@@ -162,9 +162,9 @@ item_fits Q past (Accepted r) step taken is =
     subst (λ s. StepFits s (Accepted r) step) (sym taken.0.running)
     (effect_fits Running (Accepted r) _ step is (report_fits past r r.outcome))
 item_fits Q past (Fault k) step taken is = effect_fits (situation past) (Fault k) nothing step is refl
-item_fits Q past InputEnd step taken is = effect_fits (situation past) InputEnd (ordering (Quit ∷ [])) step is refl
+item_fits Q past InputEnd step taken is = effect_fits (situation past) InputEnd (only_orders (Quit ∷ [])) step is refl
 item_fits Q past ReadFailure step taken is =
-    effect_fits (situation past) ReadFailure (ordering (Quit ∷ [])) step is refl
+    effect_fits (situation past) ReadFailure (only_orders (Quit ∷ [])) step is refl
 item_fits Q past MemoryFailure step taken is = effect_fits (situation past) MemoryFailure nothing step is refl
 
 -- ---- along a history

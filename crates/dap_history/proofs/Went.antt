@@ -59,16 +59,17 @@ nothing_told main r lawful is = by_went (goes_back r.mode) lawful.went
 
 -- ---- numbers that were reported, and those that a report adds
 
-module _ (joins : WrittenJoins) (main : Block) (r : PlainReport) (before : r.before ≡ length (written main 0 r.start))
+module _ (joins : WrittenJoins) (main : Block) (r : PlainReport)
+    (before : r.numbers_before ≡ length (written main 0 r.start))
     (told : List ℤ) (furthest : ℕ) (told_is : told ≡ written main 0 furthest) (begun : r.start ≤ furthest) where
   abbrev Joined : Type 0
-  Joined = told ++ drop (length told - r.before) r.numbers ≡ written main 0 (max furthest r.end)
+  Joined = told ++ drop (length told - r.numbers_before) r.numbers ≡ written main 0 (max furthest r.end)
 
   -- what was told up to where the report begins, and beyond
   apart : written main 0 r.start ++ written main r.start furthest ≡ told
   apart = joins main 0 r.start furthest (omega arith) begun ∙ sym told_is
 
-  lengths : length told ≡ r.before + length (written main r.start furthest)
+  lengths : length told ≡ r.numbers_before + length (written main r.start furthest)
   lengths =
       let e = ap length apart in
       let s = length-append (written main 0 r.start) (written main r.start furthest) in
@@ -81,7 +82,8 @@ module _ (joins : WrittenJoins) (main : Block) (r : PlainReport) (before : r.bef
       let inner = joins main r.start r.end furthest begin within in
       let total = sym (length-append (written main r.start r.end) (written main r.end furthest)) ∙ ap length inner in
       let own = ap length went.numbers in
-      let enough : length r.numbers ≤ length told - r.before = let l = lengths in omega (arith, l, total, own) in
+      let enough : length r.numbers ≤ length told - r.numbers_before =
+          let l = lengths in omega (arith, l, total, own) in
       let same : max furthest r.end ≡ furthest = omega (arith, within) in
       ap (λ l. told ++ l) (drop_of_length-le r.numbers enough) ∙ append-nil told ∙ told_is
       ∙ ap (written main 0) (sym same)
@@ -90,7 +92,7 @@ module _ (joins : WrittenJoins) (main : Block) (r : PlainReport) (before : r.bef
   some_told : WentOn main r → furthest ≤ r.end → Joined
   some_told went beyond =
       let split = went.numbers ∙ sym (joins main r.start furthest r.end begun beyond) in
-      let count : length told - r.before ≡ length (written main r.start furthest) =
+      let count : length told - r.numbers_before ≡ length (written main r.start furthest) =
       let l = lengths in omega (arith, l) in
       let same : max furthest r.end ≡ r.end = omega (arith, beyond) in
       ap (λ n. told ++ drop n r.numbers) count
@@ -104,8 +106,8 @@ module _ (joins : WrittenJoins) (main : Block) (r : PlainReport) (before : r.bef
   none_told went =
       let ends = back_end main r went in
       let same : max furthest r.end ≡ furthest = omega (arith, ends, begun) in
-      ap (λ l. told ++ drop (length told - r.before) l) went.numbers
-      ∙ ap (λ l. told ++ l) (drop-nil (length told - r.before))
+      ap (λ l. told ++ drop (length told - r.numbers_before) l) went.numbers
+      ∙ ap (λ l. told ++ l) (drop-nil (length told - r.numbers_before))
       ∙ append-nil told
       ∙ told_is
       ∙ ap (written main 0) (sym same)

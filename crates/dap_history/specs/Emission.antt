@@ -10,7 +10,7 @@ use Rattle.dap_history.specs.declared.situation.Situation.{Situation}
 use Rattle.dbg_runner.specs.Plain.{Quit}
 use Rattle.dap_history.specs.History.{Item, Content, Loaded, Accepted, Fault, InputEnd, ReadFailure, MemoryFailure, Step, History, Effect}
 use Rattle.dap_history.specs.Readings.{situation}
-use Rattle.dap_history.specs.Replies.{Reply, nothing, ordering}
+use Rattle.dap_history.specs.Replies.{Reply, nothing, only_orders}
 use Rattle.dap_history.specs.Launching.{Launches}
 use Rattle.dap_history.specs.Reactions.{Reaction, Reacts, reply_of}
 use Rattle.dap_history.specs.Reports.{report_effect}
@@ -42,8 +42,8 @@ Causes past (Loaded launch file) step =
     step
 Causes past (Accepted r) step = HasEffect (report_effect past r r.outcome) step
 Causes past (Fault k) step = HasEffect nothing step
-Causes past InputEnd step = HasEffect (ordering (Quit ∷ [])) step
-Causes past ReadFailure step = HasEffect (ordering (Quit ∷ [])) step
+Causes past InputEnd step = HasEffect (only_orders (Quit ∷ [])) step
+Causes past ReadFailure step = HasEffect (only_orders (Quit ∷ [])) step
 Causes past MemoryFailure step = HasEffect nothing step
 
 -- the history after one more item

@@ -16,7 +16,7 @@ use Rattle.dap_history.specs.declared.situation.Situation.{Situation}
 use Rattle.dap_history.specs.declared.situation.Situation.TheVariants.{Ready}
 use Rattle.dap_history.specs.declared.launch.Launch.{Launch}
 use Rattle.dap_history.specs.History.{Effect}
-use Rattle.dap_history.specs.Replies.{Reply, nothing, refused, causing}
+use Rattle.dap_history.specs.Replies.{Reply, nothing, refused, reply_with}
 
 -- the launch that a request asks for, which waits for its file, if it asks for one
 abbrev pub wanted_by : ℕ → Command → Option Launch
@@ -57,7 +57,7 @@ pub record RefusesText (text : List ℕ) (reply : Reply) : Type 0 where
 pub record LaunchesText (arguments : LaunchArguments) (text : List ℕ) (reply : Reply) : Type 0 where
   pub program : Block
   pub reads : ∥ IsTreeOf text program ∥₁
-  pub reply_is : reply ≡ causing body.None (launches arguments text program)
+  pub reply_is : reply ≡ reply_with body.None (launches arguments text program)
 
 -- The reply to a launch with its file's bytes, or none where the file can't be read.
 abbrev pub Launches : LaunchArguments → Option (List ℕ) → Reply → Type 0

@@ -26,7 +26,7 @@ use Rattle.dap_history.specs.declared.situation.Situation.{Situation}
 use Rattle.dap_history.specs.declared.situation.Situation.TheVariants.{Fresh, Ready, Configuring, Running, Stopped, Faulted, Ended}
 use Rattle.dap_history.specs.History.{Launched, History}
 use Rattle.dap_history.specs.Readings.{situation, launched, position}
-use Rattle.dap_history.specs.Replies.{Reply, reporting, ordering, answered, refused, causing, OfProgram, exited_events, is_main_thread}
+use Rattle.dap_history.specs.Replies.{Reply, only_events, only_orders, answered, refused, reply_with, OfProgram, exited_events, is_main_thread}
 use Rattle.dap_history.specs.Breakpoints.{IsResolved, answer_to_line, line_offset, is_same_path, hold_once, effect_in}
 use Rattle.dap_history.specs.Running.{resumes, due_first, enters, mode_of, body_of, retreat_mode}
 use Rattle.dap_history.specs.Inspection.{RepliesAt, subject_in}
@@ -51,14 +51,14 @@ abbrev pub reply_of : History → Reaction → Reply
 reply_of past (Refuse why) = refused why
 reply_of past (Answer body) = answered body
 reply_of past (SetBreakpoints answers breakpoints) =
-    causing (body.Breakpoints answers) (effect_in (situation past) past breakpoints)
-reply_of past (Start l) = causing body.None (enters past l (due_first past l))
+    reply_with (body.Breakpoints answers) (effect_in (situation past) past breakpoints)
+reply_of past (Start l) = reply_with body.None (enters past l (due_first past l))
 reply_of past (Resume l kind) =
-    causing (body_of kind) (ordering (resumes past l (mode_of kind (depth_at l.program (position past)))))
-reply_of past (End kind) = causing (body_of kind) (reporting (exited_events 1))
-reply_of past (Retreat l kind) = causing body.None (ordering (resumes past l (retreat_mode kind)))
-reply_of past Interrupt = causing body.None (ordering (hold_once past))
-reply_of past Close = causing body.None (ordering (Quit ∷ []))
+    reply_with (body_of kind) (only_orders (resumes past l (mode_of kind (depth_at l.program (position past)))))
+reply_of past (End kind) = reply_with (body_of kind) (only_events (exited_events 1))
+reply_of past (Retreat l kind) = reply_with body.None (only_orders (resumes past l (retreat_mode kind)))
+reply_of past Interrupt = reply_with body.None (only_orders (hold_once past))
+reply_of past Close = reply_with body.None (only_orders (Quit ∷ []))
 
 -- ---- the cells of the table: which reactions a command may have in a situation
 

@@ -30,12 +30,12 @@ abbrev pub nothing : Effect
 nothing = record { events = []; orders = []; launched = None; put_in = None; waits = None }
 
 -- these events alone
-abbrev pub reporting : List EventBody → Effect
-reporting events = record nothing { events = events }
+abbrev pub only_events : List EventBody → Effect
+only_events events = record nothing { events = events }
 
 -- these orders alone
-abbrev pub ordering : List PlainOrder → Effect
-ordering orders = record nothing { orders = orders }
+abbrev pub only_orders : List PlainOrder → Effect
+only_orders orders = record nothing { orders = orders }
 
 -- an answer alone
 abbrev pub answered : Body → Reply
@@ -51,8 +51,8 @@ in_body (Ok shown) = Ok (body.Shown shown)
 in_body (Err why) = Err why
 
 -- an answer, and what it causes
-abbrev pub causing : Body → Effect → Reply
-causing body effect = record { result = Ok body; effect = effect }
+abbrev pub reply_with : Body → Effect → Reply
+reply_with body effect = record { result = Ok body; effect = effect }
 
 -- a program is launched, and this holds of it
 abbrev pub OfProgram : Option Launched → (Launched → Type 0) → Type 0

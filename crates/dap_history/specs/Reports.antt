@@ -11,7 +11,7 @@ use Rattle.dbg_runner.specs.declared.outcome.SliceOutcome.TheVariants as slice
 use Rattle.dap_history.specs.declared.situation.Situation.TheVariants.{Running}
 use Rattle.dap_history.specs.History.{History, Effect}
 use Rattle.dap_history.specs.Readings.{situation, last_run, runs, position, plan, numbers_told, waiting_plan, waiting_pause}
-use Rattle.dap_history.specs.Replies.{nothing, reporting, stop_of, exception_of, stopped_events, exited_events, log_events}
+use Rattle.dap_history.specs.Replies.{nothing, only_events, stop_of, exception_of, stopped_events, exited_events, log_events}
 
 -- A report is accepted while the program is running, if it continues the run that was ordered last.
 pub record Accepts (past : History) (r : PlainReport) : Type 0 where
@@ -24,7 +24,7 @@ pub record Accepts (past : History) (r : PlainReport) : Type 0 where
 
 -- First the report's numbers, in order, without those that were reported before the program went back; then its logs.
 abbrev pub outputs : History → PlainReport → List EventBody
-outputs past r = map event.Output (drop (numbers_told past - r.before) r.numbers) ++ log_events r.plan r.logs
+outputs past r = map event.Output (drop (numbers_told past - r.numbers_before) r.numbers) ++ log_events r.plan r.logs
 
 -- breakpoints that are put in where a report ends count from the next position
 abbrev pub from_next : ℕ → List Breakpoint → Plan
@@ -72,9 +72,9 @@ held_effect past r false = continued_effect past r
 
 -- what an accepted report causes
 abbrev pub report_effect : History → PlainReport → SliceOutcome → Effect
-report_effect past r slice.More = reporting (outputs past r)
+report_effect past r slice.More = only_events (outputs past r)
 report_effect past r (slice.Due reason) = stopped_effect past r (stopped_events (stop_of reason))
 report_effect past r slice.Held = held_effect past r (waiting_pause past)
-report_effect past r slice.Done = reporting (outputs past r ++ exited_events 0)
+report_effect past r slice.Done = only_events (outputs past r ++ exited_events 0)
 report_effect past r (slice.Fault fault) = stopped_effect past r (stopped_events (stop.Exception (exception_of fault)))
 report_effect past r slice.NoMemory = nothing

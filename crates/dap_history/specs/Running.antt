@@ -17,7 +17,7 @@ use Rattle.dap_history.specs.Plans.{Plan}
 use Rattle.dbg_runner.specs.Plain.{PlainOrder, Go}
 use Rattle.dap_history.specs.History.{Launched, History, Effect}
 use Rattle.dap_history.specs.Readings.{runs, position, plan}
-use Rattle.dap_history.specs.Replies.{nothing, reporting, stop_of, stopped_events, log_events}
+use Rattle.dap_history.specs.Replies.{nothing, only_events, stop_of, stopped_events, log_events}
 
 -- the order of the next run, which begins at this position under this plan and in this mode
 abbrev pub goes : History → Launched → ℕ → Plan → Mode → List PlainOrder
@@ -53,7 +53,7 @@ first_logs past l =
 
 -- position 0 logs, and then the program stops there if it is due, or the first run begins there
 abbrev pub enters : History → Launched → Option Reason → Effect
-enters past l (Some r) = reporting (first_logs past l ++ stopped_events (stop_of r))
+enters past l (Some r) = only_events (first_logs past l ++ stopped_events (stop_of r))
 enters past l None = record nothing { events = first_logs past l; orders = resumes past l mode.Continue }
 
 -- ---- `continue`, `next`, `stepIn`, `stepOut`

@@ -31,7 +31,7 @@ use Rattle.dap_history.specs.declared.situation.Situation.{Situation}
 use Rattle.dap_history.specs.declared.situation.Situation.TheVariants.{Fresh, Ready, Configuring, Running, Stopped, Faulted, Ended}
 use Rattle.dap_history.specs.History.{Content, Loaded, Accepted, InputEnd, Step, History, Effect}
 use Rattle.dap_history.specs.Readings.{from_one, situation, runs, position, reached, numbers_told, plan, waiting_plan, waiting_pause, is_held}
-use Rattle.dap_history.specs.Replies.{Reply, nothing, ordering, answered, refused}
+use Rattle.dap_history.specs.Replies.{Reply, nothing, answered, only_orders, refused}
 use Rattle.dap_history.specs.Launching.{Launches, launches, syntax}
 use Rattle.dap_history.specs.Breakpoints.{effect_in}
 use Rattle.dap_history.specs.Reports.{Accepts, report_effect}
@@ -116,8 +116,8 @@ module _ (text : List ℕ) (program : Block) (path : List ℕ) (bs : List Breakp
         mode = mode.Continue;
         start = from;
         end = to;
-        before = 0;
-        again = 0;
+        numbers_before = 0;
+        steps_rerun = 0;
         numbers = [];
         logs = [];
         outcome = outcome;
@@ -193,8 +193,8 @@ module _ (text : List ℕ) (program : Block) (path : List ℕ) (bs : List Breakp
         mode = mode.Continue;
         start = 0;
         end = 15;
-        before = 0;
-        again = 0;
+        numbers_before = 0;
+        steps_rerun = 0;
         numbers = pos 7 ∷ [];
         logs = [];
         outcome = slice.Due reason.Breakpoint;
@@ -248,8 +248,8 @@ module _ (text : List ℕ) (program : Block) (path : List ℕ) (bs : List Breakp
         mode = mode.Reverse;
         start = 15;
         end = to;
-        before = 1;
-        again = again;
+        numbers_before = 1;
+        steps_rerun = again;
         numbers = [];
         logs = [];
         outcome = outcome;
@@ -283,8 +283,8 @@ module _ (text : List ℕ) (program : Block) (path : List ℕ) (bs : List Breakp
         mode = mode.Continue;
         start = 10;
         end = 20;
-        before = 0;
-        again = 0;
+        numbers_before = 0;
+        steps_rerun = 0;
         numbers = pos 7 ∷ pos 8 ∷ [];
         logs = [];
         outcome = slice.Done;
@@ -332,7 +332,7 @@ module _ (text : List ℕ) (program : Block) (path : List ℕ) (bs : List Breakp
 
   -- the end of the input tells nothing, and orders Quit
   ends_running : (step : Step) → Causes running InputEnd step
-      → (step.answer ≡ None) × (step.effect ≡ ordering (Quit ∷ []))
+      → (step.answer ≡ None) × (step.effect ≡ only_orders (Quit ∷ []))
   ends_running step is = (is.answer_is, is.effect_is)
 
 -- ---- a session that steps through the text of `ShownQ`, with `stopOnEntry`

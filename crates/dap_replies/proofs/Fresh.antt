@@ -29,9 +29,9 @@ written_few main a (suc count) =
           (written_by (outcome main a)) (written_from main (a + 1) count),
     )
 
-fits_by : (main : Block) (r : PlainReport) (back : Bool) → r.before ≡ length (written main 0 r.start)
+fits_by : (main : Block) (r : PlainReport) (back : Bool) → r.numbers_before ≡ length (written main 0 r.start)
     → Went main r (back_if back)
-    → (told limit : ℕ) → told < limit → r.end < limit → told + length (drop (told - r.before) r.numbers) < limit
+    → (told limit : ℕ) → told < limit → r.end < limit → told + length (drop (told - r.numbers_before) r.numbers) < limit
 fits_by main r false before went told limit few ends =
     omega (
       arith,
@@ -43,20 +43,20 @@ fits_by main r false before went told limit few ends =
       written_few main 0 (r.start - 0),
       written_few
           main r.start (r.end - r.start),
-      length-drop (told - r.before) r.numbers,
+      length-drop (told - r.numbers_before) r.numbers,
     )
 fits_by main r true before went told limit few ends =
-    omega (arith, few, ap length went.numbers, length-drop (told - r.before) r.numbers)
+    omega (arith, few, ap length went.numbers, length-drop (told - r.numbers_before) r.numbers)
 
 -- those reported before and those of a report are as few
 pub told_fits : (r : PlainReport) → IsLawfulReport r → (told limit : ℕ) → told < limit → r.end < limit
-    → told + length (drop (told - r.before) r.numbers) < limit
+    → told + length (drop (told - r.numbers_before) r.numbers) < limit
 told_fits r is told limit few ends =
     fits_by is.program r (goes_back r.mode) is.lawful.before is.lawful.went told limit few ends
 
 -- where a report has no numbers, none is fresh
 pub none_fresh : (told : ℕ) (r : Reported) → r.numbers ≡ [] → fresh told r ≡ []
-none_fresh told r none = ap (drop (told - r.before)) none ∙ drop-nil (told - r.before)
+none_fresh told r none = ap (drop (told - r.numbers_before)) none ∙ drop-nil (told - r.numbers_before)
 
 -- a quiet report has no events
 pub quiet_outputs : (told : ℕ) (r : Reported) → IsQuiet (plain_report r) → outputs_after told r ≡ []

@@ -15,7 +15,7 @@ use Rattle.dap_history.specs.declared.launch.Launch.{Launch}
 use Rattle.dap_history.specs.History.{Launched, Step, History}
 use Rattle.dap_history.specs.Plans.{Plan}
 use Rattle.dap_history.specs.ReadingLaws.{ReadingsGoOn}
-use Rattle.dap_history.specs.Replies.{Reply, refused, causing}
+use Rattle.dap_history.specs.Replies.{Reply, refused, reply_with}
 use Rattle.dap_history.specs.Launching.{Launches, launches}
 use Rattle.dap_replies.specs.declared.phase.Phase.TheVariants as phase
 use Rattle.dap_replies.specs.Phases.{IsPhase, IsUnlaunched, IsTarget, IsDebuggee}
@@ -49,7 +49,7 @@ launch_refused laws settings launch file why refuses given is past waits =
 
 -- what a launch of the program causes
 abbrev begins : Launch → List ℕ → Compiled → Reply
-begins launch text unit = causing body.None (launches launch.arguments text (program_of unit))
+begins launch text unit = reply_with body.None (launches launch.arguments text (program_of unit))
 
 abbrev begun_step : Launch → List ℕ → Compiled → Step
 begun_step launch text unit = launch_step launch (Some text) (begins launch text unit)

@@ -21,7 +21,7 @@ use Rattle.dap_history.specs.Plans.{Plan}
 use Rattle.dap_history.specs.History.{Item, Accepted, Step, History, messages}
 use Rattle.dap_history.specs.ReadingLaws.{ReadingsGoOn}
 use Rattle.dap_history.specs.Readings.{stop_mark, message_mark, situation, settings_by, go, end_of, position, numbers, numbers_told, plan, runs}
-use Rattle.dap_history.specs.Replies.{reporting, stopped_events, exited_events, log_events}
+use Rattle.dap_history.specs.Replies.{only_events, stopped_events, exited_events, log_events}
 use Rattle.dap_history.specs.Reports.{outputs, from_next, put_in_at, put_in_by, stopped_effect, continued_effect}
 use Rattle.dap_history.specs.declared.situation.Situation.TheVariants.{Ended}
 use Rattle.dap_history.proofs.Told.{numbers_in}
@@ -41,7 +41,7 @@ use Rattle.dap_replies.proofs.Begun.{with_next_run, run_begins}
 -- the numbers that are reported are those that the target says
 pub fresh_as : (t : Target) (u : Compiled) (r : Reported) (past : History) → IsTarget t u past
     → fresh t.told r ≡ told_numbers past (plain_report r)
-fresh_as t u r past is = ap (λ n. drop (n - r.before) r.numbers) is.told_is
+fresh_as t u r past is = ap (λ n. drop (n - r.numbers_before) r.numbers) is.told_is
 
 pub outputs_as : (t : Target) (u : Compiled) (r : Reported) (past : History) → IsTarget t u past
     → outputs_after t.told r ≡ outputs past (plain_report r)
@@ -84,7 +84,7 @@ no_mark past r =
 pub report_goes_on : ReadingsGoOn → (t : Target) (run : OrderedRun) (reported : Reported) (past : History)
     → IsPhase (phase.Running t run) past
     → IsPhase (phase.Running (with_told t reported) (record run { position = reported.end }))
-    (past ++ report_step (plain_report reported) (reporting (outputs past (plain_report reported))) ∷ [])
+    (past ++ report_step (plain_report reported) (only_events (outputs past (plain_report reported))) ∷ [])
 report_goes_on laws t run reported past is = record {
   situation_is = situation_stays laws past step (no_mark past r) ∙ is.situation_is;
   keeps = (
@@ -110,7 +110,7 @@ report_goes_on laws t run reported past is = record {
     r = plain_report reported
 
     step : Step
-    step = report_step r (reporting (outputs past r))
+    step = report_step r (only_events (outputs past r))
 
     was : IsRun run past
     was = is.keeps.1
@@ -119,9 +119,9 @@ report_goes_on laws t run reported past is = record {
 
 pub report_ends : ReadingsGoOn → (t : Target) (u : Compiled) (reported : Reported) (past : History) → IsTarget t u past
     → (situation (past ++ report_step (plain_report reported)
-    (reporting (outputs past (plain_report reported) ++ exited_events 0)) ∷ []) ≡ Ended)
+    (only_events (outputs past (plain_report reported) ++ exited_events 0)) ∷ []) ≡ Ended)
     × IsTarget (with_told t reported) u (past ++ report_step (plain_report reported)
-    (reporting (outputs past (plain_report reported) ++ exited_events 0)) ∷ [])
+    (only_events (outputs past (plain_report reported) ++ exited_events 0)) ∷ [])
 report_ends laws t u reported past is = (
   laws.situation_is past step ∙ ap (λ mark. unwrap_or mark (situation past)) (outputs_mark past r (exited_events 0)),
   target_tells laws t u reported past step (exited_events 0) refl refl refl is refl refl,
@@ -131,7 +131,7 @@ report_ends laws t u reported past is = (
     r = plain_report reported
 
     step : Step
-    step = report_step r (reporting (outputs past r ++ exited_events 0))
+    step = report_step r (only_events (outputs past r ++ exited_events 0))
 
 -- ---- the debuggee comes back
 

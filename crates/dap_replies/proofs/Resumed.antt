@@ -24,7 +24,7 @@ use Rattle.dap_history.specs.Last.{or_else, last_such}
 use Rattle.dap_history.specs.History.{History, Effect}
 use Rattle.dap_history.specs.Readings.{situation, runs, position, plan, settings_of, answer_mark, message_mark}
 use Rattle.dap_history.specs.ReadingLaws.{ReadingsGoOn}
-use Rattle.dap_history.specs.Replies.{nothing, reporting, ordering, causing, stop_of, stopped_events, exited_events, log_events}
+use Rattle.dap_history.specs.Replies.{nothing, only_events, only_orders, reply_with, stop_of, stopped_events, exited_events, log_events}
 use Rattle.dap_history.specs.Running.{goes, resumes, first_mode, first_logs, enters, retreat_mode, mode_of, body_of}
 use Rattle.dap_history.specs.Reactions.{Start, Resume, End, Retreat}
 use Rattle.dap_history.proofs.Told.{numbers_in, numbers_of_logs, mark_of_logs, stop_marks}
@@ -61,13 +61,13 @@ next_order t d m past is_t is_d =
 pub configures : (t : Target) (d : Debugged) (m : Mode) (why : Option Reason) (command : Command) (past : History)
     → m ≡ first_mode (launched_as t d.unit) → why ≡ due_now d m
     → Chooses command (phase.Configuring t d) chosen.Start → IsPhase (phase.Configuring t d) past
-    → RepliesIn (situation past) past command (causing body.None (enters past (launched_as t d.unit) why))
+    → RepliesIn (situation past) past command (reply_with body.None (enters past (launched_as t d.unit) why))
 configures t d m why command past m_is why_is choice is =
     let is_d = is.keeps.1 in
     let l = launched_as t d.unit in
     replies_by (phase.Configuring t d) past is command (Start l) (choice.reacts past is)
-    (causing body.None (enters past l why))
-    (ap (λ r. causing body.None (enters past l r))
+    (reply_with body.None (enters past l why))
+    (ap (λ r. reply_with body.None (enters past l r))
     (why_is
     ∙ ap (λ m. due l.program d.breakpoints d.counted_from m d.position) m_is
     ∙ ap (λ bs. due l.program bs d.counted_from (first_mode l) d.position) is_d.breakpoints_are
@@ -84,11 +84,12 @@ pub goes_on : ReadingsGoOn → (command : Command) (t : Target) (d : Debugged) (
     (events : List EventBody) (past : History) (given : Given) → settings_of command ≡ None
     → numbers_in events ≡ []
     → IsTarget t d.unit past → IsDebuggee d past → HasGone t d m body events given
-    → RepliesIn (situation past) past command (causing body (goes_after events (resumes past (launched_as t d.unit) m)))
+    → RepliesIn (situation past) past command
+        (reply_with body (goes_after events (resumes past (launched_as t d.unit) m)))
     → HasReplied command past given
 goes_on laws command t d m body events past given sets_none tells_none is_t is_d gone replies =
     let next = next_order t d m past is_t is_d in record {
-      reply = causing body (goes_after events (resumes past (launched_as t d.unit) m));
+      reply = reply_with body (goes_after events (resumes past (launched_as t d.unit) m));
       replies = replies;
       gives = record {
         result_is = gone.result_is;
@@ -97,7 +98,7 @@ goes_on laws command t d m body events past given sets_none tells_none is_t is_d
       phase_is = λ seq.
           let step =
           request_step (record { seq = seq; body = command })
-          (causing body (goes_after events (resumes past (launched_as t d.unit) m))) in
+          (reply_with body (goes_after events (resumes past (launched_as t d.unit) m))) in
           subst (λ p. IsPhase p (past ++ step ∷ [])) (sym gone.phase_is)
           (run_begins laws t d m past step is_t (debuggee_stays laws past step refl refl d is_d)
           (record { orders_are = next; launches_nothing = refl; sets_nothing = sets_none })
@@ -110,10 +111,11 @@ pub stops_there : ReadingsGoOn → (command : Command) (t : Target) (d : Debugge
     → numbers_in (events ++ stopped_events (stop_of why)) ≡ [] → last_such message_mark
     (map Event (events ++ stopped_events (stop_of why))) ≡ Some situation_is.Stopped
     → IsTarget t d.unit past → IsDebuggee d past → HasStopped t d why events given
-    → RepliesIn (situation past) past command (causing body.None (reporting (events ++ stopped_events (stop_of why))))
+    → RepliesIn (situation past) past command
+        (reply_with body.None (only_events (events ++ stopped_events (stop_of why))))
     → HasReplied command past given
 stops_there laws command t d why events past given sets_none tells_none mark is_t is_d stopped replies = record {
-  reply = causing body.None (reporting (events ++ stopped_events (stop_of why)));
+  reply = reply_with body.None (only_events (events ++ stopped_events (stop_of why)));
   replies = replies;
   gives = record {
     result_is = stopped.result_is;
@@ -127,7 +129,7 @@ stops_there laws command t d why events past given sets_none tells_none mark is_
   phase_is = λ seq.
       let step =
       request_step (record { seq = seq; body = command })
-      (causing body.None (reporting (events ++ stopped_events (stop_of why)))) in
+      (reply_with body.None (only_events (events ++ stopped_events (stop_of why)))) in
       subst (λ p. IsPhase p (past ++ step ∷ [])) (sym stopped.phase_is) (record {
         situation_is =
             laws.situation_is past step ∙ ap (λ mark. unwrap_or
@@ -151,10 +153,10 @@ over t u past _ ended is_t is = absurd is
 -- the program is over
 pub ends_there : ReadingsGoOn → (command : Command) (t : Target) (u : Compiled) (body : Body) (past : History)
     (given : Given) → settings_of command ≡ None → IsTarget t u past → HasEnded t u body given
-    → RepliesIn (situation past) past command (causing body (reporting (exited_events 1)))
+    → RepliesIn (situation past) past command (reply_with body (only_events (exited_events 1)))
     → HasReplied command past given
 ends_there laws command t u body past given sets_none is_t ended replies = record {
-  reply = causing body (reporting (exited_events 1));
+  reply = reply_with body (only_events (exited_events 1));
   replies = replies;
   gives = record {
     result_is = ended.result_is;
@@ -166,7 +168,8 @@ ends_there laws command t u body past given sets_none is_t ended replies = recor
         };
   };
   phase_is = λ seq.
-      let step = request_step (record { seq = seq; body = command }) (causing body (reporting (exited_events 1))) in
+      let step = request_step (record { seq = seq; body = command })
+          (reply_with body (only_events (exited_events 1))) in
       over t u (past ++ step ∷ []) given.effect.phase (laws.situation_is past step)
       (target_stays laws past step refl refl sets_none refl t u is_t) ended.phase_is;
 }
@@ -248,9 +251,9 @@ resumes_there laws t d m body kind given body_is m_is gone command choice past i
     let l = launched_as t d.unit in
     goes_on laws command t d m body [] past given choice.suits refl is.keeps.0 is.keeps.1 gone
     (replies_by (phase.Stopped t d) past is command (Resume l kind) (choice.reacts past is)
-    (causing body (ordering (resumes past l m)))
-    (ap (λ b. causing b (ordering (resumes past l m))) body_is
-    ∙ ap (λ m. causing (body_of kind) (ordering (resumes past l m)))
+    (reply_with body (only_orders (resumes past l m)))
+    (ap (λ b. reply_with b (only_orders (resumes past l m))) body_is
+    ∙ ap (λ m. reply_with (body_of kind) (only_orders (resumes past l m)))
     (m_is ∙ ap (λ n. mode_of kind (depth_at l.program n)) is.keeps.1.position_is)))
 
 -- a program that faulted is over
@@ -259,7 +262,7 @@ pub ends_faulted : ReadingsGoOn → (t : Target) (d : Debugged) (body : Body) (k
 ends_faulted laws t d body kind given body_is ended command choice past is =
     ends_there laws command t d.unit body past given choice.suits is.keeps.0 ended
     (replies_by (phase.Faulted t d) past is command (End kind) (choice.reacts past is)
-    (causing body (reporting (exited_events 1))) (ap (λ b. causing b (reporting (exited_events 1))) body_is))
+    (reply_with body (only_events (exited_events 1))) (ap (λ b. reply_with b (only_events (exited_events 1))) body_is))
 
 -- ---- `stepBack` and `reverseContinue`
 
@@ -270,9 +273,9 @@ returns_there laws Stop t d kind given gone command choice past is =
     let l = launched_as t d.unit in
     goes_on laws command t d (retreat_mode kind) body.None [] past given choice.suits refl is.keeps.0 is.keeps.1 gone
     (replies_by (phase.Stopped t d) past is command (Retreat l kind) (choice.reacts past is)
-    (causing body.None (goes_after [] (resumes past l (retreat_mode kind)))) refl)
+    (reply_with body.None (goes_after [] (resumes past l (retreat_mode kind)))) refl)
 returns_there laws Fault t d kind given gone command choice past is =
     let l = launched_as t d.unit in
     goes_on laws command t d (retreat_mode kind) body.None [] past given choice.suits refl is.keeps.0 is.keeps.1 gone
     (replies_by (phase.Faulted t d) past is command (Retreat l kind) (choice.reacts past is)
-    (causing body.None (goes_after [] (resumes past l (retreat_mode kind)))) refl)
+    (reply_with body.None (goes_after [] (resumes past l (retreat_mode kind)))) refl)

@@ -24,7 +24,7 @@ use Rattle.dap_history.specs.declared.situation.Situation.TheVariants.{Running}
 use Rattle.dap_history.specs.History.{Step, History}
 use Rattle.dap_history.specs.ReadingLaws.{ReadingsGoOn}
 use Rattle.dap_history.specs.Readings.{order_mark, situation, go, runs, is_back, position, waiting_plan, hold_mark, is_held}
-use Rattle.dap_history.specs.Replies.{Reply, nothing, causing, OfProgram}
+use Rattle.dap_history.specs.Replies.{Reply, nothing, OfProgram, reply_with}
 use Rattle.dap_history.specs.Breakpoints.{offset, IsResolved, answer_to_line, effect_in, is_same_path}
 use Rattle.dap_history.specs.Reactions.{Reaction, Answer, SetBreakpoints, other_source, SetsOf, Sets, Reacts}
 use Rattle.dap_history.specs.Emission.{RepliesIn}
@@ -127,11 +127,11 @@ set_replies : (p : Phase) (past : History) (asked : SetBreakpointsArguments) (an
     (bs : List Breakpoint) → IsPhase p past
     → Reacts (situation_of p) past (command.SetBreakpoints asked) (SetBreakpoints answers bs)
     → RepliesIn (situation past) past (command.SetBreakpoints asked)
-    (causing (body.Breakpoints answers) (effect_in (situation_of p) past bs))
+    (reply_with (body.Breakpoints answers) (effect_in (situation_of p) past bs))
 set_replies p past asked answers bs is reacts =
     replies_by p past is (command.SetBreakpoints asked) (SetBreakpoints answers bs) reacts
-    (causing (body.Breakpoints answers) (effect_in (situation_of p) past bs))
-    (ap (λ s. causing (body.Breakpoints answers) (effect_in s past bs)) (sym is.situation_is))
+    (reply_with (body.Breakpoints answers) (effect_in (situation_of p) past bs))
+    (ap (λ s. reply_with (body.Breakpoints answers) (effect_in s past bs)) (sym is.situation_is))
 
 -- ---- a plan that is put in
 
@@ -145,7 +145,7 @@ with_plan d bs n = record d { breakpoints = bs; counted_from = n }
 -- the answers, and then a plan that is put in and counts from position n
 abbrev puts : List BreakpointAnswer → List Breakpoint → ℕ → Reply
 puts answers bs n =
-    causing (body.Breakpoints answers) (record nothing
+    reply_with (body.Breakpoints answers) (record nothing
     { put_in = Some (record { breakpoints = bs; counted_from = n }) })
 
 -- what a phase keeps where the session holds the debuggee
@@ -236,7 +236,7 @@ answers_after_end laws t u answers plan (command.SetBreakpoints asked) choice pa
       reaction = SetBreakpoints answers (plain_breakpoints plan.breakpoints);
       reacts = choice.reacts past is;
       reply_is =
-          ap (λ s. causing (body.Breakpoints answers) (effect_in s past (plain_breakpoints plan.breakpoints)))
+          ap (λ s. reply_with (body.Breakpoints answers) (effect_in s past (plain_breakpoints plan.breakpoints)))
           (sym is.situation_is);
     })
     (leaves_phase laws (phase.Ended t u) (command.SetBreakpoints asked) (body.Breakpoints answers) tt past is)
@@ -288,9 +288,9 @@ held_after laws past step run is orders_are =
 run_waits : ReadingsGoOn → (past : History) (run : OrderedRun) (bs : List Breakpoint) (seq : ℕ)
     (asked : SetBreakpointsArguments) (answers : List BreakpointAnswer) → IsRun run past
     → IsRun (ordered_to_hold (record run { waiting_plan = Some bs }))
-    (past ++ set_step seq asked (causing (body.Breakpoints answers) (effect_in Running past bs)) ∷ [])
+    (past ++ set_step seq asked (reply_with (body.Breakpoints answers) (effect_in Running past bs)) ∷ [])
 run_waits laws past run bs seq asked answers is =
-    let step = set_step seq asked (causing (body.Breakpoints answers) (effect_in Running past bs)) in
+    let step = set_step seq asked (reply_with (body.Breakpoints answers) (effect_in Running past bs)) in
     let no_go = once_no_go (is_held past || is_back past) (runs past) in record {
       first = is.first;
       ordered = last_run_stays laws past step no_go ∙ is.ordered;
@@ -315,7 +315,7 @@ pub waits_in_run : ReadingsGoOn → (t : Target) (run now : OrderedRun) (answers
     (without_events (Ok (body.Breakpoints answers)) order (phase.Running t now))
 waits_in_run laws t run now answers plan order order_is now_is (command.SetBreakpoints asked) choice past is =
     let bs = plain_breakpoints plan.breakpoints in
-    let reply = causing (body.Breakpoints answers) (effect_in Running past bs) in record {
+    let reply = reply_with (body.Breakpoints answers) (effect_in Running past bs) in record {
       reply = reply;
       replies = set_replies (phase.Running t run) past asked answers bs is (choice.reacts past is);
       gives = record {

@@ -21,7 +21,7 @@ use Rattle.dap_replies.specs.Replied.{DoesEffect, report_step}
 
 -- the numbers of a report that weren't reported before, where `told` numbers were
 abbrev pub fresh : ℕ → Reported → List ℤ
-fresh told r = drop (told - r.before) r.numbers
+fresh told r = drop (told - r.numbers_before) r.numbers
 
 -- these numbers and the logs of the report, as events
 abbrev pub outputs_after : ℕ → Reported → List EventBody

@@ -4,7 +4,7 @@ use crate::run::Run;
 use crate::unstarted::Unstarted;
 use dap_history::Launch;
 use dap_msg::{InitializeArguments, Text};
-use dbg_runner::StoppedDebuggee;
+use dbg_runner::ConsideredDebuggee;
 use pl0_unit::Unit;
 use std::sync::Arc;
 
@@ -22,9 +22,9 @@ pub enum Phase {
     /// The program is running: the runner has the debuggee.
     Running(Target, Run),
     /// The program stopped.
-    Stopped(Target, StoppedDebuggee),
+    Stopped(Target, ConsideredDebuggee),
     /// The program stopped before a step that faults.
-    Faulted(Target, StoppedDebuggee),
+    Faulted(Target, ConsideredDebuggee),
     /// The program has ended.
     Ended(Target, Arc<Unit>),
 }

@@ -16,7 +16,7 @@ use crate::unstarted::Unstarted;
 use dap_history::reading_laws;
 use dap_msg::{Body, BreakpointAnswer, Items};
 use dbg_plan::Plan;
-use dbg_runner::{Order, StoppedDebuggee};
+use dbg_runner::{ConsideredDebuggee, Order};
 use std::alloc::{AllocError, Global};
 use std::sync::Arc;
 
@@ -93,9 +93,9 @@ fn answer_lines(
 /// Puts a plan into a debuggee that stands.
 fn with_plan(
     alloc: Global,
-    debuggee: StoppedDebuggee,
+    debuggee: ConsideredDebuggee,
     plan: Plan,
-) -> Result<StoppedDebuggee, AllocError>
+) -> Result<ConsideredDebuggee, AllocError>
     requires { IsPlanOf debuggee.unit plan }
     ensures { IfOk result (λ new. new ≡ record debuggee
         { breakpoints = plain_breakpoints plan.breakpoints; counted_from = debuggee.position + 1 }) }
@@ -103,5 +103,5 @@ fn with_plan(
     let plan = Arc::new(alloc, plan)?;
     let mut debuggee = debuggee.into_debuggee();
     debuggee.set_plan(plan);
-    Ok(StoppedDebuggee::new(debuggee))
+    Ok(ConsideredDebuggee::new(debuggee))
 }

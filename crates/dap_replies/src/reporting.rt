@@ -5,7 +5,7 @@ ghost use Rattle.dbg_runner.specs.declared.outcome.SliceOutcome.TheVariants as s
 ghost use Rattle.dbg_runner.specs.Plain.{heading_of};
 ghost use Rattle.dbg_runner.specs.Reported.{plain_report, stopped, text_of, trail_in};
 ghost use Rattle.dap_history.specs.History.{History};
-ghost use Rattle.dap_history.specs.Replies.{exited_events, exception_of, reporting, stop_of, stopped_events};
+ghost use Rattle.dap_history.specs.Replies.{exited_events, exception_of, only_events, stop_of, stopped_events};
 ghost use Rattle.dap_history.specs.Readings.{waiting_pause};
 ghost use Rattle.dap_history.specs.Reports.{continued_effect, held_effect, outputs, stopped_effect};
 ghost use Rattle.dap_replies.specs.Runs.{heading_in, with_waiting};
@@ -21,7 +21,7 @@ use crate::run::Run;
 use dap_history::reading_laws;
 use dap_msg::{EventBody, Exception, Items, StopReason};
 use dbg_plan::Reason;
-use dbg_runner::{Report, SliceOutcome, StoppedDebuggee};
+use dbg_runner::{ConsideredDebuggee, Report, SliceOutcome};
 use pl0_meaning::RunFault;
 use std::alloc::{AllocError, Global};
 
@@ -59,7 +59,7 @@ fn keep_running(
     report: &Report,
 ) -> Result<Effect, AllocError>
     ensures follows { IfOk result (FollowsReport target run report.now
-        (λ past. reporting (outputs past (plain_report report.now)))) }
+        (λ past. only_events (outputs past (plain_report report.now)))) }
     ensures enough { IsQuiet (plain_report report.now) → IsOkAnd result (λ done. done.events ≡ []) }
 {
     reading_laws();
@@ -99,7 +99,7 @@ fn stand(
 }
 
 /// Returns the phase of a program that stands for this reason.
-fn standing(target: Target, debuggee: StoppedDebuggee, reason: StopReason) -> Phase
+fn standing(target: Target, debuggee: ConsideredDebuggee, reason: StopReason) -> Phase
     ensures { result ≡ standing target debuggee reason }
 {
     match reason {
@@ -156,7 +156,7 @@ fn begin_again(
 /// The program has ended.
 fn end(alloc: Global, target: Target, run: Run, report: &Report) -> Result<Effect, AllocError>
     ensures { IfOk result (FollowsReport target run report.now
-        (λ past. reporting (outputs past (plain_report report.now) ++ exited_events 0))) }
+        (λ past. only_events (outputs past (plain_report report.now) ++ exited_events 0))) }
 {
     reading_laws();
     let mut events = outputs(alloc, target.told, report)?;
@@ -177,7 +177,7 @@ fn fresh(told: u64, report: &Report) -> &[i64]
     ensures few { told + length result.now < 2 ^ 64 }
 {
     let numbers = report.numbers();
-    let skipped = told.saturating_sub(report.summary().before);
+    let skipped = told.saturating_sub(report.summary().numbers_before);
     if skipped < numbers.len() as u64 {
         &numbers[skipped as usize..]
     } else {
@@ -231,7 +231,7 @@ fn exception(fault: RunFault) -> Exception
 }
 
 /// Takes the debuggee out of the report, and puts the plan that waited into it.
-fn take_back(run: Run, report: Report) -> StoppedDebuggee
+fn take_back(run: Run, report: Report) -> ConsideredDebuggee
     requires stops { Stops report.outcome }
     requires text { text_of report.unit ≡ text_of run.unit }
     ensures { result ≡ with_waiting run.waiting_plan (stopped report (trail_in report.debuggee)) }

@@ -9,7 +9,7 @@ ghost use Rattle.dbg_plan.specs.Plans.{Listed};
 ghost use Rattle.dap_replies.specs.Runs.{with_waiting};
 
 use dbg_plan::{Debuggee, Mode, Plan, same_plan, share_plan};
-use dbg_runner::{Order, Report, StoppedDebuggee, goes_back};
+use dbg_runner::{ConsideredDebuggee, Order, Report, goes_back};
 use pl0_code::code_laws;
 use pl0_unit::Unit;
 use std::alloc::AllocError;
@@ -65,7 +65,7 @@ impl Run {
     /// An allocation failed. The debuggee is dropped then.
     pub fn begin(
         number: u64,
-        debuggee: StoppedDebuggee,
+        debuggee: ConsideredDebuggee,
         mode: Mode,
     ) -> Result<(Run, Order), AllocError>
         ensures run { IfOk result (λ r. r.0 ≡ begun_run debuggee mode) }
@@ -169,7 +169,7 @@ impl Run {
     }
 
     /// Puts the plan that waits, if there is one, into the debuggee that the runner returned.
-    pub fn take_back(self, debuggee: Box<Debuggee>) -> StoppedDebuggee
+    pub fn take_back(self, debuggee: Box<Debuggee>) -> ConsideredDebuggee
         requires considered { IsConsidered debuggee.value }
         requires text { text_of debuggee.value.unit ≡ text_of self.unit }
         ensures { result ≡ with_waiting self.waiting_plan debuggee.value }
@@ -180,17 +180,17 @@ impl Run {
 }
 
 /// Puts a plan, if there is one, into a debuggee.
-fn with_plan(mut debuggee: Box<Debuggee>, plan: Option<Arc<Plan>>) -> StoppedDebuggee
+fn with_plan(mut debuggee: Box<Debuggee>, plan: Option<Arc<Plan>>) -> ConsideredDebuggee
     requires considered { IsConsidered debuggee.value }
     requires fits { MayBePlanOf debuggee.value.unit (option_map arc_value plan) }
     ensures { result ≡ with_waiting (option_map (λ (p : Listed). plain_breakpoints p.breakpoints)
         (option_map arc_value plan)) debuggee.value }
 {
     match plan {
-        None => StoppedDebuggee::new(debuggee),
+        None => ConsideredDebuggee::new(debuggee),
         Some(plan) => {
             debuggee.set_plan(plan);
-            StoppedDebuggee::new(debuggee)
+            ConsideredDebuggee::new(debuggee)
         }
     }
 }

@@ -18,7 +18,7 @@ use crate::unstarted::Unstarted;
 use dap_history::reading_laws;
 use dap_msg::{Body, EventBody, Items, ResumeKind, RetreatKind};
 use dbg_plan::{Logs, Mode, Reason};
-use dbg_runner::StoppedDebuggee;
+use dbg_runner::ConsideredDebuggee;
 use std::alloc::{AllocError, Global};
 use std::sync::Arc;
 
@@ -65,7 +65,7 @@ fn first_mode(target: &Target) -> Mode
 /// Returns what breakpoints of a debuggee logged, as events.
 fn logged(
     alloc: Global,
-    debuggee: &StoppedDebuggee,
+    debuggee: &ConsideredDebuggee,
     logs: &Logs,
 ) -> Result<Vec<EventBody>, AllocError>
     ensures { IfOk result (λ events. events.items ≡ log_events debuggee.now.breakpoints logs.now) }
@@ -83,7 +83,7 @@ fn logged(
 /// Returns the reply with these events, after which the program stops where it stands.
 fn stop(
     target: Target,
-    debuggee: StoppedDebuggee,
+    debuggee: ConsideredDebuggee,
     reason: Reason,
     mut events: Vec<EventBody>,
 ) -> Result<Reply, AllocError>
@@ -139,7 +139,7 @@ pub(crate) fn retreat(alloc: Global, phase: Phase, kind: RetreatKind) -> Result<
 fn back(
     alloc: Global,
     target: Target,
-    debuggee: StoppedDebuggee,
+    debuggee: ConsideredDebuggee,
     kind: RetreatKind,
 ) -> Result<Reply, AllocError>
     ensures stop { IfOk result (Carries (phase_is.Stopped target debuggee) (reaction_is.Retreat kind)) }
@@ -209,7 +209,7 @@ pub(crate) fn end(alloc: Global, phase: Phase, kind: ResumeKind) -> Result<Reply
 fn conclude(
     alloc: Global,
     target: Target,
-    debuggee: StoppedDebuggee,
+    debuggee: ConsideredDebuggee,
     body: Body,
 ) -> Result<Reply, AllocError>
     ensures { IfOk result (HasEnded target debuggee.unit body) }
@@ -233,7 +233,7 @@ fn conclude(
 /// An allocation failed, or no run number is left.
 fn go(
     target: Target,
-    debuggee: StoppedDebuggee,
+    debuggee: ConsideredDebuggee,
     mode: Mode,
     body: Body,
     events: Vec<EventBody>,

@@ -3,7 +3,7 @@
 ghost use Rattle.std.specs.Prelude.{◌≡◌};
 
 use dbg_plan::{Debuggee, Logs, Mode, Plan, Reason};
-use dbg_runner::StoppedDebuggee;
+use dbg_runner::ConsideredDebuggee;
 use pl0_machine::Machine;
 use pl0_unit::Unit;
 use std::alloc::{AllocError, Global};
@@ -76,13 +76,13 @@ impl Unstarted {
 
     /// Considers the position where the program stands, and returns why it is due, if it is. `logs` then holds what it
     /// logs.
-    pub fn consider(self, mode: Mode, logs: &mut Logs) -> (Option<Reason>, StoppedDebuggee)
+    pub fn consider(self, mode: Mode, logs: &mut Logs) -> (Option<Reason>, ConsideredDebuggee)
         ensures due { result.0 ≡ due_now self mode }
         ensures logs { logs.new ≡ logs_now self }
         ensures considered { result.1 ≡ record self { next = self.next + 1 } }
     {
         let mut debuggee = self.debuggee;
         let reason = debuggee.consider(mode, logs);
-        (reason, StoppedDebuggee::new(debuggee))
+        (reason, ConsideredDebuggee::new(debuggee))
     }
 }

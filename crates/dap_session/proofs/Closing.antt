@@ -9,7 +9,7 @@ use Rattle.dap_history.specs.declared.fault.SessionFault.{SessionFault}
 use Rattle.dap_history.specs.History.{Item, Step, History}
 use Rattle.dap_history.specs.Readings.{closing}
 use Rattle.dap_history.specs.ReadingLaws.{ReadingsGoOn}
-use Rattle.dap_history.specs.Replies.{ordering}
+use Rattle.dap_history.specs.Replies.{only_orders}
 use Rattle.dap_history.specs.Emission.{IsAfter}
 use Rattle.dap_history.specs.Events.{Incoming, Rest, IsTaking, LeadsByEvent}
 use Rattle.dap_session.specs.Ports.{Written, PushedOrders, ports}
@@ -23,7 +23,7 @@ use Rattle.dap_session.proofs.Joining.{sends_nothing}
 
 -- the step of an item that ends the input
 abbrev pub closing_step : Item → Step
-closing_step item = record { item = item; answer = None; effect = ordering (Quit ∷ []) }
+closing_step item = record { item = item; answer = None; effect = only_orders (Quit ∷ []) }
 
 -- an event that ends the input
 pub record EndsInput (f : FirstSeq) (past : History) (rest : Rest) (event : Incoming) (item : Item) (closed : Closed)

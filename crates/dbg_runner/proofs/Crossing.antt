@@ -12,7 +12,7 @@ use Rattle.dbg_plan.specs.contracts.trail.Trail as Trail
 use Rattle.dbg_plan.specs.contracts.plan.Plan as Plan
 use Rattle.dbg_plan.specs.contracts.debuggee.Debuggee as Debuggee
 use Rattle.dbg_runner.specs.contracts.report.Report as Report
-use Rattle.dbg_runner.specs.contracts.order.StoppedDebuggee as StoppedDebuggee
+use Rattle.dbg_runner.specs.contracts.order.ConsideredDebuggee as ConsideredDebuggee
 use Rattle.dbg_runner.specs.contracts.order.Order as Order
 
 unit_send : IsSend Compiled.the_row
@@ -43,7 +43,7 @@ report_send =
     let a = debuggee_send in let b = unit_send in let c = unit_sync in let d = plan_send in let e = plan_sync in search
     (crosses, sendable) depth 60 fits 20000
 
-considered_send : IsSend StoppedDebuggee.the_field.row
+considered_send : IsSend ConsideredDebuggee.the_field.row
 considered_send = let a = debuggee_send in search (crosses, sendable) depth 60 fits 20000
 
 pub order_send : IsSend Order.the_row

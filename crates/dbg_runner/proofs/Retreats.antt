@@ -17,17 +17,18 @@ before_by n d again (Searches found) on = omega (arith, on.1)
 before_by n d again (Returns to why) on = let within = on.1 in omega (arith, on.0)
 
 module _ (r : Inside) (inv : IsRetreat r) where
-  few_in : (w : Option Way) → IsAt r.mode r.start r.debuggee.value r.again w → r.again ≤ 2 * r.start
+  few_in : (w : Option Way) → IsAt r.mode r.start r.debuggee.value r.steps_rerun w → r.steps_rerun ≤ 2 * r.start
   few_in None at = omega (arith, at.1)
-  few_in (Some w) at = few_by r.start r.debuggee.value r.again w at.0
+  few_in (Some w) at = few_by r.start r.debuggee.value r.steps_rerun w at.0
 
   -- no more steps are run again than that
-  pub few : r.again ≤ 2 * r.start
+  pub few : r.steps_rerun ≤ 2 * r.start
   few = few_in r.way inv.at
 
-  before_in : (w : Option Way) → IsAt r.mode r.start r.debuggee.value r.again w → r.debuggee.value.position ≤ r.start
+  before_in : (w : Option Way) → IsAt r.mode r.start r.debuggee.value r.steps_rerun w
+      → r.debuggee.value.position ≤ r.start
   before_in None at = omega (arith, at.0)
-  before_in (Some w) at = before_by r.start r.debuggee.value r.again w at.0
+  before_in (Some w) at = before_by r.start r.debuggee.value r.steps_rerun w at.0
 
   pub stands_before : r.debuggee.value.position ≤ r.start
   stands_before = before_in r.way inv.at
@@ -69,7 +70,7 @@ module _ (r : Inside) (inv : IsRetreat r) where
     -- it goes on
     pub goes_on : (shared : Subject) → unit_in shared ≡ r.debuggee.value.unit
         → plan_in shared ≡ r.debuggee.value.breakpoints → debuggee_in shared ≡ None → end ≡ r.start
-        → slice_limit ≤ r.again → IsReport (reported_with (of out.More) [] [] shared)
+        → slice_limit ≤ r.steps_rerun → IsReport (reported_with (of out.More) [] [] shared)
     goes_on shared unit plan none stays all =
         subst IsReport
         (λ i. record (report_with out.More None) { unit = sym unit i; plan = sym plan i; debuggee = sym none i })

@@ -71,7 +71,7 @@ retreating_of r =
       counted_from = r.counted_from;
       mode = r.mode;
       start = r.start;
-      again = r.again;
+      steps_rerun = r.steps_rerun;
       position = r.debuggee.value.position;
       trail = r.debuggee.value.trail;
     }
@@ -80,6 +80,6 @@ pub record IsRetreat (r : Inside) : Type 0 where
   pub goes_back : goes_back r.mode ≡ true
   pub begun : RunsAt (debugged_program r.debuggee.value) r.start
   pub bounded : r.start ≤ last_position
-  pub before : r.before ≡ length (written (debugged_program r.debuggee.value) 0 r.start)
+  pub before : r.numbers_before ≡ length (written (debugged_program r.debuggee.value) 0 r.start)
   pub considered : IsConsidered r.debuggee.value
-  pub at : IsAt r.mode r.start r.debuggee.value r.again r.way
+  pub at : IsAt r.mode r.start r.debuggee.value r.steps_rerun r.way

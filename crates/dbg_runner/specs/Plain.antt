@@ -38,8 +38,9 @@ pub record Heading : Type 0 where
   pub mode : Mode
   pub start : ℕ
 
--- A report: it goes from position `start`, up to which the program wrote `before` numbers, to position `end`. In a run
--- that goes back, `again` steps were run again so far. It wrote these numbers, logged this where it ends, and ended so.
+-- A report: it goes from position `start`, up to which the program wrote `numbers_before` numbers, to position `end`.
+-- In a run that goes back, `steps_rerun` steps were run again so far. It wrote these numbers, logged this where it
+-- ends, and ended so.
 pub record PlainReport : Type 0 where
   pub run : ℕ
   pub text : List ℕ
@@ -48,8 +49,8 @@ pub record PlainReport : Type 0 where
   pub mode : Mode
   pub start : ℕ
   pub end : ℕ
-  pub before : ℕ
-  pub again : ℕ
+  pub numbers_before : ℕ
+  pub steps_rerun : ℕ
   pub numbers : List ℤ
   pub logs : List Log
   pub outcome : SliceOutcome

@@ -23,8 +23,8 @@ pub record Reported : Type 0 where
   pub mode : Mode
   pub start : ℕ
   pub end : ℕ
-  pub before : ℕ
-  pub again : ℕ
+  pub numbers_before : ℕ
+  pub steps_rerun : ℕ
   pub numbers : List ℤ
   pub logs : List Log
   pub outcome : SliceOutcome
@@ -43,8 +43,8 @@ plain_report r =
       mode = r.mode;
       start = r.start;
       end = r.end;
-      before = r.before;
-      again = r.again;
+      numbers_before = r.numbers_before;
+      steps_rerun = r.steps_rerun;
       numbers = r.numbers;
       logs = r.logs;
       outcome = r.outcome;
@@ -59,8 +59,8 @@ summary_of r =
       mode = r.mode;
       start = r.start;
       end = r.end;
-      before = r.before;
-      again = r.again;
+      numbers_before = r.numbers_before;
+      steps_rerun = r.steps_rerun;
       outcome = r.outcome;
     }
 
@@ -97,8 +97,8 @@ unsliced run mode d outcome =
       mode = mode;
       start = d.position;
       end = d.position;
-      before = written_before d;
-      again = 0;
+      numbers_before = written_before d;
+      steps_rerun = 0;
       numbers = [];
       logs = [];
       outcome = outcome;

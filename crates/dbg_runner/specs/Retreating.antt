@@ -18,14 +18,14 @@ use Rattle.dbg_runner.specs.Plain.{Heading}
 use Rattle.dbg_runner.specs.Reported.{text_of}
 
 -- A run that goes back in this mode, from position `start`, under a plan that counted from position `counted_from`
--- there. It has run `again` steps again so far, and its debuggee stands at `position`.
+-- there. It has run `steps_rerun` steps again so far, and its debuggee stands at `position`.
 pub record Retreating : Type 0 where
   pub unit : Compiled
   pub breakpoints : List Breakpoint
   pub counted_from : ℕ
   pub mode : Mode
   pub start : ℕ
-  pub again : ℕ
+  pub steps_rerun : ℕ
   pub position : ℕ
   pub trail : Trail
 
@@ -58,7 +58,7 @@ turned d mode =
       counted_from = d.counted_from;
       mode = mode;
       start = d.position;
-      again = 0;
+      steps_rerun = 0;
       position = d.position;
       trail = d.trail;
     }
@@ -84,9 +84,9 @@ summary_back run b end outcome =
       mode = b.mode;
       start = b.start;
       end = end;
-      before = length
+      numbers_before = length
           (written (program_of b.unit) 0 b.start);
-      again = b.again;
+      steps_rerun = b.steps_rerun;
       outcome = outcome;
     }
 
@@ -107,24 +107,24 @@ pub record IsRoomFor (room : Room) (b : Retreating) : Type 0 where
 
 -- the run after it ran more steps again, this many in all
 abbrev pub having_run : Retreating → ℕ → ℕ → Retreating
-having_run b again position = record b { again = again; position = position }
+having_run b steps position = record b { steps_rerun = steps; position = position }
 
 -- At most a slice's steps were run again, and all of them where the run doesn't stop. Where it stops, for this reason,
 -- the trail says how many were in all.
 abbrev pub RanBack : Retreating → Option Reason → Retreating → Type 0
-RanBack old None new = new ≡ having_run old (old.again + slice_limit) new.position
+RanBack old None new = new ≡ having_run old (old.steps_rerun + slice_limit) new.position
 RanBack old (Some reason) new =
-    (new ≡ having_run old new.again new.position)
-    × (old.again ≤ new.again)
-    × (new.again ≡ steps_again old.trail.kept old.mode old.start new.position)
-    × (new.again ≤ old.again + slice_limit)
+    (new ≡ having_run old new.steps_rerun new.position)
+    × (old.steps_rerun ≤ new.steps_rerun)
+    × (new.steps_rerun ≡ steps_again old.trail.kept old.mode old.start new.position)
+    × (new.steps_rerun ≤ old.steps_rerun + slice_limit)
     × (goal_of (program_of old.unit) old.breakpoints old.mode old.start ≡ Some
     (record { position = new.position; reason = reason }))
 
 -- The run after a slice, if it goes on. Then the slice ran all its steps again, wherever they led. Such a run isn't
 -- held, comes to no end of the program, and meets no fault.
 abbrev pub GoesOnBack : Retreating → SliceOutcome → Option Retreating → Type 0
-GoesOnBack b out.More (Some on) = on ≡ having_run b (b.again + slice_limit) on.position
+GoesOnBack b out.More (Some on) = on ≡ having_run b (b.steps_rerun + slice_limit) on.position
 GoesOnBack b out.More None = ⊥
 GoesOnBack b (out.Due reason) on = on ≡ None
 GoesOnBack b out.NoMemory on = on ≡ None

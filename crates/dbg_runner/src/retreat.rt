@@ -37,10 +37,10 @@ pub struct Retreat {
     mode: Mode,
     // Where it began, how many numbers were written up to there, and from where the plan counted there.
     start: u64,
-    before: u64,
+    numbers_before: u64,
     counted_from: u64,
     // How many steps it ran again so far.
-    again: u64,
+    steps_rerun: u64,
     // None before the first slice.
     way: Option<Way>,
 }
@@ -82,15 +82,15 @@ impl Retreat {
         ensures { result ≡ turned debuggee.value mode }
     {
         let start = debuggee.machine().position();
-        let before = debuggee.machine().written();
+        let numbers_before = debuggee.machine().written();
         let counted_from = debuggee.counted_from();
         Retreat {
             debuggee,
             mode,
             start,
-            before,
+            numbers_before,
             counted_from,
-            again: 0,
+            steps_rerun: 0,
             way: None,
         }
     }
@@ -105,9 +105,9 @@ impl Retreat {
 
     /// Does nothing: its contract bounds how many steps are run again, since a position is bounded.
     pub(crate) fn bounds_steps(&self)
-        ensures { self.now.again ≤ 2 * last_position }
+        ensures { self.now.steps_rerun ≤ 2 * last_position }
     {
-        let _again = self.again;
+        let _again = self.steps_rerun;
     }
 
     /// Returns the summary of its report, if it ends so.
@@ -120,8 +120,8 @@ impl Retreat {
             mode: self.mode,
             start: self.start,
             end,
-            before: self.before,
-            again: self.again,
+            numbers_before: self.numbers_before,
+            steps_rerun: self.steps_rerun,
             outcome,
         }
     }
@@ -137,9 +137,9 @@ impl Retreat {
             None => begin(debuggee, outputs, self.mode),
             Some(way) => way,
         };
-        let (way, again) = run_again(debuggee, outputs, self.start, self.again, way);
+        let (way, again) = run_again(debuggee, outputs, self.start, self.steps_rerun, way);
         self.way = Some(way);
-        self.again = again;
+        self.steps_rerun = again;
         arrival(way, self.debuggee.machine().position())
     }
 
@@ -172,7 +172,7 @@ impl Retreat {
         ensures of { IsReportOf (heading_back run self) (plain_report result) }
         ensures outcome { result.outcome ≡ out.Due reason }
         ensures end { result.end ≡ self.position }
-        ensures again { result.again ≡ self.again }
+        ensures again { result.steps_rerun ≡ self.steps_rerun }
         ensures trail { IfSome result.debuggee (λ d. d.trail ≡ self.trail) }
     {
         let end = self.debuggee.machine().position();
@@ -186,7 +186,7 @@ impl Retreat {
     fn give_up(self, run: u64) -> Report
         ensures of { IsReportOf (heading_back run self) (plain_report result) }
         ensures outcome { result.outcome ≡ out.NoMemory }
-        ensures again { result.again ≡ self.again }
+        ensures again { result.steps_rerun ≡ self.steps_rerun }
         ensures given_up { IfSome result.debuggee (λ d. IsDebuggeeOf self d) }
     {
         let summary = self.summary(run, self.start, SliceOutcome::NoMemory);

@@ -1,7 +1,7 @@
 //! Debuggees that a run begins with, and a slice of such a run.
 
 use dbg_plan::{Logs, Mode, Reason, SourceBreakpoint};
-use dbg_runner::{Buffers, Outputs, Report, SliceOutcome, StoppedDebuggee, slice};
+use dbg_runner::{Buffers, ConsideredDebuggee, Outputs, Report, SliceOutcome, slice};
 use std::alloc::Global;
 use std::process::Abort;
 use test_kit::{Asked, breakpoints_at, debuggee_of, put_in};
@@ -22,14 +22,14 @@ pub fn begun(
     text: &str,
     breakpoints: &[SourceBreakpoint],
     mode: Mode,
-) -> (StoppedDebuggee, Option<Reason>) {
+) -> (ConsideredDebuggee, Option<Reason>) {
     let mut debuggee = debuggee_of(alloc, text).expect(rt, "a lawful text");
     let _ = put_in(alloc, &mut debuggee, breakpoints).expect(rt, "a plan");
     assert!(rt; debuggee.machine().depth() > 0);
     let mut logs = Logs::new(alloc).expect(rt, "memory");
     let reason = debuggee.consider(mode, &mut logs);
     let debuggee = Box::new(alloc, debuggee).expect(rt, "memory");
-    (StoppedDebuggee::new(debuggee), reason)
+    (ConsideredDebuggee::new(debuggee), reason)
 }
 
 /// Returns such a debuggee under breakpoints as they are asked for.
@@ -39,7 +39,7 @@ pub fn begin(
     text: &str,
     asked: &[Asked],
     mode: Mode,
-) -> (StoppedDebuggee, Option<Reason>) {
+) -> (ConsideredDebuggee, Option<Reason>) {
     let breakpoints = breakpoints_at(alloc, asked).expect(rt, "memory");
     begun(rt, alloc, text, &breakpoints, mode)
 }
@@ -48,11 +48,11 @@ pub fn begin(
 pub fn onward(
     rt: &impl Abort,
     alloc: Global,
-    debuggee: StoppedDebuggee,
-) -> (Report, Option<StoppedDebuggee>) {
+    debuggee: ConsideredDebuggee,
+) -> (Report, Option<ConsideredDebuggee>) {
     let debuggee = debuggee.into_debuggee();
     let mut buffers = Buffers::new();
     let outputs = Outputs::new(alloc, &*debuggee, &mut buffers).expect(rt, "memory");
     let (report, on) = slice(1, debuggee, Mode::Continue, outputs, &mut buffers);
-    (report, on.map(StoppedDebuggee::new))
+    (report, on.map(ConsideredDebuggee::new))
 }

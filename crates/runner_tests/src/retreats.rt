@@ -3,7 +3,7 @@
 use crate::begun::{BREAKPOINT, ENTRY, STEP, begin, onward};
 use dbg_plan::{Log, Mode, Plan, log_text};
 use dbg_runner::{
-    Buffers, Joined, Report, Retreat, SliceOutcome, StoppedDebuggee, Summary, goes_back, work,
+    Buffers, ConsideredDebuggee, Joined, Report, Retreat, SliceOutcome, Summary, goes_back, work,
 };
 use sample_programs::{LONG_LOOP, LOOP, RECURSIVE};
 use std::alloc::Global;
@@ -34,7 +34,7 @@ fn assert_report(
     let summary = report.summary();
     let text = text_of(rt, alloc, report.plan(), report.logs());
     assert_eq!(rt; (summary.end, summary.outcome, text.as_str()), wanted);
-    assert_eq!(rt; summary.again, 0);
+    assert_eq!(rt; summary.steps_rerun, 0);
 }
 
 /// The slices of the loop under a log point: where each ends, how, and what it logs.
@@ -76,7 +76,7 @@ fn ends_slices_at_logs(rt: HostRuntime) {
 const SLICES: u64 = 10_000;
 
 /// Runs a debuggee back in this mode, or on in the mode `Continue`, and returns the last report.
-fn run(rt: &impl Abort, alloc: Global, debuggee: StoppedDebuggee, mode: Mode) -> Report {
+fn run(rt: &impl Abort, alloc: Global, debuggee: ConsideredDebuggee, mode: Mode) -> Report {
     if goes_back(mode) {
         return run_back(rt, alloc, Retreat::new(debuggee.into_debuggee(), mode));
     }
@@ -106,7 +106,10 @@ fn run_back(rt: &impl Abort, alloc: Global, retreat: Retreat) -> Report {
             (summary.outcome, summary.end),
             (SliceOutcome::More, summary.start)
         );
-        assert_eq!(rt; summary.again, slices.saturating_add(1).saturating_mul(256));
+        assert_eq!(rt;
+            summary.steps_rerun,
+            slices.saturating_add(1).saturating_mul(256)
+        );
     }
     panic!(rt; "no end")
 }
@@ -116,15 +119,18 @@ fn run_back(rt: &impl Abort, alloc: Global, retreat: Retreat) -> Report {
 type Run<'a> = (Mode, u64, SliceOutcome, u64, &'a [i64], u64);
 
 /// Runs a debuggee in one mode after the other.
-fn assert_runs(rt: &impl Abort, alloc: Global, debuggee: StoppedDebuggee, wanted: &[Run]) {
+fn assert_runs(rt: &impl Abort, alloc: Global, debuggee: ConsideredDebuggee, wanted: &[Run]) {
     let mut next = Some(debuggee);
     for (mode, end, outcome, before, numbers, again) in wanted {
         let report = run(rt, alloc, next.take().expect(rt, "a stop"), *mode);
         let summary: Summary = report.summary();
         assert_eq!(rt; (summary.end, summary.outcome), (*end, *outcome));
-        assert_eq!(rt; (summary.before, summary.again), (*before, *again));
+        assert_eq!(rt;
+            (summary.numbers_before, summary.steps_rerun),
+            (*before, *again)
+        );
         assert_eq!(rt; report.numbers(), *numbers);
-        next = report.into_debuggee().map(StoppedDebuggee::new);
+        next = report.into_debuggee().map(ConsideredDebuggee::new);
     }
 }
 
@@ -180,7 +186,7 @@ fn counts_begin_anew_after_a_stop(rt: HostRuntime) {
 fn ordered<R: Abort + Wait>(
     rt: &R,
     alloc: Global,
-    debuggee: StoppedDebuggee,
+    debuggee: ConsideredDebuggee,
     mode: Mode,
 ) -> (Report, u64) {
     let holds = [(1, 7)];
@@ -208,10 +214,10 @@ fn assert_counts<R: Abort + Wait>(rt: &R, alloc: Global, stops: &[Asked], turns:
         let (report, count) = ordered(rt, alloc, debuggee, *mode);
         let summary = report.summary();
         assert_eq!(rt;
-            (summary.end, summary.again, count),
+            (summary.end, summary.steps_rerun, count),
             (*end, *again, *reports)
         );
-        next = report.into_debuggee().map(StoppedDebuggee::new);
+        next = report.into_debuggee().map(ConsideredDebuggee::new);
     }
 }
 

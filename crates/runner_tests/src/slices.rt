@@ -5,7 +5,7 @@ ghost use Rattle.dbg_runner.specs.Plain.{goes_back};
 
 use crate::begun::{BREAKPOINT, FOREVER, STEP, begin, begun};
 use dbg_plan::{Mode, Reason, SourceBreakpoint};
-use dbg_runner::{Buffers, Outputs, SliceOutcome, StoppedDebuggee, goes_back, slice};
+use dbg_runner::{Buffers, ConsideredDebuggee, Outputs, SliceOutcome, goes_back, slice};
 use pl0_meaning::RunFault;
 use sample_programs::{LOOP, RECURSIVE};
 use std::alloc::Global;
@@ -23,11 +23,11 @@ struct Seen {
 fn run_slice(
     rt: &impl Abort,
     alloc: Global,
-    debuggee: StoppedDebuggee,
+    debuggee: ConsideredDebuggee,
     mode: Mode,
     buffers: &mut Buffers,
     seen: &mut Seen,
-) -> (Option<StoppedDebuggee>, Option<StoppedDebuggee>)
+) -> (Option<ConsideredDebuggee>, Option<ConsideredDebuggee>)
     requires { goes_back mode ≡ false }
 {
     let debuggee = debuggee.into_debuggee();
@@ -41,8 +41,8 @@ fn run_slice(
         .extend_from_slice(report.numbers())
         .expect(rt, "memory");
     match on {
-        Some(debuggee) => (Some(StoppedDebuggee::new(debuggee)), None),
-        None => (None, report.into_debuggee().map(StoppedDebuggee::new)),
+        Some(debuggee) => (Some(ConsideredDebuggee::new(debuggee)), None),
+        None => (None, report.into_debuggee().map(ConsideredDebuggee::new)),
     }
 }
 
@@ -50,10 +50,10 @@ fn run_slice(
 fn run(
     rt: &impl Abort,
     alloc: Global,
-    debuggee: StoppedDebuggee,
+    debuggee: ConsideredDebuggee,
     mode: Mode,
     seen: &mut Seen,
-) -> Option<StoppedDebuggee>
+) -> Option<ConsideredDebuggee>
     requires { goes_back mode ≡ false }
 {
     let mut next = debuggee;
@@ -76,7 +76,7 @@ fn nothing_seen(alloc: Global) -> Seen {
 }
 
 /// Runs a debuggee in mode Continue from stop to stop, at most ten times.
-fn run_on(rt: &impl Abort, alloc: Global, debuggee: StoppedDebuggee, seen: &mut Seen) {
+fn run_on(rt: &impl Abort, alloc: Global, debuggee: ConsideredDebuggee, seen: &mut Seen) {
     let mut next = debuggee;
     for _ in 0..10u32 {
         let stopped = run(rt, alloc, next, Mode::Continue, seen);
@@ -173,7 +173,7 @@ fn writes_what_the_steps_write(rt: HostRuntime) {
 type Step = (Mode, u64, SliceOutcome);
 
 /// Runs a debuggee in one mode after the other.
-fn assert_runs(rt: &impl Abort, alloc: Global, debuggee: StoppedDebuggee, wanted: &[Step]) {
+fn assert_runs(rt: &impl Abort, alloc: Global, debuggee: ConsideredDebuggee, wanted: &[Step]) {
     let mut next = Some(debuggee);
     for (mode, finish, ends) in wanted {
         assert!(rt; !goes_back(*mode));

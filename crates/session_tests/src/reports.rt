@@ -5,7 +5,7 @@ ghost use Rattle.dbg_runner.specs.Plain.{goes_back};
 
 use dap_session::Report;
 use dbg_plan::{Debuggee, Logs, Mode, SourceBreakpoint, resolve};
-use dbg_runner::{Buffers, StoppedDebuggee, next_report};
+use dbg_runner::{Buffers, ConsideredDebuggee, next_report};
 use pl0_code::compile;
 use pl0_machine::Machine;
 use pl0_syntax::parse;
@@ -72,7 +72,7 @@ fn debuggee_at(
     text: &str,
     lines: &str,
     start: u64,
-) -> StoppedDebuggee {
+) -> ConsideredDebuggee {
     let tree = parse(alloc, text.as_bytes()).expect(rt, "a lawful text");
     let unit = Arc::new(alloc, compile(alloc, tree).expect(rt, "memory")).expect(rt, "memory");
     let machine = Machine::new(alloc, unit).expect(rt, "memory");
@@ -89,7 +89,7 @@ fn begun(
     alloc: Global,
     machine: Machine,
     asked: &[SourceBreakpoint],
-) -> StoppedDebuggee {
+) -> ConsideredDebuggee {
     assert!(rt; asked.len() <= 256);
     let (plan, _) = resolve(alloc, machine.unit(), asked).expect(rt, "memory");
     let plan = Arc::new(alloc, plan).expect(rt, "memory");
@@ -98,11 +98,11 @@ fn begun(
     debuggee.set_plan(plan);
     let mut logs = Logs::new(alloc).expect(rt, "memory");
     debuggee.consider(Mode::Continue, &mut logs);
-    StoppedDebuggee::new(Box::new(alloc, debuggee).expect(rt, "memory"))
+    ConsideredDebuggee::new(Box::new(alloc, debuggee).expect(rt, "memory"))
 }
 
 /// The program a step later.
-fn stepped(rt: &impl Abort, alloc: Global, debuggee: StoppedDebuggee) -> StoppedDebuggee {
+fn stepped(rt: &impl Abort, alloc: Global, debuggee: ConsideredDebuggee) -> ConsideredDebuggee {
     let (report, _) = next_report(
         alloc,
         0,
@@ -110,6 +110,6 @@ fn stepped(rt: &impl Abort, alloc: Global, debuggee: StoppedDebuggee) -> Stopped
         Mode::In,
         &mut Buffers::new(),
     );
-    let debuggee = report.into_debuggee().map(StoppedDebuggee::new);
+    let debuggee = report.into_debuggee().map(ConsideredDebuggee::new);
     debuggee.expect(rt, "a step")
 }

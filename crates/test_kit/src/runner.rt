@@ -4,14 +4,14 @@ ghost use Rattle.std.specs.Prelude.{◌≡◌, false};
 ghost use Rattle.dbg_runner.specs.Plain.{goes_back};
 
 use dbg_plan::Mode;
-use dbg_runner::{Buffers, Order, Report, Retreat, StoppedDebuggee, next_report};
+use dbg_runner::{Buffers, ConsideredDebuggee, Order, Report, Retreat, next_report};
 use std::alloc::Global;
 use std::cell::Cell;
 
 /// A run that goes on.
 #[derive(Drop)]
 struct Onward {
-    debuggee: StoppedDebuggee,
+    debuggee: ConsideredDebuggee,
     mode: Mode,
     ghost onward: { goes_back mode ≡ false },
 }
@@ -94,7 +94,7 @@ fn report_next(alloc: Global, running: Running) -> (Report, Option<Running>) {
                 Some(debuggee) => Some(Running {
                     run,
                     course: Course::On(Onward {
-                        debuggee: StoppedDebuggee::new(debuggee),
+                        debuggee: ConsideredDebuggee::new(debuggee),
                         mode,
                     }),
                     begun: true,
@@ -128,7 +128,7 @@ fn report_no_memory(running: Running) -> Option<Report> {
 }
 
 /// Which way a run in a mode goes.
-fn course_of(debuggee: StoppedDebuggee, mode: Mode) -> Course {
+fn course_of(debuggee: ConsideredDebuggee, mode: Mode) -> Course {
     match mode {
         Mode::Entry => Course::On(Onward { debuggee, mode }),
         Mode::Continue => Course::On(Onward { debuggee, mode }),

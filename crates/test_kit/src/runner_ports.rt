@@ -1,14 +1,14 @@
 //! The ports of a runner that works, in memory.
 
 use dbg_plan::Mode;
-use dbg_runner::{Gate, GhostList, Order, OrdersIn, Report, Reports, StoppedDebuggee};
+use dbg_runner::{ConsideredDebuggee, Gate, GhostList, Order, OrdersIn, Report, Reports};
 use std::alloc::Global;
 
 /// An order to run a debuggee as run 1, and then Quit. While it runs, a look for an order finds at most a Hold.
 #[derive(Drop)]
 pub struct OneRun<'a> {
     /// What the run begins with, until it was taken.
-    debuggee: Option<StoppedDebuggee>,
+    debuggee: Option<ConsideredDebuggee>,
     mode: Mode,
     /// A look, from 1, and the run whose Hold it finds.
     holds: &'a [(u64, u64)],
@@ -21,7 +21,7 @@ impl<'a> OneRun<'a> {
     ghost use Rattle.std.specs.Prelude.{◌≡◌, []};
 
     /// A run in this mode. Each of `holds` is a look, from 1, and the run whose Hold it finds.
-    pub fn new(debuggee: StoppedDebuggee, mode: Mode, holds: &'a [(u64, u64)]) -> OneRun<'a>
+    pub fn new(debuggee: ConsideredDebuggee, mode: Mode, holds: &'a [(u64, u64)]) -> OneRun<'a>
         ensures { result.taken.entries ≡ [] }
     {
         OneRun {

@@ -2,7 +2,7 @@ use Rattle.std.proofs.Common.{◌++◌, ◌∷◌, [], subst, sym, refl, ap, ◌
 use Rattle.std.proofs.lemmas.List.{append_assoc}
 use Rattle.dap_msg.specs.declared.outgoing.EventBody.TheVariants as event
 use Rattle.dbg_runner.specs.Reported.{plain_report}
-use Rattle.dap_history.specs.Replies.{reporting, exited_events}
+use Rattle.dap_history.specs.Replies.{exited_events, only_events}
 use Rattle.dap_history.specs.Reports.{outputs}
 use Rattle.dap_replies.specs.declared.phase.Phase.TheVariants as phase
 use Rattle.dap_replies.specs.Phases.{IsTarget, IsPhase}
@@ -27,7 +27,7 @@ returns c = λ past is.
         orders_are = refl;
       };
       phase_is =
-          subst (λ p. IsPhase p (past ++ report_step r (reporting (outputs past r ++ exited_events 0)) ∷ []))
+          subst (λ p. IsPhase p (past ++ report_step r (only_events (outputs past r ++ exited_events 0)) ∷ []))
           (sym (ap (λ t. phase.Ended t c.into_unit.result) c.tell-target.ensures))
           (record { situation_is = over.0; keeps = over.1 });
     }

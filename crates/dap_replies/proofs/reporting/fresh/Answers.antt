@@ -17,10 +17,10 @@ returns-then-skipped-numbers-clause-few c =
     omega (
       arith,
       fits,
-      length-drop (told - report.before) report.numbers,
+      length-drop (told - report.numbers_before) report.numbers,
       length-take-le (length numbers - skipped)
           (drop skipped numbers) (omega (arith, length-drop skipped numbers)),
       ap length c.numbers-numbers.ensures,
       c.saturating_sub-skipped.ensures,
-      ap (λ s. s.before) c.summary.ensures.is,
+      ap (λ s. s.numbers_before) c.summary.ensures.is,
     )

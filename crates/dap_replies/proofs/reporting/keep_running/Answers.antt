@@ -1,6 +1,6 @@
 use Rattle.std.proofs.Common.{◌++◌, ◌∷◌, [], subst, sym, refl, ap, ◌∙◌}
 use Rattle.dbg_runner.specs.Reported.{plain_report}
-use Rattle.dap_history.specs.Replies.{reporting}
+use Rattle.dap_history.specs.Replies.{only_events}
 use Rattle.dap_history.specs.Reports.{outputs}
 use Rattle.dap_replies.specs.declared.phase.Phase.TheVariants as phase
 use Rattle.dap_replies.specs.Phases.{IsPhase}
@@ -20,7 +20,7 @@ returns-clause-follows c = λ past is.
         orders_are = refl;
       };
       phase_is =
-          subst (λ p. IsPhase p (past ++ report_step r (reporting (outputs past r)) ∷ []))
+          subst (λ p. IsPhase p (past ++ report_step r (only_events (outputs past r)) ∷ []))
           (sym (ap (λ t. phase.Running t c.go_on_from.new.self) c.tell-target.ensures
           ∙ ap (phase.Running (with_told c.args.target c.args.report.now))
           (c.go_on_from.ensures ∙ ap (λ n. record c.args.run { position = n })

@@ -14,6 +14,6 @@ silent-requires c =
     let plan =
     c.finish-shared.ensures.breakpoints ∙ ap (λ (o : Room). o.breakpoints) c.run_again-arrival.ensures.room
     ∙ c.requires.breakpoints ∙ ap (λ (b : Retreating). b.breakpoints) now in
-    let again = ap (λ (b : Retreating). b.again) (c.self.view_is ∙ c.in-None.ensures.ran) in
+    let again = ap (λ (b : Retreating). b.steps_rerun) (c.self.view_is ∙ c.in-None.ensures.ran) in
     rw is (goes_on c.self.inside c.self.invariant c.args.run c.self.inside.start c.finish-shared.result.2 unit plan
     c.finish-shared.ensures.shared refl (omega (arith, again)))
