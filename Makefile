@@ -158,6 +158,7 @@ threads:
 pages:
 	python3 tools/pages.py
 	python3 tools/sizes.py
+	python3 tools/reading.py
 	python3 tools/edits.py
 	python3 tools/dead_lemmas.py
 	python3 tools/known_lemmas.py
