@@ -105,7 +105,7 @@ report_events past r slice.NoMemory none =
     sym
     (append-nil (outputs past r)
     ∙ ap (λ vs. map event.Output (drop (numbers_told past - r.numbers_before) vs) ++ log_events r.plan r.logs)
-        (none refl).0
+    (none refl).0
     ∙ ap (λ vs. map event.Output vs ++ log_events r.plan r.logs) (drop-nil (numbers_told past - r.numbers_before))
     ∙ ap (log_events r.plan) (none refl).1)
 

@@ -83,7 +83,7 @@ module _ (joins : WrittenJoins) (main : Block) (r : PlainReport)
       let total = sym (length-append (written main r.start r.end) (written main r.end furthest)) ∙ ap length inner in
       let own = ap length went.numbers in
       let enough : length r.numbers ≤ length told - r.numbers_before =
-          let l = lengths in omega (arith, l, total, own) in
+      let l = lengths in omega (arith, l, total, own) in
       let same : max furthest r.end ≡ furthest = omega (arith, within) in
       ap (λ l. told ++ l) (drop_of_length-le r.numbers enough) ∙ append-nil told ∙ told_is
       ∙ ap (written main 0) (sym same)

@@ -85,7 +85,7 @@ pub goes_on : ReadingsGoOn → (command : Command) (t : Target) (d : Debugged) (
     → numbers_in events ≡ []
     → IsTarget t d.unit past → IsDebuggee d past → HasGone t d m body events given
     → RepliesIn (situation past) past command
-        (reply_with body (goes_after events (resumes past (launched_as t d.unit) m)))
+    (reply_with body (goes_after events (resumes past (launched_as t d.unit) m)))
     → HasReplied command past given
 goes_on laws command t d m body events past given sets_none tells_none is_t is_d gone replies =
     let next = next_order t d m past is_t is_d in record {
@@ -112,7 +112,7 @@ pub stops_there : ReadingsGoOn → (command : Command) (t : Target) (d : Debugge
     (map Event (events ++ stopped_events (stop_of why))) ≡ Some situation_is.Stopped
     → IsTarget t d.unit past → IsDebuggee d past → HasStopped t d why events given
     → RepliesIn (situation past) past command
-        (reply_with body.None (only_events (events ++ stopped_events (stop_of why))))
+    (reply_with body.None (only_events (events ++ stopped_events (stop_of why))))
     → HasReplied command past given
 stops_there laws command t d why events past given sets_none tells_none mark is_t is_d stopped replies = record {
   reply = reply_with body.None (only_events (events ++ stopped_events (stop_of why)));
@@ -169,7 +169,7 @@ ends_there laws command t u body past given sets_none is_t ended replies = recor
   };
   phase_is = λ seq.
       let step = request_step (record { seq = seq; body = command })
-          (reply_with body (only_events (exited_events 1))) in
+      (reply_with body (only_events (exited_events 1))) in
       over t u (past ++ step ∷ []) given.effect.phase (laws.situation_is past step)
       (target_stays laws past step refl refl sets_none refl t u is_t) ended.phase_is;
 }

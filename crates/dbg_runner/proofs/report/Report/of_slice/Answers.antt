@@ -7,7 +7,7 @@ pub returns-clause-considered : goal.returns-clause-considered
 returns-clause-considered c =
     let report =
     sliced c.args.run c.args.mode c.args.start c.args.numbers_before c.args.outputs c.args.debuggee.value
-        c.args.outcome in
+    c.args.outcome in
     elim c.match-outcome.branch [
       | in-More w ↦ rw w.subject-is (goes_on_considered report c.args.debuggee.value c.requires.lawful w.in-More.is
           c.requires.stands)
