@@ -4,11 +4,12 @@ ghost use Rattle.std.specs.Prelude.{◌≡◌, ◌<◌, ◌≤◌, ◌+◌, ℕ,
 ghost use Rattle.std.specs.Result.{result_unwrap_or};
 ghost use Rattle.pl0_meaning.specs.Values.{comparison};
 ghost use Rattle.pl0_machine.specs.Room.{BeginsStep};
-ghost use Rattle.pl0_machine.specs.Asking.{IsInFrame, AreInFrame, MayBeInFrame, MayCount, answer_there, IsWithin, IsMark, marked_in, number_there};
+ghost use Rattle.pl0_machine.specs.Asking.{IsInFrame, AreInFrame, MayBeInFrame, MayCount, answer_there, AreTables, number_there};
 ghost use Rattle.pl0_machine.specs.Counting.{counters_of, is_due, any_due, passed_at, passed, IsCounted};
 ghost use Rattle.pl0_machine.specs.LocatedValues.{truth_by, CanTestBy, numbers_there};
 
 use crate::located::{LocatedCondition, truth_of};
+use crate::machine::step_at;
 use pl0_meaning::compare;
 use pl0_tree::{Relation, StepNumber};
 use pl0_unit::FRAME_HEAD;
@@ -56,27 +57,34 @@ pub struct Marks {
     pub counters: Vec<Vec<Counter>>,
 }
 
-/// Returns the table of the marked addresses, if there is one.
+/// The tables of marks, found once for many steps: which addresses are marked, and the counters of each step.
+#[derive(Clone, Copy)]
+pub struct Tables<'a> {
+    pub marked: &'a [bool],
+    pub counters: &'a [Vec<Counter>],
+}
+
+/// Returns the tables of marks, if there are marks.
 #[inline(always)]
-pub fn marked_in(marks: Option<&Marks>) -> Option<&[bool]>
-    ensures { option_map (λ table. table.now) result ≡ marked_in (option_map (λ table. table.now) marks.entry) }
+pub fn tables_of(marks: Option<&Marks>) -> Option<Tables>
+    ensures { AreTables (option_map (λ marks. marks.now) marks.entry) result }
 {
     match marks {
         None => None,
-        Some(marks) => Some(marks.marked.as_slice()),
+        Some(marks) => Some(Tables {
+            marked: marks.marked.as_slice(),
+            counters: marks.counters.as_slice(),
+        }),
     }
 }
 
 /// Whether an address is marked.
 #[inline(always)]
-pub fn is_marked(marked: Option<&[bool]>, at: usize) -> bool
-    requires { IsWithin (option_map (λ table. table.now) marked) at }
-    ensures { IsMark (option_map (λ table. table.now) marked.entry) at result }
+pub fn is_marked(marked: &[bool], at: usize) -> bool
+    requires { at < length marked.now }
+    ensures { slice_get marked.now at ≡ Some result }
 {
-    match marked {
-        None => false,
-        Some(marked) => marked[at],
-    }
+    marked[at]
 }
 
 /// Returns the number that an operand stands for where the newest frame begins at `base`. The main block's begins at 0.
@@ -231,10 +239,10 @@ fn arrive_at(
     arrive_at_several(counters, counts, cells, base, top)
 }
 
-/// Counts the arrivals at a marked address, where the newest frame begins at `base`, unless one is due, and returns whether
-/// one is.
+/// Counts the arrivals at the step that begins at a marked address, where the newest frame begins at `base`, unless one is
+/// due, and returns whether one is.
 #[inline(always)]
-pub fn is_met(
+pub fn arrive_at_step(
     counters: &[Vec<Counter>],
     begun_steps: &[Option<StepNumber>],
     at: usize,
@@ -250,9 +258,7 @@ pub fn is_met(
     ensures { (n : ℕ) → slice_get begun_steps.now at ≡ Some (Some n)
         → IsCounted (answer_there cells.now base top) (counters_of counters.now n) counts.old result counts.new }
 {
-    let Some(step) = begun_steps[at] else {
-        return false;
-    };
+    let step = step_at(begun_steps, at);
     match counters.get(step) {
         Some(counters) => arrive_at(counters, counts, cells, base, top),
         None => false,

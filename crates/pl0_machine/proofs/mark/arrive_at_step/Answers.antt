@@ -5,20 +5,10 @@ use Rattle.std.specs.declared.vec.Vec.{Vec}
 use Rattle.std.proofs.lemmas.Bool.Decides.{nat_tests}
 use Rattle.std.proofs.lemmas.Option.{slice_get_past}
 use Rattle.pl0_machine.specs.declared.mark.Counter.{Counter}
-use Rattle.pl0_machine.specs.Room.{BeginsStep}
 use Rattle.pl0_machine.specs.Asking.{MayCount, answer_there}
 use Rattle.pl0_machine.specs.Counting.{counters_of, IsCounted}
-use Rattle.pl0_machine.proofs.mark.is_met.Goals as goal
-use Rattle.pl0_machine.proofs.mark.is_met.Goals.{In-Some, After-deref}
-
-line_is : (lines : List (Option ℕ)) (at n : ℕ) → BeginsStep (slice_get lines at) → slice_index_or lines at None ≡ Some n
-    → slice_get lines at ≡ Some (Some n)
-line_is [] at n begins is = absurd begins
-line_is (x ∷ xs) zero n begins is = ap Some is
-line_is (x ∷ xs) (suc k) n begins is = line_is xs k n begins is
-
-line : (c : In-Some) → slice_get c.args.begun_steps.now c.args.at ≡ Some (Some c.in-Some.step)
-line c = line_is c.args.begun_steps.now c.args.at c.in-Some.step c.requires.begins c.in-Some.is
+use Rattle.pl0_machine.proofs.mark.arrive_at_step.Goals as goal
+use Rattle.pl0_machine.proofs.mark.arrive_at_step.Goals.{After-deref}
 
 some_at : (xs : List (Vec Counter Global)) (k : ℕ) (x : Vec Counter Global) → k < length xs
     → x ≡ slice_index_or xs k x → slice_get xs k ≡ Some x
@@ -32,12 +22,12 @@ is_below k n e = grind (arith, nat_tests)
 is_past : (k n : ℕ) → false ≡ nat_lt k n → n ≤ k
 is_past k n e = grind (arith, nat_tests)
 
-items : (c : After-deref) → counters_of c.args.counters.now c.in-Some.step ≡ c.deref.result.now
+items : (c : After-deref) → counters_of c.args.counters.now c.step_at-step.result ≡ c.deref.result.now
 items c =
-    let there : slice_get c.args.counters.now c.in-Some.step ≡ Some c.in-Some-get.counters.now =
-    some_at c.args.counters.now c.in-Some.step c.in-Some-get.counters.now
-    (is_below c.in-Some.step (length c.args.counters.now) c.in-Some-get.ensures.lookup.0)
-    c.in-Some-get.ensures.lookup.1 in
+    let there : slice_get c.args.counters.now c.step_at-step.result ≡ Some c.in-Some.counters.now =
+    some_at c.args.counters.now c.step_at-step.result c.in-Some.counters.now
+    (is_below c.step_at-step.result (length c.args.counters.now) c.in-Some.ensures.lookup.0)
+    c.in-Some.ensures.lookup.1 in
     ap (λ o. option_map_or (λ (v : Vec Counter Global). v.items) o []) there ∙ sym c.deref.ensures.value
 
 same_step : (m n : ℕ) → ◌≡◌ {A = Option (Option ℕ)} (Some (Some m)) (Some (Some n)) → m ≡ n
@@ -47,23 +37,22 @@ pub arrive_at-requires-clause-fits : goal.arrive_at-requires-clause-fits
 arrive_at-requires-clause-fits c =
     let here = goal.at.arrive_at-requires-clause-fits c in
     subst (λ l. All (MayCount c.args.cells.now c.args.base c.args.top (length c.args.counts.now)) l)
-    (items here.After-deref) (c.requires.fits c.in-Some.step (line here.In-Some))
+    (items here.After-deref) (c.requires.fits c.step_at-step.result c.step_at-step.ensures)
 
-pub returns-in-Some-get : goal.returns-in-Some-get
-returns-in-Some-get c = λ n e.
-    let here = goal.at.returns-in-Some-get c in
-    let same = same_step c.in-Some.step n (sym (line here.In-Some) ∙ e) in
+pub returns-in-Some : goal.returns-in-Some
+returns-in-Some c = λ n e.
+    let here = goal.at.returns-in-Some c in
+    let same = same_step c.step_at-step.result n (sym c.step_at-step.ensures ∙ e) in
     subst (λ l. IsCounted (answer_there c.args.cells.now c.args.base c.args.top) l c.args.counts.now c.arrive_at.result
     c.arrive_at.new.counts)
     (sym (items here.After-deref) ∙ ap (λ k. counters_of c.args.counters.now k) same) c.arrive_at.ensures
 
 pub returns-in-None : goal.returns-in-None
 returns-in-None c = λ n e.
-    let here = goal.at.returns-in-None c in
-    let same = same_step c.in-Some.step n (sym (line here.In-Some) ∙ e) in
-    let there : slice_get c.args.counters.now c.in-Some.step ≡ None =
-    slice_get_past c.args.counters.now c.in-Some.step
-    (is_past c.in-Some.step (length c.args.counters.now) c.in-None.ensures.lookup.0) in
+    let same = same_step c.step_at-step.result n (sym c.step_at-step.ensures ∙ e) in
+    let there : slice_get c.args.counters.now c.step_at-step.result ≡ None =
+    slice_get_past c.args.counters.now c.step_at-step.result
+    (is_past c.step_at-step.result (length c.args.counters.now) c.in-None.ensures.lookup.0) in
     let none : counters_of c.args.counters.now n ≡ [] =
     ap (λ k. counters_of c.args.counters.now k) (sym same)
     ∙ ap (λ o. option_map_or (λ (v : Vec Counter Global). v.items) o []) there in
