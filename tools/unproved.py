@@ -108,8 +108,8 @@ IMPL = re.compile(r"^(?:unsafe )?impl\b")
 INLINE = re.compile(r"^\s*#\[inline(?:\((\w+)\))?\]")
 FUNCTION = re.compile(r'^\s*(?:pub(?:\([a-z ]+\))?\s+)?(?:const\s+)?(?:unsafe\s+)?(?:extern "C"\s+)?fn\s+(\w+)')
 DEFINITION = re.compile(r'^define .*?@(?:"([^"]*)"|([\w.]+))\(')
-# Calls of checks, and what fills new memory, so that its use is seen.
-CHECK = re.compile(r'^  call void @"rattle-(?:llvm-checks::\w+|try::site-\d+)"\('
+# Calls of checks, traps where nothing can come, and what fills new memory, so that its use is seen.
+CHECK = re.compile(r'^  call void @"rattle-(?:llvm-checks::\w+|try::site-\d+)"\(|^  call void @llvm\.trap\(\)'
                    r"|^  call void @llvm\.memset\.p0\.i64\(ptr %r\d+, i8 -86, ")
 # How the kit's compiler has a proved program compiled, of which a module with checks says something else.
 WORDS = 'nounwind "probe-stack"="inline-asm" "stack-probe-size"="3072" "target-cpu"="x86-64"'
