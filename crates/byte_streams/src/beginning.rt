@@ -12,10 +12,10 @@ use std::sync::Wait;
 pub const BEGINNING_LIMIT: usize = 65_537;
 
 /// How many bytes are read at once.
-const ROOM: usize = 4096;
+pub(crate) const ROOM: usize = 4096;
 
-/// Why the beginning of a source isn't returned.
-#[derive(Clone, Copy, Debug)]
+/// Why what a source gives isn't returned.
+#[derive(Clone, Copy)]
 pub enum ReadFault {
     /// A read failed. The source counts this.
     CannotRead,

@@ -35,7 +35,7 @@
 //! its writes took, in order, and each read or write that fails is counted. [`Reading`] and [`Writing`] are a source and a
 //! sink over std's `Read` and `Write`; where those tell their bytes, as streams in memory do, these are the same.
 //! [`write_all`] and [`say`] write all bytes, or a prefix of them where the sink fails. [`read_beginning`] reads as much of a
-//! source as a program's text may have, and one byte more. [`collect_arguments`] returns what `env::args` gave as a list, and
+//! source as a program's text may have, and one byte more, and [`read_all`] all of it. [`collect_arguments`] returns what `env::args` gave as a list, and
 //! [`borrow_texts`] the same as borrowed texts.
 #![tactic(auto)]
 
@@ -44,10 +44,12 @@ mod beginning;
 mod byte_log;
 mod counting;
 mod streams;
+mod whole;
 mod writing;
 
 pub use arguments::{borrow_texts, collect_arguments};
 pub use beginning::{BEGINNING_LIMIT, ReadFault, read_beginning};
 pub use byte_log::ByteLog;
 pub use streams::{IoFault, Reading, Sink, Source, Writing};
+pub use whole::read_all;
 pub use writing::{WriteFailed, say, write_all};

@@ -7,7 +7,7 @@ use crate::streams::{IoFault, Sink};
 use std::sync::Wait;
 
 /// The output failed.
-#[derive(Clone, Copy, Debug)]
+#[derive(Clone, Copy)]
 pub struct WriteFailed;
 
 /// Writes texts one after another. Where the output fails, a prefix of their bytes was written, and the rest is dropped.
