@@ -23,10 +23,10 @@ AreMarked marks (b ∷ breakpoints) = (is_marked marks (Some b.place) ≡ true) 
 abbrev pub halt_by_mode : {S : Type 0} → Sight S → Mode → S → Option PlainHalt
 halt_by_mode see mode s = if is_asked see mode s then Some AtStep else None
 
--- a run, or its beginning, after which it goes on
-abbrev pub Begins : {S : Type 0} → Meaning S → Sight S → Mode → List Bool → S → List PlainBreakpoint → Option PlainHalt
-    → S → List PlainBreakpoint → List PlainOutput → List PlainOutput → Type 0
-Begins takes see mode marks a old None b new before after =
+-- a run that halts, or steps with no halt after any of them
+abbrev pub PassesOrHalts : {S : Type 0} → Meaning S → Sight S → Mode → List Bool → S → List PlainBreakpoint
+    → Option PlainHalt → S → List PlainBreakpoint → List PlainOutput → List PlainOutput → Type 0
+PassesOrHalts takes see mode marks a old None b new before after =
     Added (Passes takes see mode a old b new) before after × AreMarked marks new
-Begins takes see mode marks a old (Some halt) b new before after =
+PassesOrHalts takes see mode marks a old (Some halt) b new before after =
     Runs takes see mode a old (Some halt) b new before after

@@ -31,13 +31,10 @@ pub fn arrive<D: Debuggee>(
         (option_map plain_halt halt) (map plain_breakpoint breakpoints.new.items) (map plain_output told.old.items)
         (map plain_output told.new.items)) }
 {
-    if arrive_all(alloc, debuggee, breakpoints, told)? {
-        return Ok(Some(Halt::AtBreakpoint));
-    }
-    Ok(halt_by_mode(debuggee, mode))
+    arrive_at_place(alloc, debuggee, debuggee.place(), breakpoints, mode, told)
 }
 
-/// Does the same as `arrive`, and looks at breakpoints only where the place has a mark.
+/// Does the same as `arrive`, and looks at breakpoints only where the place has a mark. Adds how many it looks at.
 pub(crate) fn arrive_by_marks<D: Debuggee>(
     alloc: Global,
     debuggee: &D,
@@ -45,48 +42,75 @@ pub(crate) fn arrive_by_marks<D: Debuggee>(
     marks: &[bool; MARKS],
     mode: Mode,
     told: &mut Vec<Output>,
+    looks: &mut usize,
 ) -> Result<Option<Halt>, AllocError>
     requires { AreMarked marks.now (map plain_breakpoint breakpoints.old.items) }
     ensures { IfOk result (λ halt. Arrives D.sees mode debuggee.now (map plain_breakpoint breakpoints.old.items)
         (option_map plain_halt halt) (map plain_breakpoint breakpoints.new.items) (map plain_output told.old.items)
         (map plain_output told.new.items)) }
 {
-    if is_marked(debuggee, marks) {
-        return arrive(alloc, debuggee, breakpoints, mode, told);
+    let place = debuggee.place();
+    if is_marked(place, marks) {
+        *looks = looks.saturating_add(breakpoints.len());
+        return arrive_at_place(alloc, debuggee, place, breakpoints, mode, told);
     }
-    Ok(halt_by_mode(debuggee, mode))
+    Ok(halt_by_mode(debuggee, place, mode))
+}
+
+/// Does the same as `arrive`, where the program is at this place.
+fn arrive_at_place<D: Debuggee>(
+    alloc: Global,
+    debuggee: &D,
+    place: Option<usize>,
+    breakpoints: &mut Vec<Breakpoint>,
+    mode: Mode,
+    told: &mut Vec<Output>,
+) -> Result<Option<Halt>, AllocError>
+    requires { place ≡ D.sees.place_of debuggee.now }
+    ensures { IfOk result (λ halt. Arrives D.sees mode debuggee.now (map plain_breakpoint breakpoints.old.items)
+        (option_map plain_halt halt) (map plain_breakpoint breakpoints.new.items) (map plain_output told.old.items)
+        (map plain_output told.new.items)) }
+{
+    if arrive_all(alloc, debuggee, place, breakpoints, told)? {
+        return Ok(Some(Halt::AtBreakpoint));
+    }
+    Ok(halt_by_mode(debuggee, place, mode))
 }
 
 /// Returns why the program is to stop where no breakpoint stops it, if it is.
-fn halt_by_mode<D: Debuggee>(debuggee: &D, mode: Mode) -> Option<Halt>
+fn halt_by_mode<D: Debuggee>(debuggee: &D, place: Option<usize>, mode: Mode) -> Option<Halt>
+    requires { place ≡ D.sees.place_of debuggee.now }
     ensures { option_map plain_halt result ≡ halt_by_mode D.sees mode debuggee.now }
 {
-    if is_asked(debuggee, mode) {
+    if is_asked(debuggee, place, mode) {
         return Some(Halt::AtStep);
     }
     None
 }
 
 /// Whether the mode asks for the state where the program is.
-fn is_asked<D: Debuggee>(debuggee: &D, mode: Mode) -> bool
+fn is_asked<D: Debuggee>(debuggee: &D, place: Option<usize>, mode: Mode) -> bool
+    requires { place ≡ D.sees.place_of debuggee.now }
     ensures { result ≡ is_asked D.sees mode debuggee.now }
 {
-    mode.asks(debuggee.depth()) && debuggee.place().is_some()
+    mode.asks(debuggee.depth()) && place.is_some()
 }
 
 /// Counts the arrivals at all breakpoints, and returns whether one stops the program.
 fn arrive_all<D: Debuggee>(
     alloc: Global,
     debuggee: &D,
+    place: Option<usize>,
     breakpoints: &mut Vec<Breakpoint>,
     told: &mut Vec<Output>,
 ) -> Result<bool, AllocError>
+    requires { place ≡ D.sees.place_of debuggee.now }
     ensures { IfOk result (λ stops. ArrivesAll D.sees debuggee.now (map plain_breakpoint breakpoints.old.items) stops
         (map plain_breakpoint breakpoints.new.items) (map plain_output told.old.items) (map plain_output told.new.items)) }
 {
     let mut stops = false;
     for breakpoint in breakpoints.iter_mut() {
-        let here = arrive_at(alloc, debuggee, breakpoint, told)?;
+        let here = arrive_at(alloc, debuggee, place, breakpoint, told)?;
         stops = stops || here;
     }
     Ok(stops)
@@ -96,13 +120,15 @@ fn arrive_all<D: Debuggee>(
 fn arrive_at<D: Debuggee>(
     alloc: Global,
     debuggee: &D,
+    place: Option<usize>,
     breakpoint: &mut Breakpoint,
     told: &mut Vec<Output>,
 ) -> Result<bool, AllocError>
+    requires { place ≡ D.sees.place_of debuggee.now }
     ensures { IfOk result (λ stops. ArrivesAt D.sees debuggee.now (plain_breakpoint breakpoint.old) stops
         (plain_breakpoint breakpoint.new) (map plain_output told.old.items) (map plain_output told.new.items)) }
 {
-    if !arrives(alloc, debuggee, breakpoint)? {
+    if !arrives(alloc, debuggee, place, breakpoint)? {
         return Ok(false);
     }
     breakpoint.arrivals = breakpoint.arrivals.saturating_add(1);
@@ -133,12 +159,14 @@ fn is_accepted(breakpoint: &Breakpoint) -> bool
 fn arrives<D: Debuggee>(
     alloc: Global,
     debuggee: &D,
+    place: Option<usize>,
     breakpoint: &Breakpoint,
 ) -> Result<bool, AllocError>
+    requires { place ≡ D.sees.place_of debuggee.now }
     ensures { IfOk result (λ here. here ≡ arrives D.sees debuggee.now (plain_breakpoint breakpoint.now)) }
 {
-    match debuggee.place() {
-        Some(place) if place == breakpoint.place => match &breakpoint.condition {
+    match place {
+        Some(here) if here == breakpoint.place => match &breakpoint.condition {
             None => Ok(true),
             Some(condition) => match debuggee.evaluate(alloc, 0, condition.as_str())? {
                 Evaluated::Value(_, holds) => Ok(holds),

@@ -5,7 +5,6 @@ ghost use Rattle.debuggee.specs.Plain.{plain_breakpoint};
 ghost use Rattle.debuggee.specs.Marks.{AreMarked, is_marked};
 
 use crate::breakpoint::Breakpoint;
-use crate::debuggee::Debuggee;
 
 /// How many marks there are. Places whose numbers leave the same remainder share one.
 pub const MARKS: usize = 1024;
@@ -21,11 +20,11 @@ pub fn marks_of(breakpoints: &[Breakpoint]) -> [bool; MARKS]
     marks
 }
 
-/// Whether the place has a mark where the program is.
-pub fn is_marked<D: Debuggee>(debuggee: &D, marks: &[bool; MARKS]) -> bool
-    ensures { result ≡ is_marked marks.now (D.sees.place_of debuggee.now) }
+/// Whether a place has a mark.
+pub fn is_marked(place: Option<usize>, marks: &[bool; MARKS]) -> bool
+    ensures { result ≡ is_marked marks.now place }
 {
-    match debuggee.place() {
+    match place {
         Some(place) => marks[place % MARKS],
         None => false,
     }

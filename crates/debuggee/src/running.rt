@@ -2,14 +2,14 @@
 
 ghost use Rattle.std.specs.Prelude.{IfOk, map, option_map};
 ghost use Rattle.debuggee.specs.Plain.{plain_breakpoint, plain_halt, plain_output};
-ghost use Rattle.debuggee.specs.Marks.{AreMarked, Begins};
+ghost use Rattle.debuggee.specs.Marks.{AreMarked, PassesOrHalts};
 ghost use Rattle.debuggee.specs.Runs.{Added, Takes, Advances, Runs};
 
 use crate::arriving::arrive_by_marks;
 use crate::breakpoint::Breakpoint;
 use crate::debuggee::{Debuggee, Step};
 use crate::halt::{Halt, Output};
-use crate::marks::{MARKS, is_marked, marks_of};
+use crate::marks::{MARKS, marks_of};
 use crate::mode::Mode;
 use std::alloc::{AllocError, Global};
 
@@ -35,44 +35,42 @@ pub fn run<D: Debuggee>(
         (map plain_output told.old.items) (map plain_output told.new.items)) }
 {
     let marks = marks_of(breakpoints);
-    match begin(alloc, debuggee, breakpoints, &marks, mode, told)? {
+    let mut looks = 0;
+    match pass_or_halt(alloc, debuggee, breakpoints, &marks, mode, told, &mut looks)? {
         Some(halt) => Ok(Some(halt)),
-        None => advance(alloc, debuggee, breakpoints, &marks, mode, told),
+        None => advance(alloc, debuggee, breakpoints, &marks, mode, told, &mut looks),
     }
 }
 
-/// Runs a program up to the last step of a slice.
-fn begin<D: Debuggee>(
+/// Runs a program up to the last step of a slice. Adds how many breakpoints it looks at.
+fn pass_or_halt<D: Debuggee>(
     alloc: Global,
     debuggee: &mut D,
     breakpoints: &mut Vec<Breakpoint>,
     marks: &[bool; MARKS],
     mode: Mode,
     told: &mut Vec<Output>,
+    looks: &mut usize,
 ) -> Result<Option<Halt>, AllocError>
     requires { AreMarked marks.now (map plain_breakpoint breakpoints.old.items) }
-    ensures { IfOk result (λ halt. Begins D.takes D.sees mode marks.now debuggee.old
+    ensures { IfOk result (λ halt. PassesOrHalts D.takes D.sees mode marks.now debuggee.old
         (map plain_breakpoint breakpoints.old.items) (option_map plain_halt halt) debuggee.new
         (map plain_breakpoint breakpoints.new.items) (map plain_output told.old.items)
         (map plain_output told.new.items)) }
 {
-    let mut looks: usize = 0;
     for _ in 1..SLICE {
-        if looks >= SLICE {
+        if *looks >= SLICE {
             return Ok(None);
         }
-        match advance(alloc, debuggee, breakpoints, marks, mode, told)? {
+        match advance(alloc, debuggee, breakpoints, marks, mode, told, looks)? {
             Some(halt) => return Ok(Some(halt)),
             None => {}
-        }
-        if is_marked(debuggee, marks) {
-            looks = looks.saturating_add(breakpoints.len());
         }
     }
     Ok(None)
 }
 
-/// Takes a step, and returns why the run halts after it, if it does.
+/// Takes a step, and returns why the run halts after it, if it does. Adds how many breakpoints it looks at.
 fn advance<D: Debuggee>(
     alloc: Global,
     debuggee: &mut D,
@@ -80,6 +78,7 @@ fn advance<D: Debuggee>(
     marks: &[bool; MARKS],
     mode: Mode,
     told: &mut Vec<Output>,
+    looks: &mut usize,
 ) -> Result<Option<Halt>, AllocError>
     requires { AreMarked marks.now (map plain_breakpoint breakpoints.old.items) }
     ensures { IfOk result (λ halt. Added (Advances D.takes D.sees mode debuggee.old
@@ -88,7 +87,7 @@ fn advance<D: Debuggee>(
 {
     match take(alloc, debuggee, told)? {
         Some(halt) => Ok(Some(halt)),
-        None => arrive_by_marks(alloc, debuggee, breakpoints, marks, mode, told),
+        None => arrive_by_marks(alloc, debuggee, breakpoints, marks, mode, told, looks),
     }
 }
 

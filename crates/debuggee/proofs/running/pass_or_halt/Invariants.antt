@@ -2,7 +2,7 @@ use Rattle.std.proofs.Common.{◌≡◌, ◌++◌, List, map}
 use Rattle.debuggee.specs.Plain.{PlainOutput, plain_breakpoint, plain_output}
 use Rattle.debuggee.specs.Marks.{AreMarked}
 use Rattle.debuggee.specs.Runs.{Passes}
-use Rattle.debuggee.proofs.running.begin.Given as goal
+use Rattle.debuggee.proofs.running.pass_or_halt.Given as goal
 
 abbrev pub invariant-loop : goal.invariant-loop
 invariant-loop g l = record {

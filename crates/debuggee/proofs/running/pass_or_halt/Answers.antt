@@ -3,7 +3,7 @@ use Rattle.debuggee.specs.Plain.{plain_breakpoint, plain_halt, plain_output}
 use Rattle.debuggee.specs.Marks.{AreMarked}
 use Rattle.debuggee.specs.Runs.{Added, Advances, Stays, Then}
 use Rattle.debuggee.proofs.Marking.{marked_still}
-use Rattle.debuggee.proofs.running.begin.Goals as goal
+use Rattle.debuggee.proofs.running.pass_or_halt.Goals as goal
 
 pub loop-init : goal.loop-init
 loop-init g c =
