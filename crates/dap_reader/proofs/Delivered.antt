@@ -48,8 +48,8 @@ changed ends now pass place w is at = ap (λ l. set l pass w) is ∙ ap (λ k. s
 
 -- ---- the steps
 
-pub begins : Carries [] (Unused ∷ [])
-begins = inl (refl, refl)
+pub new_queue : Carries [] (Unused ∷ [])
+new_queue = inl (refl, refl)
 
 -- one more item was given
 given_then : {I : Type 0} (gives : Gives I) (a b c : I) (items : List PlainItem) (item : PlainItem)

@@ -31,4 +31,4 @@ mod rule;
 mod sender;
 
 pub use arrivals::Arrivals;
-pub use reader::start_reader;
+pub use reader::{StartFault, start_reader};

@@ -12,26 +12,37 @@ use crate::queue::item_queue;
 use crate::sender::ItemSender;
 use byte_streams::{Reading, Source};
 use dap_server::{Inbox, Item};
-use std::alloc::{AllocError, Global};
+use std::alloc::Global;
 use std::io::Read;
 use std::marker::Brand;
 use std::rt::Clock;
 use std::sync::Wait;
 use std::thread::{self, Threads};
 
+/// Why the thread that reads isn't started.
+#[derive(Clone, Copy)]
+pub enum StartFault {
+    /// Memory ran out.
+    NoMemory,
+    /// A thread can't be started.
+    NoThread,
+}
+
 /// Starts a thread that reads an input, and returns the inbox of what it reads, of which nothing is taken yet. The thread ends
 /// with the input, or when the inbox is gone and more is read; it is cut off when `main` returns.
 ///
 /// # Errors
 ///
-/// An allocation failed, or the thread can't be started.
-pub fn start_reader<R, I>(rt: &R, alloc: Global, input: I) -> Result<Arrivals, AllocError>
+/// `NoMemory` where the queue finds no memory, and `NoThread` where the thread can't be started. The input is gone.
+pub fn start_reader<R, I>(rt: &R, alloc: Global, input: I) -> Result<Arrivals, StartFault>
 where
     R: Threads + Wait + Clock + Copy + Send + Drop + 'static,
     I: Read + Send + Drop + 'static,
     ensures { IfOk result (λ inbox. taken inbox ≡ unread (I.remaining input)) }
 {
-    let (sender, inbox) = item_queue::<Brand, I>(alloc, &input)?;
+    let Ok((sender, inbox)) = item_queue::<Brand, I>(alloc, &input) else {
+        return Err(StartFault::NoMemory);
+    };
     let here = *rt;
     let reader = thread::spawn(
         rt,
@@ -44,7 +55,7 @@ where
     );
     match reader {
         Ok(_) => Ok(inbox),
-        Err(_) => Err(AllocError),
+        Err(_) => Err(StartFault::NoThread),
     }
 }
 
