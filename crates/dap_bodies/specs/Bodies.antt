@@ -15,15 +15,15 @@ body_of name value = object (member name value no_members)
 -- ---- the stack
 
 -- a frame: its number, name and place
-pub record PlainFrame : Type 0 where
+pub record ShownFrame : Type 0 where
   pub id : ℕ
   pub name : List ℕ
   pub path : List ℕ
   pub line : ℕ
   pub column : ℕ
 
-abbrev pub plain_frame : StackFrame → PlainFrame
-plain_frame frame = record {
+abbrev pub plain_shown_frame : StackFrame → ShownFrame
+plain_shown_frame frame = record {
   id = frame.id;
   name = string_bytes frame.name;
   path = string_bytes frame.path;
@@ -32,7 +32,7 @@ plain_frame frame = record {
 }
 
 -- a StackFrame of the protocol
-abbrev pub frame_value : PlainFrame → Data
+abbrev pub frame_value : ShownFrame → Data
 frame_value frame =
     object (member (codes "column") (number (unsigned frame.column))
     (member (codes "id") (number (unsigned frame.id))
@@ -45,50 +45,50 @@ abbrev pub stack_body : Data → ℕ → Data
 stack_body frames total =
     object (member (codes "stackFrames") frames (member (codes "totalFrames") (number (unsigned total)) no_members))
 
-abbrev pub stack_trace : List PlainFrame → ℕ → Data
+abbrev pub stack_trace : List ShownFrame → ℕ → Data
 stack_trace frames total = stack_body (array (items_of (map frame_value frames))) total
 
 -- ---- variables
 
 -- a scope: its name, and the reference by which its variables are asked for
-pub record PlainScope : Type 0 where
+pub record ShownScope : Type 0 where
   pub name : List ℕ
   pub reference : ℕ
 
-abbrev pub plain_scope : Scope → PlainScope
-plain_scope scope = record { name = string_bytes scope.name; reference = scope.reference }
+abbrev pub plain_shown_scope : Scope → ShownScope
+plain_shown_scope scope = record { name = string_bytes scope.name; reference = scope.reference }
 
 -- a Scope of the protocol
-abbrev pub scope_value : PlainScope → Data
+abbrev pub scope_value : ShownScope → Data
 scope_value scope =
     object (member (codes "expensive") (boolean false) (member (codes "name") (string scope.name)
     (member (codes "variablesReference") (number (unsigned scope.reference)) no_members)))
 
 -- the body for `scopes`
-abbrev pub scopes : List PlainScope → Data
+abbrev pub scopes : List ShownScope → Data
 scopes all = body_of (codes "scopes") (array (items_of (map scope_value all)))
 
 -- a variable: its name, its value as it is shown, and the reference by which the variables inside are asked for, or 0
-pub record PlainVariable : Type 0 where
+pub record ShownVariable : Type 0 where
   pub name : List ℕ
   pub value : List ℕ
   pub reference : ℕ
 
-abbrev pub plain_variable : Variable → PlainVariable
-plain_variable variable = record {
+abbrev pub plain_shown_variable : Variable → ShownVariable
+plain_shown_variable variable = record {
   name = string_bytes variable.name;
   value = string_bytes variable.value;
   reference = variable.reference;
 }
 
 -- a Variable of the protocol
-abbrev pub variable_value : PlainVariable → Data
+abbrev pub variable_value : ShownVariable → Data
 variable_value variable =
     object (member (codes "name") (string variable.name) (member (codes "value") (string variable.value)
     (member (codes "variablesReference") (number (unsigned variable.reference)) no_members)))
 
 -- the body for `variables`
-abbrev pub variables : List PlainVariable → Data
+abbrev pub variables : List ShownVariable → Data
 variables all = body_of (codes "variables") (array (items_of (map variable_value all)))
 
 -- the body for `evaluate`: the value as it is shown, and the reference by which the variables inside are asked for; 0
@@ -117,21 +117,21 @@ threads name =
 -- ---- breakpoints
 
 -- what became of a breakpoint: it is set at this line, or it isn't set, and why
-pub data PlainBreakpoint : Type 0 where
-  SetAt : ℕ → PlainBreakpoint
-  Refused : List ℕ → PlainBreakpoint
+pub data ShownBreakpoint : Type 0 where
+  SetAt : ℕ → ShownBreakpoint
+  Refused : List ℕ → ShownBreakpoint
 
-abbrev pub plain_breakpoint : Breakpoint → PlainBreakpoint
-plain_breakpoint (breakpoint.SetAt line) = SetAt line
-plain_breakpoint (breakpoint.Refused why) = Refused (string_bytes why)
+abbrev pub plain_shown_breakpoint : Breakpoint → ShownBreakpoint
+plain_shown_breakpoint (breakpoint.SetAt line) = SetAt line
+plain_shown_breakpoint (breakpoint.Refused why) = Refused (string_bytes why)
 
 -- a Breakpoint of the protocol
-abbrev pub breakpoint_value : PlainBreakpoint → Data
+abbrev pub breakpoint_value : ShownBreakpoint → Data
 breakpoint_value (SetAt line) =
     object (member (codes "line") (number (unsigned line)) (member (codes "verified") (boolean true) no_members))
 breakpoint_value (Refused why) =
     object (member (codes "message") (string why) (member (codes "verified") (boolean false) no_members))
 
 -- the body for `setBreakpoints`
-abbrev pub breakpoints : List PlainBreakpoint → Data
+abbrev pub breakpoints : List ShownBreakpoint → Data
 breakpoints all = body_of (codes "breakpoints") (array (items_of (map breakpoint_value all)))

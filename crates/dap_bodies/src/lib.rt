@@ -17,8 +17,8 @@
 //! ```
 //!
 //! Each contract says which event or body it is, in full: `specs/Events.antt` and `specs/Bodies.antt` have the members and
-//! their values, as the Debug Adapter Protocol names them, and `worked_bodies` an example of each. Lines and columns are as the adapter counts them. An `Err` means
-//! that an allocation failed.
+//! their values, as the Debug Adapter Protocol names them, and `worked_bodies` an example of each. Lines and columns are as
+//! the adapter counts them. An `Err` means that an allocation failed.
 #![tactic(auto)]
 
 mod events;

@@ -2,7 +2,7 @@
 
 ghost use Rattle.std.specs.Prelude.{◌≡◌, IfOk, codes, map};
 ghost use Rattle.serde_json.specs.View.{view};
-ghost use Rattle.dap_bodies.specs.Bodies.{plain_breakpoint, breakpoints, body_of};
+ghost use Rattle.dap_bodies.specs.Bodies.{plain_shown_breakpoint, breakpoints, body_of};
 
 use crate::values::{Shown, array_of};
 use serde_json::{Value, json};
@@ -18,9 +18,9 @@ pub enum Breakpoint {
 }
 
 impl Shown for Breakpoint {
-    ghost use Rattle.dap_bodies.specs.Bodies.{plain_breakpoint, breakpoint_value};
+    ghost use Rattle.dap_bodies.specs.Bodies.{plain_shown_breakpoint, breakpoint_value};
 
-    ghost shown = { λ breakpoint. breakpoint_value (plain_breakpoint breakpoint) };
+    ghost shown = { λ breakpoint. breakpoint_value (plain_shown_breakpoint breakpoint) };
 
     fn into_value(self, alloc: Global) -> Result<Value, AllocError> {
         match self {
@@ -32,7 +32,7 @@ impl Shown for Breakpoint {
 
 /// Returns the body for `setBreakpoints`, in the order in which they were asked for.
 pub fn breakpoints(alloc: Global, all: Vec<Breakpoint>) -> Result<Value, AllocError>
-    ensures { IfOk result (λ body. view body ≡ breakpoints (map plain_breakpoint all.items)) }
+    ensures { IfOk result (λ body. view body ≡ breakpoints (map plain_shown_breakpoint all.items)) }
 {
     breakpoints_body(alloc, array_of(alloc, all)?)
 }

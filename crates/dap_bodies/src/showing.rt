@@ -2,7 +2,7 @@
 
 ghost use Rattle.std.specs.Prelude.{◌≡◌, IfOk, codes, map, string_bytes};
 ghost use Rattle.serde_json.specs.View.{view};
-ghost use Rattle.dap_bodies.specs.Bodies.{plain_frame, stack_trace, plain_scope, scopes, plain_variable, variables, evaluated, exception_info, threads, body_of, stack_body};
+ghost use Rattle.dap_bodies.specs.Bodies.{plain_shown_frame, stack_trace, plain_shown_scope, scopes, plain_shown_variable, variables, evaluated, exception_info, threads, body_of, stack_body};
 
 use crate::events::THREAD;
 use crate::values::{Shown, array_of};
@@ -23,9 +23,9 @@ pub struct StackFrame {
 }
 
 impl Shown for StackFrame {
-    ghost use Rattle.dap_bodies.specs.Bodies.{plain_frame, frame_value};
+    ghost use Rattle.dap_bodies.specs.Bodies.{plain_shown_frame, frame_value};
 
-    ghost shown = { λ frame. frame_value (plain_frame frame) };
+    ghost shown = { λ frame. frame_value (plain_shown_frame frame) };
 
     fn into_value(self, alloc: Global) -> Result<Value, AllocError> {
         let StackFrame {
@@ -47,7 +47,7 @@ impl Shown for StackFrame {
 
 /// Returns the body for `stackTrace`: these frames, of this many in all.
 pub fn stack_trace(alloc: Global, frames: Vec<StackFrame>, total: u64) -> Result<Value, AllocError>
-    ensures { IfOk result (λ body. view body ≡ stack_trace (map plain_frame frames.items) total) }
+    ensures { IfOk result (λ body. view body ≡ stack_trace (map plain_shown_frame frames.items) total) }
 {
     stack_body(alloc, array_of(alloc, frames)?, total)
 }
@@ -69,9 +69,9 @@ pub struct Scope {
 }
 
 impl Shown for Scope {
-    ghost use Rattle.dap_bodies.specs.Bodies.{plain_scope, scope_value};
+    ghost use Rattle.dap_bodies.specs.Bodies.{plain_shown_scope, scope_value};
 
-    ghost shown = { λ scope. scope_value (plain_scope scope) };
+    ghost shown = { λ scope. scope_value (plain_shown_scope scope) };
 
     fn into_value(self, alloc: Global) -> Result<Value, AllocError> {
         let Scope { name, reference } = self;
@@ -85,7 +85,7 @@ impl Shown for Scope {
 
 /// Returns the body for `scopes`.
 pub fn scopes(alloc: Global, all: Vec<Scope>) -> Result<Value, AllocError>
-    ensures { IfOk result (λ body. view body ≡ scopes (map plain_scope all.items)) }
+    ensures { IfOk result (λ body. view body ≡ scopes (map plain_shown_scope all.items)) }
 {
     scopes_body(alloc, array_of(alloc, all)?)
 }
@@ -107,9 +107,9 @@ pub struct Variable {
 }
 
 impl Shown for Variable {
-    ghost use Rattle.dap_bodies.specs.Bodies.{plain_variable, variable_value};
+    ghost use Rattle.dap_bodies.specs.Bodies.{plain_shown_variable, variable_value};
 
-    ghost shown = { λ variable. variable_value (plain_variable variable) };
+    ghost shown = { λ variable. variable_value (plain_shown_variable variable) };
 
     fn into_value(self, alloc: Global) -> Result<Value, AllocError> {
         let Variable {
@@ -127,7 +127,7 @@ impl Shown for Variable {
 
 /// Returns the body for `variables`.
 pub fn variables(alloc: Global, all: Vec<Variable>) -> Result<Value, AllocError>
-    ensures { IfOk result (λ body. view body ≡ variables (map plain_variable all.items)) }
+    ensures { IfOk result (λ body. view body ≡ variables (map plain_shown_variable all.items)) }
 {
     variables_body(alloc, array_of(alloc, all)?)
 }
