@@ -87,7 +87,7 @@ const MISTAKES: [(&str, &str); 19] = [
 ];
 
 /// What is said beside a token that can't stand where it does, and where nothing is.
-const HINTS: [(&str, &str); 73] = [
+const HINTS: [(&str, &str); 74] = [
     (
         "begin ! (1) x := 2 end.",
         "a.pl0:1:13: error: `x` can't stand here; perhaps a `;` is missing before it\n",
@@ -134,11 +134,15 @@ const HINTS: [(&str, &str); 73] = [
     ),
     (
         "var x y; .",
-        "a.pl0:1:7: error: `y` can't stand here; `,` or `;` has to stand here\n",
+        "a.pl0:1:7: error: `y` can't stand here; perhaps a `,` is missing before it\n",
     ),
     (
         "begin ! 3 mod 2 end.",
-        "a.pl0:1:11: error: `mod` can't stand here; PL/0 has no keyword `mod`\n",
+        "a.pl0:1:11: error: `mod` can't stand here; the remainder of `x` by `y` is `x - x / y * y`\n",
+    ),
+    (
+        "begin ! 3 DIV 2 end.",
+        "a.pl0:1:11: error: `DIV` can't stand here; `/` divides, and drops the fraction\n",
     ),
     (
         "begin ! 1.",
@@ -463,7 +467,7 @@ const MISSING: [(&str, &str); 19] = [
 ];
 
 /// What has to stand at a place, by what stands around it, and what a name or a character is.
-const WANTED: [(&str, &str); 47] = [
+const WANTED: [(&str, &str); 51] = [
     (
         "var x; begin x := 3 -- three\nend.",
         "a.pl0:1:22: error: `-` can't stand here; PL/0 has no comments\n",
@@ -566,11 +570,27 @@ const WANTED: [(&str, &str); 47] = [
     ),
     (
         "var x, x1 y; .",
-        "a.pl0:1:11: error: `y` can't stand here; `,` or `;` has to stand here\n",
+        "a.pl0:1:11: error: `y` can't stand here; perhaps a `,` is missing before it\n",
+    ),
+    (
+        "var x y begin end.",
+        "a.pl0:1:7: error: `y` can't stand here; `,` or `;` has to stand here\n",
+    ),
+    (
+        "var x\n  y;.",
+        "a.pl0:2:3: error: `y` can't stand here; perhaps a `,` is missing before it\n",
+    ),
+    (
+        "var x\ny := 1.",
+        "a.pl0:2:1: error: `y` can't stand here; perhaps a `;` is missing before it\n",
+    ),
+    (
+        "const a = 1\nb = 2; .",
+        "a.pl0:2:1: error: `b` can't stand here; perhaps a `,` is missing before it\n",
     ),
     (
         "procedure p; begin end.",
-        "a.pl0:1:23: error: `.` can't stand here; a procedure ends with a `;`\n",
+        "a.pl0:1:23: error: `.` can't stand here; a procedure ends with a `;`, and the program with a statement, as in `call p.`\n",
     ),
     (
         "begin procedure p; ; end.",
@@ -655,7 +675,7 @@ const WANTED: [(&str, &str); 47] = [
 ];
 
 /// What is told of texts as in other languages.
-const OTHERS: [(&str, &str); 26] = [
+const OTHERS: [(&str, &str); 27] = [
     (
         "if 1 > = 2 then.",
         "a.pl0:1:8: error: `=` can't stand here; `<=` and `>=` are single signs\n",
@@ -734,7 +754,7 @@ const OTHERS: [(&str, &str); 26] = [
     ),
     (
         "procedure p; ;",
-        "a.pl0:1:15: error: the text ends before the program does; a `.` ends the program\n",
+        "a.pl0:1:15: error: the text ends before the program does; the program ends with a statement and a `.`, as in `call p.`\n",
     ),
     (
         "while 1 = 1 dobegin ! 1 end.",
@@ -758,7 +778,11 @@ const OTHERS: [(&str, &str); 26] = [
     ),
     (
         "begin ! 1; procedure p; ; end.",
-        "a.pl0:1:12: error: `procedure` can't stand here; perhaps an `end` is missing before it\n",
+        "a.pl0:1:12: error: `procedure` can't stand here; procedures are declared before the statement of a block\n",
+    ),
+    (
+        "procedure p; begin ! 1; procedure q; ; ; .",
+        "a.pl0:1:25: error: `procedure` can't stand here; perhaps an `end` is missing before it\n",
     ),
 ];
 

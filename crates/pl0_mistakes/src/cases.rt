@@ -10,7 +10,7 @@ const LONGER: &str = "const var procedure call begin end then while";
 const BEFORE_BLANKS: &str = "const var call procedure begin if while";
 
 /// Returns the keyword that a word is but for its case; `None` if it is none.
-pub fn keyword_in_lower_case(word: Token<'_>) -> Option<Token<'static>> {
+pub(crate) fn keyword_in_lower_case(word: Token<'_>) -> Option<Token<'static>> {
     let mut rest = KEYWORDS.as_bytes();
     while let Some((keyword, after)) = next_token(rest) {
         if word.bytes.eq_ignore_ascii_case(keyword.bytes) && word.bytes != keyword.bytes {
@@ -22,7 +22,7 @@ pub fn keyword_in_lower_case(word: Token<'_>) -> Option<Token<'static>> {
 }
 
 /// Returns the keyword from which a word differs by one letter more, less or exchanged, or by two that changed places.
-pub fn keyword_nearby(word: Token<'_>) -> Option<Token<'static>> {
+pub(crate) fn keyword_nearby(word: Token<'_>) -> Option<Token<'static>> {
     let mut rest = LONGER.as_bytes();
     while let Some((keyword, after)) = next_token(rest) {
         if word.bytes != keyword.bytes && is_near(word.bytes, keyword.bytes) {
@@ -34,7 +34,7 @@ pub fn keyword_nearby(word: Token<'_>) -> Option<Token<'static>> {
 }
 
 /// Returns the keyword with which a longer word begins.
-pub fn keyword_in_front(word: Token<'_>) -> Option<Token<'static>> {
+pub(crate) fn keyword_in_front(word: Token<'_>) -> Option<Token<'static>> {
     let mut rest = BEFORE_BLANKS.as_bytes();
     while let Some((keyword, after)) = next_token(rest) {
         if word.bytes.starts_with(keyword.bytes) && word.bytes != keyword.bytes {

@@ -1,12 +1,12 @@
 //! What is said beside a character that no token can have.
 
-use crate::foreign::is_foreign_in_front;
+use crate::foreign::{division_hint, is_foreign_in_front, remainder_hint};
 use crate::hint::{Hint, around, text};
 use crate::scene::Scene;
 use crate::situation::{at_opening, ends_statement, in_condition, wants_operand};
 
 /// Returns what is said beside a byte that isn't ASCII: what to write for a sign, and how to save a file.
-pub fn foreign_hint(scene: Scene<'_>) -> Option<Hint<'_>> {
+pub(crate) fn foreign_hint(scene: Scene<'_>) -> Option<Hint<'_>> {
     mark_hint(scene)
         .or(comparing_sign_hint(scene))
         .or(computing_sign_hint(scene))
@@ -95,7 +95,7 @@ fn begins(scene: Scene<'_>, sign: &str) -> bool {
 }
 
 /// Returns what is said beside a character with which no token begins.
-pub fn unreadable_hint(scene: Scene<'_>) -> Option<Hint<'_>> {
+pub(crate) fn unreadable_hint(scene: Scene<'_>) -> Option<Hint<'_>> {
     let found = scene.found;
     if found.is_one_of("{ } [ ]") {
         bracket_hint(scene)
@@ -128,7 +128,7 @@ fn operator_hint(scene: Scene<'_>) -> Option<Hint<'_>> {
     } else if found.is("%") && wants_operand(scene) {
         text("a number or a name has to stand here")
     } else if found.is("%") {
-        text("the remainder of `x` by `y` is `x - x / y * y`")
+        remainder_hint()
     } else if found.is_one_of("& |") && in_condition(scene) {
         text("a condition has one comparison, or `odd`")
     } else if found.is_one_of("& |") {
@@ -144,7 +144,7 @@ fn further_operator_hint(scene: Scene<'_>) -> Option<Hint<'_>> {
     if found.is("^") {
         text("a power is written as a product")
     } else if found.is("\\") {
-        text("`/` divides, and drops the fraction")
+        division_hint()
     } else if scene.onward.starts_with(b"~=") {
         text("write `#` for not equal")
     } else if found.is("~") {

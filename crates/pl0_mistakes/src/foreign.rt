@@ -44,7 +44,7 @@ const FUNCTIONS: &str =
     "even abs sqr sqrt min max mod pow power square random succ pred ord trunc round length sum";
 
 /// Whether a token is another language's word that may stand behind an operand or a statement.
-pub fn is_foreign_between(token: Token<'_>) -> bool {
+pub(crate) fn is_foreign_between(token: Token<'_>) -> bool {
     token.is_word_of(BETWEEN)
 }
 
@@ -54,7 +54,7 @@ fn is_type(token: Token<'_>) -> bool {
 }
 
 /// Remarks as other languages have them, and what they divide and multiply with.
-pub fn comment_hint(scene: Scene<'_>) -> Option<Hint<'_>> {
+pub(crate) fn comment_hint(scene: Scene<'_>) -> Option<Hint<'_>> {
     let last = scene.past.last;
     if last.is("/") && scene.found.is("/") && is_operand_of(scene, scene.next) {
         text("a single `/` divides, and drops the fraction")
@@ -91,7 +91,7 @@ fn is_comment(scene: Scene<'_>) -> bool {
 }
 
 /// Signs that compare, as they are written in other languages.
-pub fn comparing_hint(scene: Scene<'_>) -> Option<Hint<'_>> {
+pub(crate) fn comparing_hint(scene: Scene<'_>) -> Option<Hint<'_>> {
     let last = scene.past.last;
     if is_unequal(scene) {
         text("write `#` for not equal")
@@ -121,7 +121,7 @@ fn is_unequal(scene: Scene<'_>) -> bool {
 }
 
 /// Signs that assign, as they are written in other languages.
-pub fn assigning_hint(scene: Scene<'_>) -> Option<Hint<'_>> {
+pub(crate) fn assigning_hint(scene: Scene<'_>) -> Option<Hint<'_>> {
     if is_update(scene) {
         text("the new value is written in full, as in `x := x + 1`")
     } else if lacks_blank(scene) {
@@ -178,12 +178,16 @@ fn lacks_blank_behind_begin(scene: Scene<'_>) -> bool {
 }
 
 /// Words that PL/0 has no keywords for: the token found, or the one before it.
-pub fn word_hint(scene: Scene<'_>) -> Option<Hint<'_>> {
+pub(crate) fn word_hint(scene: Scene<'_>) -> Option<Hint<'_>> {
     let last = scene.past.last;
     if last.is("od") && in_condition(scene) {
         text("perhaps `odd` is meant")
     } else if is_function(scene) {
         around("PL/0 has no `", last, "`")
+    } else if scene.found.is_word_of("mod rem") {
+        remainder_hint()
+    } else if scene.found.is_word_of("div") {
+        division_hint()
     } else if is_foreign_between(scene.found) {
         around("PL/0 has no keyword `", scene.found, "`")
     } else if is_foreign_in_front(scene) {
@@ -191,6 +195,16 @@ pub fn word_hint(scene: Scene<'_>) -> Option<Hint<'_>> {
     } else {
         None
     }
+}
+
+/// How a remainder is computed.
+pub(crate) fn remainder_hint() -> Option<Hint<'static>> {
+    text("the remainder of `x` by `y` is `x - x / y * y`")
+}
+
+/// How numbers are divided.
+pub(crate) fn division_hint() -> Option<Hint<'static>> {
+    text("`/` divides, and drops the fraction")
 }
 
 /// Whether the token before is the name of a function, and its operand follows.
@@ -201,13 +215,13 @@ fn is_function(scene: Scene<'_>) -> bool {
 }
 
 /// Whether the token before is another language's word with which a statement begins, or an operand.
-pub fn is_foreign_in_front(scene: Scene<'_>) -> bool {
+pub(crate) fn is_foreign_in_front(scene: Scene<'_>) -> bool {
     let last = scene.past.last;
     (last.is_word_of(IN_FRONT) || last.is_word_of(IN_FRONT_TOO)) && is_new(scene, last)
 }
 
 /// Words by which other languages write, read and declare.
-pub fn statement_word_hint(scene: Scene<'_>) -> Option<Hint<'_>> {
+pub(crate) fn statement_word_hint(scene: Scene<'_>) -> Option<Hint<'_>> {
     let last = scene.past.last;
     if last.is_word_of(READING) && is_new(scene, last) {
         text("a program reads no input")
@@ -227,7 +241,7 @@ pub fn statement_word_hint(scene: Scene<'_>) -> Option<Hint<'_>> {
 }
 
 /// Calls as other languages have them.
-pub fn call_hint(scene: Scene<'_>) -> Option<Hint<'_>> {
+pub(crate) fn call_hint(scene: Scene<'_>) -> Option<Hint<'_>> {
     let last = scene.past.last;
     if !is_target(scene) {
         None
@@ -245,7 +259,7 @@ pub fn call_hint(scene: Scene<'_>) -> Option<Hint<'_>> {
 }
 
 /// Types, numbers and ends as other languages have them.
-pub fn form_hint(scene: Scene<'_>) -> Option<Hint<'_>> {
+pub(crate) fn form_hint(scene: Scene<'_>) -> Option<Hint<'_>> {
     let past = scene.past;
     let typed = is_type(past.last) || is_type(scene.found);
     if typed && past.opener.is("var") {
@@ -289,7 +303,7 @@ fn is_end_of(scene: Scene<'_>) -> bool {
 }
 
 /// A comma or a period where a `;` has to stand.
-pub fn separator_hint(scene: Scene<'_>) -> Option<Hint<'_>> {
+pub(crate) fn separator_hint(scene: Scene<'_>) -> Option<Hint<'_>> {
     let open = scene.past.begins > 0;
     let meant = ends_statement(scene) && open && begins_statement_next(scene);
     if scene.found.is(",") && meant && !scene.past.last.is("end") {

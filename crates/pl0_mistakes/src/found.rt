@@ -15,14 +15,14 @@ pub struct Token<'a> {
 
 impl<'a> Token<'a> {
     /// Whether it is this one.
-    pub fn is(self, text: &str) -> bool
+    pub(crate) fn is(self, text: &str) -> bool
         ensures { result ≡ bytes_eq self.entry.bytes.now text.now }
     {
         self.bytes == text.as_bytes()
     }
 
     /// Whether it is one of these tokens.
-    pub fn is_one_of(self, tokens: &str) -> bool
+    pub(crate) fn is_one_of(self, tokens: &str) -> bool
         ensures { result ≡ one_of self.entry.bytes.now (cut tokens.now) }
     {
         let mut rest = tokens.as_bytes();
@@ -36,7 +36,7 @@ impl<'a> Token<'a> {
     }
 
     /// Whether it is one of these words, but for capitals.
-    pub fn is_word_of(self, words: &str) -> bool {
+    pub(crate) fn is_word_of(self, words: &str) -> bool {
         let mut rest = words.as_bytes();
         while let Some((word, after)) = next_token(rest) {
             if word.bytes.eq_ignore_ascii_case(self.bytes) {
@@ -48,18 +48,18 @@ impl<'a> Token<'a> {
     }
 
     /// Whether it is a number.
-    pub fn is_number(self) -> bool {
+    pub(crate) fn is_number(self) -> bool {
         self.bytes.first().is_some_and(u8::is_ascii_digit)
     }
 
     /// Whether it is a keyword or a name.
-    pub fn is_word(self) -> bool {
+    pub(crate) fn is_word(self) -> bool {
         self.bytes.first().is_some_and(u8::is_ascii_alphabetic)
     }
 }
 
 /// Returns what stands in a text before a place.
-pub fn before_place(text: &[u8], place: Place) -> &[u8]
+pub(crate) fn before_place(text: &[u8], place: Place) -> &[u8]
     ensures { result.now ≡ before_place place text.now }
 {
     let onward = from_place(text, place);
@@ -67,14 +67,14 @@ pub fn before_place(text: &[u8], place: Place) -> &[u8]
 }
 
 /// Returns the token at a place of a text, as long as it goes; nothing where the text ends there.
-pub fn token_at(text: &[u8], place: Place) -> &[u8]
+pub(crate) fn token_at(text: &[u8], place: Place) -> &[u8]
     ensures { result.now ≡ front_token (from_place place text.now) }
 {
     front_token(from_place(text, place))
 }
 
 /// Returns what stands in a text from a place on.
-pub fn from_place(text: &[u8], place: Place) -> &[u8]
+pub(crate) fn from_place(text: &[u8], place: Place) -> &[u8]
     ensures { result.now ≡ from_place place text.now }
 {
     let line = from_line(text, place.line.saturating_sub(1));
@@ -105,7 +105,7 @@ fn from_line(text: &[u8], line: u32) -> &[u8]
 }
 
 /// Returns the next token, and what is after it. White space may stand before it.
-pub fn next_token(bytes: &[u8]) -> Option<(Token<'_>, &[u8])>
+pub(crate) fn next_token(bytes: &[u8]) -> Option<(Token<'_>, &[u8])>
     ensures { MatchOption result (cut bytes.now ≡ [])
         (λ x. (cut bytes.now ≡ x.0.bytes.now ∷ cut x.1.now) × (length x.1.now < length bytes.now)) }
 {

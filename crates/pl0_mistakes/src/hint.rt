@@ -15,14 +15,18 @@ pub struct Hint<'a> {
 }
 
 /// Returns a hint that is this text.
-pub fn text(front: &'static str) -> Option<Hint<'static>>
+pub(crate) fn text(front: &'static str) -> Option<Hint<'static>>
     requires { in_line front.now ≡ true }
 {
     around(front, Token { bytes: &[] }, "")
 }
 
 /// Returns a hint that is a token between two texts; `None` where the token is more than a line.
-pub fn around<'a>(front: &'static str, token: Token<'a>, back: &'static str) -> Option<Hint<'a>>
+pub(crate) fn around<'a>(
+    front: &'static str,
+    token: Token<'a>,
+    back: &'static str,
+) -> Option<Hint<'a>>
     requires front { in_line front.now ≡ true }
     requires back { in_line back.now ≡ true }
 {

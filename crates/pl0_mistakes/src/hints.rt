@@ -9,56 +9,58 @@ use crate::hint::{Hint, around, text};
 use crate::names::procedure_with;
 use crate::scene::{Scene, is_comparison, is_declaring, is_keyword, is_name};
 use crate::situation::{
-    at_opening, begins_early, begins_operand, begins_part, begins_statement, ends_expression,
-    ends_part, ends_statement, in_condition, is_in_expression, is_new, is_operator, is_procedure,
-    is_sign, is_target, may_end, wants_operand,
+    at_opening, begins_early, begins_operand, begins_statement, ends_expression, ends_statement,
+    in_condition, is_in_expression, is_new, is_operator, is_procedure, is_sign, is_target,
+    lacks_comma, lacks_semicolon, may_end, wants_operand,
 };
 
 /// Returns what is said beside a token that can't stand where it does, the first that fits; `None` where nothing is known.
-pub fn hint_for(scene: Scene<'_>) -> Option<Hint<'_>> {
+pub(crate) fn hint_for(scene: Scene<'_>) -> Option<Hint<'_>> {
     comment_hint(scene)
-        .or(period_hint(scene))
-        .or(comparing_hint(scene))
-        .or(assigning_hint(scene))
-        .or(name_sign_hint(scene))
-        .or(declared_hint(scene))
-        .or(case_hint(scene))
-        .or(form_hint(scene))
-        .or(separator_hint(scene))
-        .or(missing_hint(scene))
-        .or(word_hint(scene))
-        .or(missing_word_hint(scene))
-        .or(statement_word_hint(scene))
-        .or(call_hint(scene))
-        .or(placed_hint(scene))
-        .or(keyword_hint(scene))
-        .or(declaring_hint(scene))
-        .or(statement_hint(scene))
-        .or(value_hint(scene))
-        .or(comma_hint(scene))
-        .or(condition_hint(scene))
-        .or(rest_hint(scene))
+        .or_else(|| period_hint(scene))
+        .or_else(|| comparing_hint(scene))
+        .or_else(|| assigning_hint(scene))
+        .or_else(|| name_sign_hint(scene))
+        .or_else(|| declared_hint(scene))
+        .or_else(|| case_hint(scene))
+        .or_else(|| form_hint(scene))
+        .or_else(|| separator_hint(scene))
+        .or_else(|| missing_hint(scene))
+        .or_else(|| word_hint(scene))
+        .or_else(|| missing_word_hint(scene))
+        .or_else(|| statement_word_hint(scene))
+        .or_else(|| call_hint(scene))
+        .or_else(|| placed_hint(scene))
+        .or_else(|| keyword_hint(scene))
+        .or_else(|| declaring_hint(scene))
+        .or_else(|| statement_hint(scene))
+        .or_else(|| value_hint(scene))
+        .or_else(|| comma_hint(scene))
+        .or_else(|| condition_hint(scene))
+        .or_else(|| rest_hint(scene))
 }
 
 /// Returns what is said where the text ends before the program does.
-pub fn end_hint(scene: Scene<'_>) -> Option<Hint<'_>> {
+pub(crate) fn end_hint(scene: Scene<'_>) -> Option<Hint<'_>> {
     let past = scene.past;
     let ends_part = ends_statement(scene) || past.last.is(";");
     if past.begins > 0 && ends_part {
         text("perhaps an `end` is missing")
     } else if past.begins > 0 || !ends_part {
         None
-    } else if past.procedures == 0 {
-        text("a `.` ends the program")
+    } else if past.last.is(";") && past.procedures == 0 {
+        text("the program ends with a statement and a `.`, as in `call p.`")
     } else if past.last.is(";") {
         None
-    } else {
+    } else if past.procedures > 0 {
         text("a procedure ends with a `;`")
+    } else {
+        text("a `.` ends the program")
     }
 }
 
 /// Returns what is said of a name that isn't declared: which procedure has one of this name.
-pub fn unknown_hint(scene: Scene<'_>) -> Option<Hint<'_>> {
+pub(crate) fn unknown_hint(scene: Scene<'_>) -> Option<Hint<'_>> {
     let procedure = procedure_with(scene.front, scene.found)?;
     around(
         "it is declared in procedure `",
@@ -140,7 +142,9 @@ fn missing_hint(scene: Scene<'_>) -> Option<Hint<'_>> {
         semicolon_hint(scene)
     } else if scene.found.is(".") && scene.past.begins > 0 && (ended || at_opening(scene)) {
         text("perhaps an `end` is missing before it")
-    } else if begins_part(scene) && ends_part(scene) {
+    } else if lacks_comma(scene) {
+        text("perhaps a `,` is missing before it")
+    } else if lacks_semicolon(scene) {
         text("perhaps a `;` is missing before it")
     } else if begins_statement(scene) && ended {
         text("several statements stand between `begin` and `end`")
@@ -214,7 +218,7 @@ fn placed_hint(scene: Scene<'_>) -> Option<Hint<'_>> {
 /// Where procedures are declared.
 fn procedure_hint(scene: Scene<'_>) -> Option<Hint<'_>> {
     let past = scene.past;
-    if past.begins > 0 && !past.last.is("begin") {
+    if past.procedures > 0 && past.begins > 0 && !past.last.is("begin") {
         text("perhaps an `end` is missing before it")
     } else if !is_declaring(past.opener) {
         text("procedures are declared before the statement of a block")
@@ -374,6 +378,8 @@ fn rest_hint(scene: Scene<'_>) -> Option<Hint<'_>> {
         None
     } else if past.begins > 0 {
         text("`;` or `end` has to stand here")
+    } else if past.procedures > 0 && scene.found.is(".") && scene.next.bytes.is_empty() {
+        text("a procedure ends with a `;`, and the program with a statement, as in `call p.`")
     } else if past.procedures > 0 {
         text("a procedure ends with a `;`")
     } else {

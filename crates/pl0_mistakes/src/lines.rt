@@ -73,7 +73,7 @@ pub fn fault_line(
 }
 
 /// Appends the name of a file, and the line and the column of a place, each after a colon.
-pub fn start_line(line: &mut Vec<u8>, file: &str, place: Place) -> Result<(), AllocError>
+pub(crate) fn start_line(line: &mut Vec<u8>, file: &str, place: Place) -> Result<(), AllocError>
     ensures { OnOk result (line.new.items ≡ line.old.items ++ (file.now
         ++ (codes ":" ++ (decimal place.line ++ (codes ":" ++ decimal place.column))))) }
 {

@@ -20,7 +20,7 @@ struct Declared {
 }
 
 /// Returns what a name is declared as, by the nearest block around the end of a text's front; `None` where it isn't yet.
-pub fn kind_of(front: &[u8], name: Token<'_>) -> Option<Kind> {
+pub(crate) fn kind_of(front: &[u8], name: Token<'_>) -> Option<Kind> {
     let mut declared = Declared {
         constants: 0,
         variables: 0,
@@ -40,7 +40,7 @@ pub fn kind_of(front: &[u8], name: Token<'_>) -> Option<Kind> {
 }
 
 /// Returns the last procedure in a text's front with a constant or a variable of this name.
-pub fn procedure_with<'a>(front: &'a [u8], name: Token<'_>) -> Option<Token<'a>> {
+pub(crate) fn procedure_with<'a>(front: &'a [u8], name: Token<'_>) -> Option<Token<'a>> {
     let mut procedure = None;
     let mut found = None;
     let mut past = nothing_past();
@@ -58,7 +58,7 @@ pub fn procedure_with<'a>(front: &'a [u8], name: Token<'_>) -> Option<Token<'a>>
 }
 
 /// Whether a name stands behind `procedure` anywhere in bytes.
-pub fn is_procedure_in(bytes: &[u8], name: Token<'_>) -> bool {
+pub(crate) fn is_procedure_in(bytes: &[u8], name: Token<'_>) -> bool {
     let mut behind = false;
     let mut rest = bytes;
     while let Some((token, after)) = next_token(rest) {

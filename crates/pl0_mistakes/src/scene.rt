@@ -43,7 +43,7 @@ pub struct Past<'a> {
 }
 
 /// Returns what stands around a place of a text.
-pub fn scene_at(text: &[u8], place: Place) -> Scene<'_>
+pub(crate) fn scene_at(text: &[u8], place: Place) -> Scene<'_>
     ensures { result.past.last.bytes.now ≡ token_before place text.now }
 {
     let front = before_place(text, place);
@@ -81,7 +81,7 @@ fn split(bytes: &[u8]) -> (Token<'_>, &[u8]) {
 }
 
 /// Returns what is known where nothing stands before.
-pub fn nothing_past() -> Past<'static>
+pub(crate) fn nothing_past() -> Past<'static>
     ensures { result.last.bytes.now ≡ [] }
 {
     let none = Token { bytes: &[] };
@@ -113,7 +113,7 @@ fn past_of(bytes: &[u8]) -> Past<'_>
 
 impl<'a> Past<'a> {
     /// Returns what is known behind one token more.
-    pub fn followed_by(self, token: Token<'a>) -> Past<'a>
+    pub(crate) fn followed_by(self, token: Token<'a>) -> Past<'a>
         ensures { result.last.bytes.now ≡ token.entry.bytes.now }
     {
         let opens = is_keyword(token) || token.is_one_of("; := !");
@@ -156,24 +156,24 @@ fn counted(open: u32, token: Token<'_>, opening: &str, closing: &str) -> u32 {
 }
 
 /// Whether declarations follow a token.
-pub fn is_declaring(opener: Token<'_>) -> bool {
+pub(crate) fn is_declaring(opener: Token<'_>) -> bool {
     opener.is_one_of("const var procedure")
 }
 
 /// Whether a token compares.
-pub fn is_comparison(token: Token<'_>) -> bool {
+pub(crate) fn is_comparison(token: Token<'_>) -> bool {
     token.is_one_of("= # < <= > >=")
 }
 
 /// Whether a token is a keyword.
-pub fn is_keyword(token: Token<'_>) -> bool {
+pub(crate) fn is_keyword(token: Token<'_>) -> bool {
     token.is_one_of(KEYWORDS)
 }
 
 /// Whether a token is a name.
-pub fn is_name(token: Token<'_>) -> bool {
+pub(crate) fn is_name(token: Token<'_>) -> bool {
     token.is_word() && !is_keyword(token)
 }
 
 /// The keywords.
-pub const KEYWORDS: &str = "const var procedure call begin end if then while do odd";
+pub(crate) const KEYWORDS: &str = "const var procedure call begin end if then while do odd";

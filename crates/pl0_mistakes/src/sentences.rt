@@ -24,7 +24,7 @@ pub struct Sentence<'a> {
 }
 
 /// Returns what is said of a mistake, at a place with this token and this around it.
-pub fn sentence_for<'a>(kind: FaultKind, token: &'a [u8], scene: Scene<'a>) -> Sentence<'a>
+pub(crate) fn sentence_for<'a>(kind: FaultKind, token: &'a [u8], scene: Scene<'a>) -> Sentence<'a>
     ensures { IsMistakeSentence token.entry.now scene.entry.past.last.bytes.now kind (bytes_of result) }
 {
     match kind {
@@ -121,7 +121,7 @@ fn not_assigned(constant: bool) -> &'static str
 }
 
 /// Appends what is said of a mistake.
-pub fn write_sentence(line: &mut Vec<u8>, sentence: Sentence<'_>) -> Result<(), AllocError>
+pub(crate) fn write_sentence(line: &mut Vec<u8>, sentence: Sentence<'_>) -> Result<(), AllocError>
     ensures { OnOk result (line.new.items ≡ line.old.items ++ bytes_of sentence.entry) }
 {
     write(line, sentence.front)?;
@@ -144,7 +144,7 @@ fn write_hint(line: &mut Vec<u8>, hint: Hint<'_>) -> Result<(), AllocError>
 }
 
 /// Appends what is said of a fault of a run.
-pub fn write_fault(line: &mut Vec<u8>, fault: RunFault) -> Result<(), AllocError>
+pub(crate) fn write_fault(line: &mut Vec<u8>, fault: RunFault) -> Result<(), AllocError>
     ensures { OnOk result (line.new.items ≡ line.old.items ++ fault_sentence fault) }
 {
     match fault {
@@ -156,7 +156,7 @@ pub fn write_fault(line: &mut Vec<u8>, fault: RunFault) -> Result<(), AllocError
 }
 
 /// Appends a text.
-pub fn write(line: &mut Vec<u8>, text: &str) -> Result<(), AllocError>
+pub(crate) fn write(line: &mut Vec<u8>, text: &str) -> Result<(), AllocError>
     ensures { OnOk result (line.new.items ≡ line.old.items ++ text.now) }
 {
     line.extend_from_slice(text.as_bytes())
