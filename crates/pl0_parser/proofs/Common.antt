@@ -17,6 +17,7 @@ pub use Rattle.pl0_tree.specs.declared.token.Mark.TheVariants.{AtLeast, AtMost, 
 pub use Rattle.pl0_tree.specs.declared.tree.Operator.{Operator}
 pub use Rattle.pl0_tree.specs.declared.tree.Place.{Place}
 pub use Rattle.std.proofs.Common.{[], add-zero, ap, append_assoc, arith, Bool, cond, drop, eqb, false, get_or, inl, inr, length, List, lit<, map, pos, pred, refl, rules, subst, suc, sym, take, true, zero, ℕ, ℤ, ⊎_elim, ◌*◌, ◌++◌, ◌+◌, ◌-◌, ◌<◌, ◌^◌, ◌||◌, ◌∙◌, ◌∷◌, ◌≡◌, ◌≤◌}
+pub use Rattle.std.proofs.lemmas.Grind.{common_steps}
 pub use Rattle.std.proofs.lemmas.Int.{to_z_pos}
 pub use Rattle.std.proofs.lemmas.List.{append-nil, map-append}
 pub use Rattle.std.specs.Prelude.{Box, Err, find, fold, if◌then◌else◌, IsErrAnd, nat_eq, nat_le, nat_lt, not, Ok, Option, replicate, Result, slice_get, Some, take_while, ◌&&◌, ◌==◌, ◌⊎◌}

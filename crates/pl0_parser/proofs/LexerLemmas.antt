@@ -1,6 +1,6 @@
 -- A token's bytes are skipped, and the lexer goes on after them.
 use Rattle.std.proofs.lemmas.List.Sums.{take_while-cons}
-use Rattle.pl0_parser.proofs.Common.{[], add-zero, ap, arith, token_at, behind, Bool, cond, decimal_value, drop, eqb, false, Faulty, find, fold, front_piece, get_or, is_space, is_word_byte, length, List, lit<, Mark, nat_eq, nat_le, nat_lt, not, number_symbol, NumberTooLarge, Option, Place, pred, refl, sign_piece, signs, Some, subst, suc, sym, Symbol, symbol_of, take, take_while, tokens_from, true, word_symbol, zero, ℕ, ◌&&◌, ◌*◌, ◌+◌, ◌-◌, ◌<◌, ◌==◌, ◌^◌, ◌||◌, ◌∙◌, ◌∷◌, ◌≡◌, ◌≤◌}
+use Rattle.pl0_parser.proofs.Common.{[], add-zero, ap, arith, common_steps, token_at, behind, Bool, cond, decimal_value, drop, eqb, false, Faulty, find, fold, front_piece, get_or, is_space, is_word_byte, length, List, lit<, Mark, nat_eq, nat_le, nat_lt, not, number_symbol, NumberTooLarge, Option, Place, pred, refl, sign_piece, signs, Some, subst, suc, sym, Symbol, symbol_of, take, take_while, tokens_from, true, word_symbol, zero, ℕ, ◌&&◌, ◌*◌, ◌+◌, ◌-◌, ◌<◌, ◌==◌, ◌^◌, ◌||◌, ◌∙◌, ◌∷◌, ◌≡◌, ◌≤◌}
 use Rattle.std.specs.Prelude.{◌≢◌}
 use Rattle.std.specs.List.{starts_with}
 use Rattle.std.specs.Str.{IsAscii}
@@ -36,10 +36,7 @@ pub skip : (k : ℕ) (p : Place) (bytes : List ℕ) → StaysOnLine k bytes
     → tokens_from p k bytes ≡ tokens_from (along p k) 0 (drop k bytes)
 skip zero p bytes stays = ap (λ c. tokens_from (record { line = p.line; column = c }) 0 bytes) (sym (add-zero p.column))
 skip (suc k) p [] stays = absurd stays
-skip (suc k) p (b ∷ bytes) stays =
-    ap (λ q. tokens_from q k bytes) (not_ten b p stays.0) ∙ skip k (along p 1) bytes stays.1 ∙
-    ap (λ c. tokens_from (record { line = p.line; column = c }) 0 (drop k bytes))
-    (let same : p.column + 1 + k ≡ p.column + suc k = omega arith in same)
+skip (suc k) p (b ∷ bytes) stays = grind (arith, common_steps, skip k (along p 1) bytes stays.1, not_ten)
 
 pub past_token : (p : Place) (b : ℕ) (bytes : List ℕ) (s : Seen) (size : ℕ) → is_space b ≡ false
     → IsPiece (b ∷ bytes) s size → tokens_from p 0 (b ∷ bytes) ≡ token_at (symbol_of s) p
@@ -71,9 +68,7 @@ take_run_at false x xs run is = refl
 
 pub take_run : (test : ℕ → Bool) (xs : List ℕ) → take (length (take_while test xs)) xs ≡ take_while test xs
 take_run test [] = refl
-take_run test (x ∷ xs) =
-    subst (λ ys. take (length ys) (x ∷ xs) ≡ ys) (sym (take_while-cons test x xs))
-    (take_run_at (test x) x xs (take_while test xs) (take_run test xs))
+take_run test (x ∷ xs) = grind (arith, common_steps, take_run test xs, take_while-cons, take_run_at)
 
 stays_at : (v : Bool) (x : ℕ) (xs run : List ℕ) → (v ≡ true → x ≡ 10 → ⊥) → StaysOnLine (length run) xs
     → StaysOnLine (length (cond v (x ∷ run) [])) (x ∷ xs)
@@ -83,14 +78,10 @@ stays_at false x xs run visible stays = tt
 run_stays : (test : ℕ → Bool) → ((b : ℕ) → test b ≡ true → b ≡ 10 → ⊥) → (xs : List ℕ)
     → StaysOnLine (length (take_while test xs)) xs
 run_stays test visible [] = tt
-run_stays test visible (x ∷ xs) =
-    subst (λ ys. StaysOnLine (length ys) (x ∷ xs)) (sym (take_while-cons test x xs))
-    (stays_at (test x) x xs (take_while test xs) (visible x) (run_stays test visible xs))
+run_stays test visible (x ∷ xs) = grind (arith, common_steps, run_stays test visible xs, take_while-cons, stays_at)
 
 run_some : (test : ℕ → Bool) (x : ℕ) (xs : List ℕ) → test x ≡ true → 0 < length (take_while test (x ∷ xs))
-run_some test x xs passes =
-    subst (λ ys. 0 < length ys) (sym (take_while-cons test x xs))
-    (subst (λ v. 0 < length (cond v (x ∷ take_while test xs) [])) (sym passes) (omega arith))
+run_some test x xs passes = grind (arith, common_steps, take_while-cons)
 
 word_visible : (b : ℕ) → is_word_byte b ≡ true → b ≡ 10 → ⊥
 word_visible b passes same = let other = ap is_word_byte same in cc
@@ -149,21 +140,14 @@ nothing_inside test i inside = absurd (omega arith)
 run_all : (test : ℕ → Bool) (xs : List ℕ) (i : ℕ) → i < length (take_while test xs)
     → test (get_or (take_while test xs) i 0) ≡ true
 run_all test [] = nothing_inside test
-run_all test (x ∷ xs) =
-    subst (λ ys. (i : ℕ) → i < length ys → test (get_or ys i 0) ≡ true) (sym (take_while-cons test x xs))
-    (run_all_at test (test x) x (take_while test xs) (λ is. is) (run_all test xs))
+run_all test (x ∷ xs) = grind (arith, common_steps, run_all test xs, take_while-cons, run_all_at)
 
 digit_bounds : (b : ℕ) → is_ascii_digit b ≡ true → (48 ≤ b) × (b < 58)
-digit_bounds b is =
-    let low_end : 48 ≤ b = grind (arith, nat_tests) in let high_end : b < 58 = grind (arith, nat_tests) in
-    (low_end, high_end)
+digit_bounds b is = grind (arith, common_steps)
 
 pub digits_bounded : (xs : List ℕ) (size : ℕ) → size ≡ length (take_while is_ascii_digit xs) → (i : ℕ)
     → i < length (take size xs) → (48 ≤ get_or (take size xs) i 0) × (get_or (take size xs) i 0 < 58)
-digits_bounded xs size is =
-    subst (λ ys. (i : ℕ) → i < length ys → (48 ≤ get_or ys i 0) × (get_or ys i 0 < 58))
-    (sym (ap (λ n. take n xs) is ∙ take_run is_ascii_digit xs))
-    (λ i inside. digit_bounds (get_or (take_while is_ascii_digit xs) i 0) (run_all is_ascii_digit xs i inside))
+digits_bounded xs size is = grind (arith, common_steps, take_run, digit_bounds, run_all)
 
 word_small : (b : ℕ) → is_word_byte b ≡ true → b < 128
 word_small b passes = grind (arith, nat_tests)
@@ -175,9 +159,7 @@ ascii_at (x ∷ xs) (suc i) passes = ascii_at xs i (λ k inside. passes (suc k) 
 
 -- the bytes of a word are ASCII
 pub word_ascii : (xs : List ℕ) (size : ℕ) → size ≡ length (take_while is_word_byte xs) → IsAscii (take size xs)
-word_ascii xs size is =
-    subst (λ ys. (i : ℕ) → get_or ys i 0 < 128) (sym (ap (λ n. take n xs) is ∙ take_run is_word_byte xs))
-    (λ i. ascii_at (take_while is_word_byte xs) i (run_all is_word_byte xs))
+word_ascii xs size is = grind (arith, common_steps, take_run, ascii_at, run_all)
 
 -- A value only grows with more digits.
 
@@ -199,10 +181,7 @@ below a b le = grind (arith, nat_tests)
 
 pub too_large : (xs : List ℕ) (i : ℕ) → i < length xs → 2 ^ 63 ≤ 10 * decimal_value (take i xs) + (get_or xs i 0 - 48)
     → Faulty NumberTooLarge ≡ number_symbol (decimal_value xs)
-too_large xs i inside large =
-    let all : 2 ^ 63 ≤ decimal_value xs = large_from (2 ^ 63) 0 i xs inside large in
-    let no : nat_lt (decimal_value xs) (2 ^ 63) ≡ false = below (decimal_value xs) (2 ^ 63) all in
-    sym (cond-false (nat_lt (decimal_value xs) (2 ^ 63)) _ _ no)
+too_large xs i inside large = grind (arith, common_steps, large_from, below, cond-false)
 
 -- Signs stay on a line.
 
@@ -218,9 +197,7 @@ not_line_feed b visible same = let other = ap (λ n. not (n == 10)) same in cc
 -- bytes that begin with a visible text stay on the line as long as it goes
 begins_stays : (ys xs : List ℕ) → is_visible ys ≡ true → starts_with nat_eq xs ys ≡ true → StaysOnLine (length ys) xs
 begins_stays [] xs visible begins = tt
-begins_stays (y ∷ []) (x ∷ xs) visible begins =
-    let (first, rest) = and_parts (nat_eq y x) (pointwise nat_eq [] []) begins in
-    (λ same. not_line_feed y visible (eqb-true y x first ∙ same), tt)
+begins_stays (y ∷ []) (x ∷ xs) visible begins = grind (arith, common_steps, not_line_feed)
 begins_stays (y ∷ z ∷ ys) (x ∷ xs) visible begins =
     let (first, rest) = and_parts (nat_eq y x) (pointwise nat_eq (z ∷ ys) (take (length (z ∷ ys)) xs)) begins in
     let (head, tail) = and_parts (not (y == 10)) (is_visible (z ∷ ys)) visible in
