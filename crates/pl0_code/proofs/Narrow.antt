@@ -1,5 +1,5 @@
 -- No `INT` makes more cells than a program declares variables, and three.
-use Rattle.pl0_code.proofs.Common.{[], ABlock, arith, Assign, Binary, Block, block_length, block_rows, block_steps, Call, call_declared, call_of, Compare, Condition, condition_rows, Constant, Declared, Empty, Enter, Expression, expression_rows, Found, If, Instruction, length, List, map, Negate, NoMore, None, Number, Odd, Option, Path, Procedures, procedures_length, procedures_rows, procedures_steps, read_declared, read_of, Resolver, resolver, Row, slice_get, Some, Statement, statement_rows, step_count, store_declared, store_of, subst, suc, Then, While, Write, zero, ℕ, ◌++◌, ◌+◌, ◌∷◌, ◌≡◌, ◌≤◌}
+use Rattle.pl0_code.proofs.Common.{[], ABlock, arith, Assign, Binary, Block, block_length, block_rows, block_steps, Call, call_declared, call_of, common_steps, Compare, Condition, condition_rows, Constant, Declared, Empty, Enter, Expression, expression_rows, Found, If, Instruction, length, List, map, Negate, NoMore, None, Number, Odd, Option, Path, Procedures, procedures_length, procedures_rows, procedures_steps, read_declared, read_of, Resolver, resolver, Row, slice_get, Some, Statement, statement_rows, step_count, store_declared, store_of, subst, suc, Then, While, Write, zero, ℕ, ◌++◌, ◌+◌, ◌∷◌, ◌≡◌, ◌≤◌}
 use Rattle.pl0_tree.specs.Tree.{AProcedure as AndProcedure, Variable as Named}
 use Rattle.pl0_code.proofs.ReadSizes.{variable_count, variables_count}
 
@@ -51,9 +51,7 @@ module _ (k : ℕ) (r : Resolver) where
 
   condition_narrow : (c : Condition) (begins : Option ℕ) → AllNarrow k (condition_rows r c begins)
   condition_narrow (Odd e) begins = narrow-++ k (expression_rows r e begins) _ (expression_narrow e begins) (tt, tt)
-  condition_narrow (Compare c left right) begins =
-      narrow-++ k (expression_rows r left begins) _ (expression_narrow left begins)
-      (narrow-++ k (expression_rows r right None) _ (expression_narrow right None) (tt, tt))
+  condition_narrow (Compare c left right) begins = grind (arith, common_steps, narrow-++, expression_narrow)
 
   statement_narrow : (s : Statement) (from n : ℕ) → AllNarrow k (statement_rows r s from n)
   statement_narrow Empty from n = tt

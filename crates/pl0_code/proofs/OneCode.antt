@@ -1,5 +1,5 @@
 -- A program has one code: two listings that are code of it agree at each address.
-use Rattle.pl0_code.proofs.Common.{[], ABlock, AConstant, ap, AProcedure, arith, Assign, AVariable, Binary, Block, block_at, block_length, Call, cell, Coded, CodedBlock, CodedCondition, CodedExpression, CodedProcedures, CodedStatement, Compare, Condition, condition_length, Empty, Enter, Expression, expression_length, Home, home, If, inl, inr, Instruction, IsBefore, Jump, JumpIfZero, Lays, LaysCall, LaysDeclaredCall, LaysDeclaredRead, LaysDeclaredStore, LaysRead, LaysStore, length, level, List, Listing, Literal, Load, map, Meaning, Negate, NoMore, None, Number, Odd, Operate, operator_operation, Option, option_and_then, option_map, Path, Place, Procedure, procedure_at, procedure_list, Procedures, procedures, procedures_length, refl, relation_operation, same_Some, slice_get, slice_get-map, Some, Statement, statement_length, StepAt, steps, Store, subst, suc, sym, Then, While, Write, zero, ℕ, ◌+◌, ◌<◌, ◌∙◌, ◌∷◌, ◌≡◌, ◌≤◌, ◌⊎◌}
+use Rattle.pl0_code.proofs.Common.{[], ABlock, AConstant, ap, AProcedure, arith, Assign, AVariable, Binary, Block, block_at, block_length, Call, cell, Coded, CodedBlock, CodedCondition, CodedExpression, CodedProcedures, CodedStatement, common_steps, Compare, Condition, condition_length, Empty, Enter, Expression, expression_length, Home, home, If, inl, inr, Instruction, IsBefore, Jump, JumpIfZero, Lays, LaysCall, LaysDeclaredCall, LaysDeclaredRead, LaysDeclaredStore, LaysRead, LaysStore, length, level, List, Listing, Literal, Load, map, Meaning, Negate, NoMore, None, Number, Odd, Operate, operator_operation, Option, option_and_then, option_map, Path, Place, Procedure, procedure_at, procedure_list, Procedures, procedures, procedures_length, refl, relation_operation, same_Some, slice_get, slice_get-map, Some, Statement, statement_length, StepAt, steps, Store, subst, suc, sym, Then, While, Write, zero, ℕ, ◌+◌, ◌<◌, ◌∙◌, ◌∷◌, ◌≡◌, ◌≤◌, ◌⊎◌}
 use Rattle.pl0_tree.specs.Tree.{Variable, AProcedure as AndProcedure}
 use Rattle.pl0_tree.specs.Ascending.{Ascend}
 use Rattle.pl0_meaning.proofs.Homes.{IsDeclaredBy, home_is}
@@ -36,24 +36,12 @@ module _ (u : Listing) where
     statement_long q (If p c s) from to h =
         omega (arith, condition_long q c (Some h.step) from h.last h.test, statement_long q s (h.last + 1) to h.body)
     statement_long q (While p c s) from to h =
-        omega (
-          arith,
-          condition_long q c (Some h.step) from h.last h.test,
-          statement_long q s (h.last + 1) h.back
-              h.body,
-          h.behind,
-        )
+        grind (arith, common_steps, statement_long q s (h.last + 1) h.back h.body, condition_long)
 
     mutual
       block_long : (q : Path) (b : Block) (from to : ℕ) → CodedBlock u entry q b from to → to ≡ from + block_length b
       block_long q (ABlock cs xs ps s end) from to h =
-          omega (
-            arith,
-            procedures_long q 0 ps (from + 1) h.start h.procedures,
-            statement_long q s (h.start + 1) h.last
-                h.body,
-            h.behind,
-          )
+          grind (arith, common_steps, procedures_long q 0 ps (from + 1) h.start h.procedures, statement_long)
 
       procedures_long : (q : Path) (i : ℕ) (ps : Procedures) (from to : ℕ) → CodedProcedures u entry q i ps from to
           → to ≡ from + procedures_length ps
@@ -66,11 +54,7 @@ module _ (u : Listing) where
 side : (a b : ℕ) → (a < b) ⊎ (b ≤ a)
 side a zero = inr (omega arith)
 side zero (suc b) = inl (omega arith)
-side (suc a) (suc b) = next (side a b)
-  where
-    next : (a < b) ⊎ (b ≤ a) → (suc a < suc b) ⊎ (suc b ≤ suc a)
-    next (inl lt) = inl (omega arith)
-    next (inr le) = inr (omega arith)
+side (suc a) (suc b) = grind (arith, common_steps, side a b)
 
 cons_same : {A : Type 0} (x y : A) (xs ys : List A) → x ≡ y → xs ≡ ys → x ∷ xs ≡ y ∷ ys
 cons_same x y xs ys p q = cc
@@ -125,11 +109,7 @@ module _ (main : Block) (ascend : Ascend (map (λ (s : StepAt). s.place) (steps 
     one a to is at b le lt = let same : a ≡ b = omega (arith, is, le, lt) in subst Agrees same at
 
     agree_on : (from mid to : ℕ) → Agree from mid → Agree mid to → Agree from to
-    agree_on from mid to first second a le lt = go (side a mid)
-      where
-        go : (a < mid) ⊎ (mid ≤ a) → Agrees a
-        go (inl before) = first a le before
-        go (inr behind) = second a behind lt
+    agree_on from mid to first second a le lt = grind (arith, common_steps, side)
 
     none_between : (from to : ℕ) → to ≡ from → Agree from to
     none_between from to is a le lt = absurd (omega (arith, is, le, lt))
@@ -169,17 +149,10 @@ module _ (main : Block) (ascend : Ascend (map (λ (s : StepAt). s.place) (steps 
     expression_same q (Variable w) b b' from from' to to' s p x y =
         one from to x.1 (read q (home main q w.word) b b' from from' p s x.0 y.0)
     expression_same q (Negate e) b b' from from' to to' s p x y =
-        let mids : x.0 ≡ y.0 =
-        omega (arith, p, expression_long u q e b from x.0 x.1, expression_long v q e b' from' y.0 y.1) in
-        agree_on from x.0 to (expression_same q e b b' from from' x.0 y.0 s p x.1 y.1)
-        (one x.0 to x.3 (laid x.0 y.0 (Operate operation.Negate) (Operate operation.Negate) None None mids refl refl
-        x.2 y.2))
+        grind (arith, expression_same q e b b' from from' x.0 y.0 s p x.1 y.1, expression_long, agree_on, laid)
     expression_same q (Binary op left right) b b' from from' to to' s p x y =
-        let mids : x.0 ≡ y.0 =
-        omega (arith, p, expression_long u q left b from x.0 x.2, expression_long v q left b' from' y.0 y.2) in
-        let ends : x.1 ≡ y.1 =
-        omega (arith, mids, expression_long u q right None x.0 x.1 x.3, expression_long v q right None y.0 y.1 y.3)
-        in
+        let mids : x.0 ≡ y.0 = grind (arith, expression_long) in
+        let ends : x.1 ≡ y.1 = grind (arith, expression_long) in
         let i = Operate (operator_operation op) in
         agree_on from x.1 to (agree_on from x.0 x.1 (expression_same q left b b' from from' x.0 y.0 s p x.2 y.2)
         (expression_same q right None None x.0 y.0 x.1 y.1 refl mids x.3 y.3))
@@ -188,17 +161,13 @@ module _ (main : Block) (ascend : Ascend (map (λ (s : StepAt). s.place) (steps 
     condition_same : (q : Path) (e : Condition) (b b' : Option ℕ) (from from' to to' : ℕ) → b ≡ b' → from ≡ from'
         → CodedCondition u q e b from to → CodedCondition v q e b' from' to' → Agree from to
     condition_same q (Odd e) b b' from from' to to' s p x y =
-        let mids : x.0 ≡ y.0 =
-        omega (arith, p, expression_long u q e b from x.0 x.1, expression_long v q e b' from' y.0 y.1) in
+        let mids : x.0 ≡ y.0 = grind (arith, expression_long) in
         agree_on from x.0 to (expression_same q e b b' from from' x.0 y.0 s p x.1 y.1)
         (one x.0 to x.3 (laid x.0 y.0 (Operate operation.Odd) (Operate operation.Odd) None None mids refl refl x.2
         y.2))
     condition_same q (Compare r left right) b b' from from' to to' s p x y =
-        let mids : x.0 ≡ y.0 =
-        omega (arith, p, expression_long u q left b from x.0 x.2, expression_long v q left b' from' y.0 y.2) in
-        let ends : x.1 ≡ y.1 =
-        omega (arith, mids, expression_long u q right None x.0 x.1 x.3, expression_long v q right None y.0 y.1 y.3)
-        in
+        let mids : x.0 ≡ y.0 = grind (arith, expression_long) in
+        let ends : x.1 ≡ y.1 = grind (arith, expression_long) in
         let i = Operate (relation_operation r) in
         agree_on from x.1 to (agree_on from x.0 x.1 (expression_same q left b b' from from' x.0 y.0 s p x.2 y.2)
         (expression_same q right None None x.0 y.0 x.1 y.1 refl mids x.3 y.3))
@@ -228,8 +197,7 @@ module _ (main : Block) (ascend : Ascend (map (λ (s : StepAt). s.place) (steps 
             → CodedProcedures u e q i ps from to → CodedProcedures v f q i ps from' to' → ProceduresAgree q i ps
         procedures_entries q i NoMore from from' to to' p x y = tt
         procedures_entries q i (AndProcedure w b more) from from' to to' p x y =
-            let mids : x.0 ≡ y.0 =
-            omega (arith, p, block_long u e (i ∷ q) b from x.0 x.1, block_long v f (i ∷ q) b from' y.0 y.1) in (
+            let mids : x.0 ≡ y.0 = grind (arith, block_long) in (
               block_entries (i ∷ q) b from from' x.0 y.0 p x.1 y.1,
               procedures_entries q (i + 1) more x.0 y.0 to to' mids
                   x.2 y.2,
@@ -239,9 +207,7 @@ module _ (main : Block) (ascend : Ascend (map (λ (s : StepAt). s.place) (steps 
           → option_map (λ (p : Procedure). p.block) (slice_get (procedure_list ps) i) ≡ Some b
           → EntriesAgree ((j + i) ∷ q) b
       in_procedures q j NoMore h i b is = cc
-      in_procedures q j (AndProcedure x c more) h zero b is =
-          let same : j ≡ j + 0 = omega arith in subst (λ k. EntriesAgree (k ∷ q) b) same
-          (subst (EntriesAgree (j ∷ q)) (same_Some c b is) h.0)
+      in_procedures q j (AndProcedure x c more) h zero b is = grind (arith, common_steps, EntriesAgree)
       in_procedures q j (AndProcedure x c more) h (suc i) b is =
           let same : j + 1 + i ≡ j + suc i = omega arith in subst (λ k. EntriesAgree (k ∷ q) b) same
           (in_procedures q (j + 1) more h.1 i b is)
@@ -295,20 +261,12 @@ module _ (main : Block) (ascend : Ascend (map (λ (s : StepAt). s.place) (steps 
             → CodedStatement u e q s from to → CodedStatement v f q s from' to' → Agree from to
         statement_same q Empty from from' to to' p x y = none_between from to x
         statement_same q (Then s t) from from' to to' p x y =
-            let mids : x.0 ≡ y.0 =
-            omega (arith, p, statement_long u e q s from x.0 x.1, statement_long v f q s from' y.0 y.1) in
+            let mids : x.0 ≡ y.0 = grind (arith, statement_long) in
             agree_on from x.0 to (statement_same q s from from' x.0 y.0 p x.1 y.1)
             (statement_same q t x.0 y.0 to to' mids x.2 y.2)
         statement_same q (Assign w t) from from' to to' p x y =
             let steps = number_once x.step y.step _ x.numbered y.numbered in
-            let lasts : x.last ≡ y.last =
-            omega (
-              arith,
-              p,
-              expression_long u q t (Some x.step) from x.last x.value,
-              expression_long v q t
-                  (Some y.step) from' y.last y.value,
-            ) in
+            let lasts : x.last ≡ y.last = grind (arith, expression_long) in
             agree_on from x.last to (expression_same q t (Some x.step) (Some y.step) from from' x.last y.last
             (ap Some steps) p x.value y.value)
             (one x.last to x.behind (store q (home main q w.word) x.last y.last lasts x.store y.store))
@@ -317,36 +275,15 @@ module _ (main : Block) (ascend : Ascend (map (λ (s : StepAt). s.place) (steps 
             (number_once x.0 y.0 _ x.1 y.1) x.2 y.2)
         statement_same q (Write r t) from from' to to' p x y =
             let steps = number_once x.step y.step _ x.numbered y.numbered in
-            let lasts : x.last ≡ y.last =
-            omega (
-              arith,
-              p,
-              expression_long u q t (Some x.step) from x.last x.value,
-              expression_long v q t
-                  (Some y.step) from' y.last y.value,
-            ) in
+            let lasts : x.last ≡ y.last = grind (arith, expression_long) in
             let i = Operate operation.Write in
             agree_on from x.last to (expression_same q t (Some x.step) (Some y.step) from from' x.last y.last
             (ap Some steps) p x.value y.value)
             (one x.last to x.behind (laid x.last y.last i i None None lasts refl refl x.write y.write))
         statement_same q (If r t s) from from' to to' p x y =
             let steps = number_once x.step y.step _ x.numbered y.numbered in
-            let lasts : x.last ≡ y.last =
-            omega (
-              arith,
-              p,
-              condition_long u q t (Some x.step) from x.last x.test,
-              condition_long v q t
-                  (Some y.step) from' y.last y.test,
-            ) in
-            let ends : to ≡ to' =
-            omega (
-              arith,
-              lasts,
-              statement_long u e q s (x.last + 1) to x.body,
-              statement_long v f q s (y.last + 1)
-                  to' y.body,
-            ) in
+            let lasts : x.last ≡ y.last = grind (arith, condition_long) in
+            let ends : to ≡ to' = grind (arith, statement_long) in
             agree_on from (x.last + 1) to
             (agree_on from x.last (x.last + 1)
             (condition_same q t (Some x.step) (Some y.step) from from' x.last y.last (ap Some steps) p x.test
@@ -357,22 +294,8 @@ module _ (main : Block) (ascend : Ascend (map (λ (s : StepAt). s.place) (steps 
             (statement_same q s (x.last + 1) (y.last + 1) to to' (omega (arith, lasts)) x.body y.body)
         statement_same q (While r t s) from from' to to' p x y =
             let steps = number_once x.step y.step _ x.numbered y.numbered in
-            let lasts : x.last ≡ y.last =
-            omega (
-              arith,
-              p,
-              condition_long u q t (Some x.step) from x.last x.test,
-              condition_long v q t
-                  (Some y.step) from' y.last y.test,
-            ) in
-            let backs : x.back ≡ y.back =
-            omega (
-              arith,
-              lasts,
-              statement_long u e q s (x.last + 1) x.back x.body,
-              statement_long v f q s
-                  (y.last + 1) y.back y.body,
-            ) in
+            let lasts : x.last ≡ y.last = grind (arith, condition_long) in
+            let backs : x.back ≡ y.back = grind (arith, statement_long) in
             let ends : to ≡ to' = omega (arith, backs, x.behind, y.behind) in
             agree_on from x.back to
             (agree_on from (x.last + 1) x.back
@@ -390,22 +313,8 @@ module _ (main : Block) (ascend : Ascend (map (λ (s : StepAt). s.place) (steps 
           block_same : (q : Path) (b : Block) (from from' to to' : ℕ) → from ≡ from' → CodedBlock u e q b from to
               → CodedBlock v f q b from' to' → Agree from to
           block_same q (ABlock cs xs ps s end) from from' to to' p x y =
-              let starts : x.start ≡ y.start =
-              omega (
-                arith,
-                p,
-                procedures_long u e q 0 ps (from + 1) x.start x.procedures,
-                procedures_long v f q 0
-                    ps (from' + 1) y.start y.procedures,
-              ) in
-              let lasts : x.last ≡ y.last =
-              omega (
-                arith,
-                starts,
-                statement_long u e q s (x.start + 1) x.last x.body,
-                statement_long v f q s
-                    (y.start + 1) y.last y.body,
-              ) in
+              let starts : x.start ≡ y.start = grind (arith, procedures_long) in
+              let lasts : x.last ≡ y.last = grind (arith, statement_long) in
               let steps = number_once x.step y.step _ x.numbered y.numbered in
               let i = Enter (cell (length xs)) in
               let r = Operate operation.Return in
@@ -426,20 +335,13 @@ module _ (main : Block) (ascend : Ascend (map (λ (s : StepAt). s.place) (steps 
               → CodedProcedures u e q i ps from to → CodedProcedures v f q i ps from' to' → Agree from to
           procedures_same q i NoMore from from' to to' p x y = none_between from to x
           procedures_same q i (AndProcedure w b more) from from' to to' p x y =
-              let mids : x.0 ≡ y.0 =
-              omega (arith, p, block_long u e (i ∷ q) b from x.0 x.1, block_long v f (i ∷ q) b from' y.0 y.1) in
+              let mids : x.0 ≡ y.0 = grind (arith, block_long) in
               agree_on from x.0 to (block_same (i ∷ q) b from from' x.0 y.0 p x.1 y.1)
               (procedures_same q (i + 1) more x.0 y.0 to to' mids x.2 y.2)
 
     both_same : Coded u → Coded v → (c ≡ d) × (l ≡ m)
     both_same x y =
-        let longs : length c ≡ length d =
-        omega (
-          arith,
-          block_long u x.entry [] main 0 (length c) x.blocks,
-          block_long v y.entry [] main 0 (length d)
-              y.blocks,
-        ) in
+        let longs : length c ≡ length d = grind (arith, block_long) in
         let all = block_entries x.entry y.entry [] main 0 0 (length c) (length d) refl x.blocks y.blocks in
         let agree = block_same x.entry y.entry all [] main 0 0 (length c) (length d) refl x.blocks y.blocks in (
           each_same c d longs (λ i lt. (agree i (omega arith) lt).0),

@@ -1,5 +1,5 @@
 -- The words of a lawful program are found as what they are used for.
-use Rattle.pl0_code.proofs.Common.{[], AConstant, Allows, AProcedure, AreDeclaredBefore, arith, Assign, AVariable, Binary, Block, block_at, body, body_uses, Call, CanBeAssigned, CanBeCalled, CanBeRead, CanDo, CanEvaluate, CanTest, Compare, Condition, condition_uses, Constant, Declared, declared_as, Empty, entry, Expression, expression_uses, Found, get_or, If, IsAssigned, IsCalled, IsFoundTo, IsLawful, IsRead, joined, length, List, Meaning, Name, Negate, None, Number, Odd, Option, Path, plain_statement, Resolver, resolver, Some, Statement, statement_uses, subst, suc, sym, Then, use_of, UseKind, Variable, While, Write, zero, ℕ, ◌<◌, ◌∷◌, ◌≡◌}
+use Rattle.pl0_code.proofs.Common.{[], AConstant, Allows, AProcedure, AreDeclaredBefore, arith, Assign, AVariable, Binary, Block, block_at, body, Call, CanBeAssigned, CanBeCalled, CanBeRead, CanDo, CanEvaluate, CanTest, common_steps, Compare, Condition, condition_uses, Constant, Declared, declared_as, Empty, entry, Expression, expression_uses, Found, get_or, If, IsAssigned, IsCalled, IsFoundTo, IsLawful, IsRead, joined, length, List, Meaning, Name, Negate, None, Number, Odd, Option, Path, plain_statement, Resolver, resolver, Some, Statement, statement_uses, subst, suc, sym, Then, use_of, UseKind, Variable, While, Write, zero, ℕ, ◌<◌, ◌∷◌, ◌≡◌}
 use Rattle.std.specs.Coded.{×_prop, Unit-prop}
 use Rattle.pl0_tree.specs.declared.tree.Statement.{Statement as DeclaredStatement}
 use Rattle.pl0_tree.specs.Tree.{Variable as Named}
@@ -72,9 +72,7 @@ module _ (main : Block) (q : Path) where
   -- the statement of a block
   pub can_do_body : (b : Block) → IsLawful main → AreDeclaredBefore main → block_at main q ≡ Some b
       → CanDo (resolver main q) (body b)
-  can_do_body b lawful early at =
-      can_do (body b) (meant_each main q (body_uses b) (λ i u e. lawful.uses q b i u at e)
-      (λ i u e. early q b i u at e))
+  can_do_body b lawful early at = grind (arith, common_steps, can_do, meant_each)
 
 -- one of several statements
 pub can_do_part : (r : Resolver) (xs : List DeclaredStatement) (i : ℕ) (s : DeclaredStatement) → i < length xs
