@@ -101,13 +101,13 @@ step_led c back (i ∷ code) address stack =
     option_map_or (step_led c back code (address + 1)) (after c i stack) (led back i address stack)
 
 -- From there a jump may lead to the next step, or to the beginning of a block.
-abbrev pub entered_lines : ℕ → Instruction → List ℕ
-entered_lines address (Enter count) = instruction_line address (Enter count) []
+abbrev pub entered_lines : ℕ → Option Instruction → List ℕ
+entered_lines address (Some (Enter count)) = instruction_line address (Enter count) []
 entered_lines address other = []
 
 abbrev pub jumped_lines : List Instruction → ℕ → Instruction → List ℕ
 jumped_lines code address (Jump target) =
-    instruction_line address (Jump target) [] ++ option_map_or (entered_lines target) (slice_get code target) []
+    instruction_line address (Jump target) [] ++ entered_lines target (slice_get code target)
 jumped_lines code address other = []
 
 abbrev pub passed_lines : List Instruction → ℕ → List ℕ

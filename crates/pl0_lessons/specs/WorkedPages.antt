@@ -114,7 +114,11 @@ frames =
 abbrev difference : List Instruction
 difference = Load 0 3 ∷ Load 1 3 ∷ Operate operation.Subtract ∷ Store 0 3 ∷ Jump 2 ∷ []
 
--- the lines of a step, where it leads, and the lines of one that faults
+abbrev sign_and_parity : List Instruction
+sign_and_parity =
+    Literal (pos 7) ∷ Load 0 3 ∷ Operate operation.Negate ∷ Operate operation.Odd ∷ JumpIfZero 30 ∷ []
+
+-- the lines of steps, where one leads, and the lines of one that faults
 abbrev pub InstructionsAre : Type 0
 InstructionsAre =
     (step_lines frames difference 10 []
@@ -123,6 +127,12 @@ InstructionsAre =
     ++ codes "                12  OPR 0 3        5 3\n"
     ++ codes "                13  STO 0 3        2\n")
     × (step_led frames 20 difference 10 [] ≡ Some 14)
+    × (step_lines frames sign_and_parity 10 []
+    ≡ codes "                10  LIT 0 7\n"
+    ++ codes "                11  LOD 0 3        7\n"
+    ++ codes "                12  OPR 0 1        7 5\n"
+    ++ codes "                13  OPR 0 6        7 -5\n"
+    ++ codes "                14  JPC 0 30       7 1\n")
     × (step_lines frames (Literal (pos 1) ∷ Literal (pos 0) ∷ Operate operation.Divide ∷ Store 0 3 ∷ []) 10 []
     ≡ codes "                10  LIT 0 1\n"
     ++ codes "                11  LIT 0 0        1\n"

@@ -1,7 +1,6 @@
 //! A step's instructions, one by one, with the operands on the stack.
 
 ghost use Rattle.std.specs.Prelude.{◌≡◌, ◌+◌, ◌<◌, ◌^◌, ◌++◌, [], IfOk, OnOk, slice_get};
-ghost use Rattle.std.specs.Option.{option_map_or};
 ghost use Rattle.pl0_unit.specs.Mnemonics.{instruction_text};
 ghost use Rattle.pl0_lessons.specs.Interpreter.{entered_lines, first_lines, instruction_and, instruction_line, jumped_lines, led, of_one, of_two, onward_lines, operand_text, operands_text, operated, passed_lines, put, top};
 ghost use Rattle.pl0_lessons.specs.Taken.{IsTaken};
@@ -249,39 +248,25 @@ fn put_jumped(
     match instruction {
         Instruction::Jump(target) => {
             put_instruction(alloc, page, address, instruction, &[])?;
-            put_entered_at(alloc, page, code, target)
+            put_entered(alloc, page, code, target)
         }
         _ => Ok(()),
     }
 }
 
 /// Appends the line of the instruction at an address if it makes the cells of a block.
-fn put_entered_at(
+fn put_entered(
     alloc: Global,
     page: &mut Vec<u8>,
     code: &[Instruction],
     address: usize,
 ) -> Result<(), AllocError>
-    ensures { OnOk result (page.new.items
-        ≡ page.old.items ++ option_map_or (entered_lines address) (slice_get code.now address) []) }
+    ensures { OnOk result (page.new.items ≡ page.old.items ++ entered_lines address (slice_get code.now address)) }
 {
-    match code.get(address) {
-        Some(instruction) => put_entered(alloc, page, address, *instruction),
-        None => Ok(()),
-    }
-}
-
-/// Appends the line of an instruction if it makes the cells of a block.
-fn put_entered(
-    alloc: Global,
-    page: &mut Vec<u8>,
-    address: usize,
-    instruction: Instruction,
-) -> Result<(), AllocError>
-    ensures { OnOk result (page.new.items ≡ page.old.items ++ entered_lines address instruction) }
-{
-    match instruction {
-        Instruction::Enter(_) => put_instruction(alloc, page, address, instruction, &[]),
+    match code.get(address).copied() {
+        Some(Instruction::Enter(count)) => {
+            put_instruction(alloc, page, address, Instruction::Enter(count), &[])
+        }
         _ => Ok(()),
     }
 }

@@ -17,6 +17,15 @@ use std::alloc::{AllocError, Global};
 /// What stands above the columns.
 const HEAD: &str = "kind       level  address  name\n";
 
+/// The width of the column of a kind.
+const KIND_WIDTH: usize = 9;
+
+/// The width of the column of a level.
+const LEVEL_WIDTH: usize = 5;
+
+/// The width of the column of an address.
+const ADDRESS_WIDTH: usize = 7;
+
 /// Returns the table of a program's names: a row for each declaration, in the order of the text, with the level and
 /// address of a variable or a procedure, and the value of a constant.
 ///
@@ -127,9 +136,9 @@ fn put_row(
     ensures { OnOk result (page.new.items ≡ page.old.items
         ++ row kind.now level.now address.now name.now) }
 {
-    put_left_column(page, 9, kind.as_bytes())?;
-    put_right_column(page, 5, level.as_bytes())?;
-    put_right_column(page, 7, address.as_bytes())?;
+    put_left_column(page, KIND_WIDTH, kind.as_bytes())?;
+    put_right_column(page, LEVEL_WIDTH, level.as_bytes())?;
+    put_right_column(page, ADDRESS_WIDTH, address.as_bytes())?;
     page.extend_from_slice(name.as_bytes())?;
     page.push(b'\n')?;
     Ok(())

@@ -18,7 +18,7 @@ returns-clause-indents c = refl
 
 pub returns-clause-instructions : goal.returns-clause-instructions
 unfolding digits
-returns-clause-instructions c = (refl, refl, refl)
+returns-clause-instructions c = (refl, refl, refl, refl)
 
 pub returns-clause-leads : goal.returns-clause-leads
 returns-clause-leads c = (refl, refl)
