@@ -1,16 +1,17 @@
 -- A conversation over an inbox, of which what it gives is known, is one over what is known of it.
 use Rattle.std.proofs.Common.{◌≡◌, ℕ, Bool, List, ap, subst, Option, None, Some, inl, inr}
 use Rattle.std.specs.Prelude.{Result}
-use Rattle.byte_streams.specs.Streams.{StreamLog, IsOfWhole}
+use Rattle.byte_streams.specs.Streams.{StreamLog, Output, IsOfWhole}
 use Rattle.dap_reader.specs.Arriving.{unread, Looks}
 use Rattle.dap_reader.specs.Taken.{taken}
 use Rattle.dap_reader.specs.declared.arrivals.Arrivals.{Arrivals}
 use Rattle.dap_server.specs.Conversation.{State, Replies}
 use Rattle.dap_server.specs.Inbox.{PlainItem, Gives, Reads}
-use Rattle.dap_server.specs.ServingInbox.{EndsAt}
-use Rattle.dap_server.specs.Working.{Works, Polls, Comes, Course, begins, takes, works_on, WorkerEnds}
+use Rattle.dap_server.specs.ServingInbox.{EndsAt, OutputFailures}
+use Rattle.dap_server.specs.Working as courses
+use Rattle.dap_server.specs.Working.{Works, Polls, Comes, Course, WorkerEnds}
 use Rattle.dap_debug.specs.Replies.{Known}
-use Rattle.dap_debug.specs.Serving.{replied_by, worked_by, runs_in, Debugged, DebuggedByReader}
+use Rattle.dap_debug.specs.Serving.{replied_by, worked_by, runs_in, Debugged, DebuggedFrom}
 use Rattle.dap_server.specs.declared.ending.Ending.{Ending}
 use Rattle.dap_server.specs.declared.ending.ServeFault.{ServeFault}
 
@@ -25,14 +26,14 @@ coursed : {S I K : Type 0} (know : I → K) (replies : Replies S) (works : Works
     (polls : Polls K) (a : State S) (inbox : I) (b : State S) (rest : List ℕ) (left : I) (texts : List (List ℕ))
     → Course replies works busy (given know gives) (found know polls) a inbox b rest left texts
     → Course replies works busy gives polls a (know inbox) b rest (know left) texts
-coursed know replies works busy gives polls a inbox b rest left texts begins = begins
+coursed know replies works busy gives polls a inbox b rest left texts courses.begins = courses.begins
 coursed know replies works busy gives polls a inbox b rest left texts
-    (takes m n before after j k item first later course there is_open comes taken) =
-    takes m n before after (know j) (know k) item first later
+    (courses.takes m n before after j k item first later course there is_open comes taken) =
+    courses.takes m n before after (know j) (know k) item first later
     (coursed know replies works busy gives polls a inbox m before j first course) there is_open comes taken
 coursed know replies works busy gives polls a inbox b rest left texts
-    (works_on m adapter before j k events first later course there is_open busy_is none worked told) =
-    works_on m adapter before (know j) (know k) events first later
+    (courses.works_on m adapter before j k events first later course there is_open busy_is none worked told) =
+    courses.works_on m adapter before (know j) (know k) events first later
     (coursed know replies works busy gives polls a inbox m before j first course) there is_open busy_is none worked told
 
 ended_at : {S I K : Type 0} (know : I → K) (last : Option PlainItem) (busy : Bool) (gives : Gives K) (polls : Polls K)
@@ -76,15 +77,15 @@ debugged_over know known gives polls inbox left written later result is = record
   };
 }
 
-pub debugged_by_reader : {S : Type 0} (known : Known S) (first : Option (List ℕ)) (inbox left : Arrivals)
-    (written later : StreamLog) (result : Result Ending ServeFault) → taken inbox ≡ unread first
+pub debugged_from : {S : Type 0} (known : Known S) (first : Option (List ℕ)) (inbox left : Arrivals)
+    (before after : Output) (result : Result Ending ServeFault) → taken inbox ≡ unread first
     → ∥ IsOfWhole (taken left) ∥₁
-    → Debugged known (given taken Reads) (found taken Looks) inbox left written later result
-    → DebuggedByReader known first written later result
-debugged_by_reader known first inbox left written later result from_ whole is =
-    inr (
-      taken left,
-      whole,
-      subst (λ start. Debugged known Reads Looks start (taken left) written later result) from_
-          (debugged_over taken known Reads Looks inbox left written later result is),
-    )
+    → Debugged known (given taken Reads) (found taken Looks) inbox left before.written after.written result
+    → OutputFailures result before.failures after.failures → DebuggedFrom known first before after result
+debugged_from known first inbox left before after result from_ whole is failures = (
+  taken left,
+  whole,
+  subst (λ start. Debugged known Reads Looks start (taken left) before.written after.written result) from_
+      (debugged_over taken known Reads Looks inbox left before.written after.written result is),
+  failures,
+)

@@ -22,7 +22,7 @@ use Rattle.dap_debug.specs.Arguments.{text_at}
 use Rattle.dap_debug.specs.Inspecting.{ShowsScopes, ShowsScope, ShowsVariables, Evaluates, Shows, ShowsFrom, ExplainsFrom, frame_asked, frame_limit, frame_of_reference, frame_to_evaluate, index_of_reference, reference_asked, reply_of}
 use Rattle.dap_debug.specs.Loading.{LoadsAs, LoadsGiven, LoadsAt, LoadsFrom}
 use Rattle.dap_debug.specs.Shown.{PlainFrame, PlainScope}
-use Rattle.dap_debug.specs.Replies.{Known, Replies}
+use Rattle.dap_debug.specs.Replies.{Known, RepliesTo}
 use Rattle.dap_debug.specs.Running.{EntersFrom, GoesFrom, GoesOn, WorksOn, StartsFrom, ResumesFrom, PausesFrom, IsRefused, ended, mode_of, phase_after}
 use Rattle.dap_debug.specs.Standings.{Standing}
 use Rattle.dap_debug.specs.Telling.{event_of, merged, told_end, told_of}
@@ -169,34 +169,37 @@ loaded_as arguments (Ok program) p stood stands reply at none is =
     replied stands _ reply _ 0 is.reply_is is.phase_is refl ∙ sym none
 loaded_as arguments (Err mistake) p stood stands reply at none is = quiet stood stands reply _ p is.0 refl is.1 at
 
-loaded_given : {S : Type 0} (begins : List ℕ → Result S (List ℕ) → Type 0) (arguments : Option Data)
+loaded_given : {S : Type 0} (reads_as : List ℕ → Result S (List ℕ) → Type 0) (arguments : Option Data)
     (given : Result (List ℕ) Unread) (p : Phase S) (stood stands : Standing S) (reply : PlainReply) → stood.phase ≡ p
-    → owed p ≡ 0 → LoadsGiven begins arguments given stood reply stands
+    → owed p ≡ 0 → LoadsGiven reads_as arguments given stood reply stands
     → owed stands.phase + ends_told reply.events ≡ owed p
-loaded_given begins arguments (Err why) p stood stands reply at none is = quiet stood stands reply _ p is.0 refl is.1 at
-loaded_given begins arguments (Ok bytes) p stood stands reply at none (inl is) =
+loaded_given reads_as arguments (Err why) p stood stands reply at none is =
+    quiet stood stands reply _ p is.0 refl is.1 at
+loaded_given reads_as arguments (Ok bytes) p stood stands reply at none (inl is) =
     loaded_as arguments is.1 p stood stands reply at none is.3
-loaded_given begins arguments (Ok bytes) p stood stands reply at none (inr is) =
+loaded_given reads_as arguments (Ok bytes) p stood stands reply at none (inr is) =
     quiet stood stands reply _ p is.1.0 refl is.1.1 at
 
-loaded_at : {S : Type 0} (begins : List ℕ → Result S (List ℕ) → Type 0) (arguments : Option Data)
+loaded_at : {S : Type 0} (reads_as : List ℕ → Result S (List ℕ) → Type 0) (arguments : Option Data)
     (path : Option (List ℕ)) (p : Phase S) (stood stands : Standing S) (reply : PlainReply) → stood.phase ≡ p
-    → owed p ≡ 0 → LoadsAt begins arguments path stood reply stands
+    → owed p ≡ 0 → LoadsAt reads_as arguments path stood reply stands
     → owed stands.phase + ends_told reply.events ≡ owed p
-loaded_at begins arguments None p stood stands reply at none is = quiet stood stands reply _ p is.0 refl is.1 at
-loaded_at begins arguments (Some path) p stood stands reply at none is =
-    loaded_given begins arguments is.0 p stood stands reply at none is.1
+loaded_at reads_as arguments None p stood stands reply at none is = quiet stood stands reply _ p is.0 refl is.1 at
+loaded_at reads_as arguments (Some path) p stood stands reply at none is =
+    loaded_given reads_as arguments is.0 p stood stands reply at none is.1
 
-loaded : {S : Type 0} (begins : List ℕ → Result S (List ℕ) → Type 0) (p : Phase S) (arguments : Option Data)
-    (stood stands : Standing S) (reply : PlainReply) → stood.phase ≡ p → LoadsFrom begins p arguments stood reply stands
+loaded : {S : Type 0} (reads_as : List ℕ → Result S (List ℕ) → Type 0) (p : Phase S) (arguments : Option Data)
+    (stood stands : Standing S) (reply : PlainReply) → stood.phase ≡ p
+    → LoadsFrom reads_as p arguments stood reply stands
     → owed stands.phase + ends_told reply.events ≡ owed p
-loaded begins (phase.Running a how) arguments stood stands reply at is = quiet stood stands reply _ _ is.0 refl is.1 at
-loaded begins (phase.Configuring a stop_on_entry) arguments stood stands reply at is =
-    loaded_at begins arguments (text_at (codes "program") arguments) _ stood stands reply at refl is
-loaded begins (phase.Stopped a) arguments stood stands reply at is =
-    loaded_at begins arguments (text_at (codes "program") arguments) _ stood stands reply at refl is
-loaded begins phase.NoProgram arguments stood stands reply at is =
-    loaded_at begins arguments (text_at (codes "program") arguments) _ stood stands reply at refl is
+loaded reads_as (phase.Running a how) arguments stood stands reply at is =
+    quiet stood stands reply _ _ is.0 refl is.1 at
+loaded reads_as (phase.Configuring a stop_on_entry) arguments stood stands reply at is =
+    loaded_at reads_as arguments (text_at (codes "program") arguments) _ stood stands reply at refl is
+loaded reads_as (phase.Stopped a) arguments stood stands reply at is =
+    loaded_at reads_as arguments (text_at (codes "program") arguments) _ stood stands reply at refl is
+loaded reads_as phase.NoProgram arguments stood stands reply at is =
+    loaded_at reads_as arguments (text_at (codes "program") arguments) _ stood stands reply at refl is
 
 set_in : {S : Type 0} (first_place : S → ℕ → Option Location → Type 0) (a : S) (arguments : Option Data)
     (path : List ℕ) (old new : List PlainBreakpoint) (reply : PlainReply)
@@ -287,12 +290,12 @@ explains_quiet phase.NoProgram fault reply is = no_events reply _ is.1 refl
 -- ---- all
 
 pub replies_balanced : {S : Type 0} (known : Known S) (asked : Command) (arguments : Option Data)
-    (stood stands : Standing S) (reply : PlainReply) → Replies known asked arguments stood reply stands
+    (stood stands : Standing S) (reply : PlainReply) → RepliesTo known asked arguments stood reply stands
     → owed stands.phase + ends_told reply.events ≡ owed stood.phase + asks asked stood.phase
 replies_balanced known command.Initialize arguments stood stands reply is =
     let so = quiet stood stands reply _ stood.phase is.0 refl is.1 refl in omega (arith, so)
 replies_balanced known command.Launch arguments stood stands reply is =
-    let so = loaded known.begins stood.phase arguments stood stands reply refl is in omega (arith, so)
+    let so = loaded known.reads_as stood.phase arguments stood stands reply refl is in omega (arith, so)
 replies_balanced known command.SetBreakpoints arguments stood stands reply is =
     let so = sets known.first_place _ stood.phase arguments stood stands reply refl is in omega (arith, so)
 replies_balanced known command.ConfigurationDone arguments stood stands reply is =

@@ -3,13 +3,13 @@ use Rattle.std.proofs.Common.{◌≡◌, ◌<◌, ◌+◌, ℕ, List, [], ◌∷
 use Rattle.std.specs.Prelude.{◌≢◌, map, codes, Option, Some, Result, Ok, Err, IfOk}
 use Rattle.std.specs.Option.{option_to_list}
 use Rattle.std.proofs.Math.Seq.{take-suc}
-use Rattle.std.proofs.lemmas.List.{length_push, length-map, length-take-le, map-append}
+use Rattle.std.proofs.lemmas.List.{length_push, length-map, map-append}
 use Rattle.serde_json.specs.Data.{Data, Items}
 use Rattle.serde_json.specs.View.{view, items_of}
 use Rattle.serde_json.specs.declared.value.Value.{Value}
-use Rattle.dap_bodies.specs.Bodies.{PlainFrame as ShownFrame, PlainBreakpoint as Answer, Refused, plain_frame as plain_shown_frame, plain_scope as plain_shown_scope, plain_breakpoint as plain_answer}
+use Rattle.dap_bodies.specs.Bodies.{ShownFrame, ShownBreakpoint, Refused, plain_shown_frame, plain_shown_scope, plain_shown_breakpoint}
 use Rattle.dap_bodies.specs.declared.showing.StackFrame.{StackFrame}
-use Rattle.dap_bodies.specs.declared.showing.Scope.{Scope as ShownScope}
+use Rattle.dap_bodies.specs.declared.showing.Scope as bodies
 use Rattle.dap_bodies.specs.declared.placing.Breakpoint.{Breakpoint as AnswerValue}
 use Rattle.dap_server.specs.Messages.{PlainReply}
 use Rattle.debuggee.specs.Plain.{PlainBreakpoint}
@@ -59,49 +59,20 @@ scopes_more frame index (x ∷ scopes) one =
     ∙ ap (λ n. shown_scopes frame (index + 1) scopes ++ shown_scope frame n one ∷ []) e)
 
 -- one scope more
-pub one_scope : (frame : ℕ) (scopes : List Scope) (i : ℕ) (one : Scope) (values new : List ShownScope)
-    (value : ShownScope) → i < length scopes → one ≡ get_or scopes i one → new ≡ values ++ value ∷ []
-    → map plain_shown_scope values ≡ shown_scopes frame 0 (map plain_scope (take i scopes))
-    → plain_shown_scope value ≡ shown_scope frame i (plain_scope one)
-    → map plain_shown_scope new ≡ shown_scopes frame 0 (map plain_scope (take (i + 1) scopes))
-one_scope frame scopes i one values new value within here grown are is =
+pub one_scope : (frame : ℕ) (scopes : List Scope) (one : Scope) (values new : List bodies.Scope)
+    (value : bodies.Scope) → new ≡ values ++ value ∷ []
+    → map plain_shown_scope values ≡ shown_scopes frame 0 (map plain_scope scopes)
+    → plain_shown_scope value ≡ shown_scope frame (length scopes) (plain_scope one)
+    → map plain_shown_scope new ≡ shown_scopes frame 0 (map plain_scope (scopes ++ one ∷ []))
+one_scope frame scopes one values new value grown are is =
+    let same = length-map scopes plain_scope in
+    let many : length scopes ≡ 0 + length (map plain_scope scopes) = omega (arith, same) in
     ap (map plain_shown_scope) grown ∙ map-append plain_shown_scope values (value ∷ [])
     ∙ ap (λ l. l ++ plain_shown_scope value ∷ []) are
-    ∙ ap (λ d. shown_scopes frame 0 (map plain_scope (take i scopes)) ++ d ∷ []) (is ∙ ap (λ n. shown_scope frame n
-    (plain_scope one)) (sym many))
-    ∙ sym (scopes_more frame 0 (map plain_scope (take i scopes)) (plain_scope one))
-    ∙ ap (shown_scopes frame 0) (sym all)
-  where
-    many : 0 + length (map plain_scope (take i scopes)) ≡ i
-    many =
-        let short = length-take-le i scopes (omega (arith, within)) in
-        let same = length-map (take i scopes) plain_scope in
-        omega (arith, short, same)
-
-    all : map plain_scope (take (i + 1) scopes) ≡ map plain_scope (take i scopes) ++ plain_scope one ∷ []
-    all =
-        ap (λ k. map plain_scope (take k scopes)) (add-one i) ∙ ap (map plain_scope) (take-suc scopes i one within)
-        ∙ map-append plain_scope (take i scopes) (get_or scopes i one ∷ [])
-        ∙ ap (λ x. map plain_scope (take i scopes) ++ plain_scope x ∷ []) (sym here)
-
--- one more of those that are shown
-pub one_more : {A B V C : Type 0} (plain : A → B) (f : B → C) (view : V → C) (xs : List A) (i : ℕ) (one : A)
-    (values new : List V) (value : V) → i < length xs → one ≡ get_or xs i one → new ≡ values ++ value ∷ []
-    → map view values ≡ map f (map plain (take i xs)) → view value ≡ f (plain one)
-    → map view new ≡ map f (map plain (take (i + 1) xs))
-one_more plain f view xs i one values new value within here grown are is =
-    ap (map view) grown ∙ map-append view values (value ∷ []) ∙ ap (λ l. l ++ view value ∷ []) are
-    ∙ ap (λ d. map f (map plain (take i xs)) ++ d ∷ []) is ∙ sym (taken_more plain f xs i one within here)
-  where
-    taken_more : {A B C : Type 0} (plain : A → B) (f : B → C) (xs : List A) (i : ℕ) (one : A) → i < length xs
-        → one ≡ get_or xs i one
-        → map f (map plain (take (i + 1) xs)) ≡ map f (map plain (take i xs)) ++ f (plain one) ∷ []
-    taken_more plain f xs i one within here =
-        ap (λ k. map f (map plain (take k xs))) (add-one i)
-        ∙ ap (λ l. map f (map plain l)) (take-suc xs i one within)
-        ∙ ap (map f) (map-append plain (take i xs) (get_or xs i one ∷ []))
-        ∙ map-append f (map plain (take i xs)) (plain (get_or xs i one) ∷ [])
-        ∙ ap (λ x. map f (map plain (take i xs)) ++ f (plain x) ∷ []) (sym here)
+    ∙ ap (λ d. shown_scopes frame 0 (map plain_scope scopes) ++ d ∷ [])
+    (is ∙ ap (λ n. shown_scope frame n (plain_scope one)) many)
+    ∙ sym (scopes_more frame 0 (map plain_scope scopes) (plain_scope one))
+    ∙ ap (shown_scopes frame 0) (sym (map-append plain_scope scopes (one ∷ [])))
 
 -- ---- breakpoints
 
@@ -111,7 +82,8 @@ on_ok P Q (Ok a) is so = so a is
 on_ok P Q (Err e) is so = tt
 
 pub set_own : {S : Type 0} (first_place : S → ℕ → Option Location → Type 0) (arguments : Option Data) (program : S)
-    (path : List ℕ) (old new : List PlainBreakpoint) (reply : PlainReply) (asked : Items) (answers : List Answer)
+    (path : List ℕ) (old new : List PlainBreakpoint) (reply : PlainReply) (asked : Items)
+    (answers : List ShownBreakpoint)
     → asked ≡ list_at (codes "breakpoints") arguments → source_asked arguments ≡ Some path
     → AreSet first_place program asked answers new → reply ≡ answers_reply answers
     → SetsIn first_place arguments program path old reply new
@@ -120,7 +92,7 @@ set_own first_place arguments program path old new reply asked answers at own ar
 
 pub refuse_other : {S : Type 0} (first_place : S → ℕ → Option Location → Type 0) (arguments : Option Data)
     (program : S) (path : List ℕ) (old : List PlainBreakpoint) (reply : PlainReply) (asked : Items)
-    (answers : List Answer)
+    (answers : List ShownBreakpoint)
     → asked ≡ list_at (codes "breakpoints") arguments → source_asked arguments ≢ Some path → AreUnset asked answers
     → reply ≡ answers_reply answers → SetsIn first_place arguments program path old reply old
 refuse_other first_place arguments program path old reply asked answers at other are is =
@@ -141,7 +113,8 @@ sets_from first_place arguments program stood stands reply at is =
     subst (λ found. SetsFrom first_place found arguments stood reply stands) at is
 
 set_more : {S : Type 0} (first_place : S → ℕ → Option Location → Type 0) (a : S) (asked : List Data)
-    (answers : List Answer) (set : List PlainBreakpoint) (more : Option PlainBreakpoint) (one : Data) (answer : Answer)
+    (answers : List ShownBreakpoint) (set : List PlainBreakpoint) (more : Option PlainBreakpoint) (one : Data)
+    (answer : ShownBreakpoint)
     → AreSet first_place a (items_of asked) answers set → IsSet first_place a one answer more
     → AreSet first_place a (items_of (asked ++ one ∷ [])) (answers ++ answer ∷ [])
     (set ++ option_to_list more)
@@ -157,7 +130,7 @@ set_more first_place a (x ∷ asked) (y ∷ answers) set more one answer are is 
   set_more first_place a asked answers are.1 more one answer are.4 is,
 )
 
-unset_more : (asked : List Data) (answers : List Answer) (one : Data) (answer : Answer)
+unset_more : (asked : List Data) (answers : List ShownBreakpoint) (one : Data) (answer : ShownBreakpoint)
     → AreUnset (items_of asked) answers → ((why : List ℕ) × (answer ≡ Refused why))
     → AreUnset (items_of (asked ++ one ∷ [])) (answers ++ answer ∷ [])
 unset_more [] [] one answer are is = (is, tt)
@@ -174,30 +147,34 @@ taken asked i one within here =
     ∙ ap (λ x. map view (take i asked) ++ view x ∷ []) (sym here)
 
 grown_to : (answers new : List AnswerValue) (answer : AnswerValue) → new ≡ answers ++ answer ∷ []
-    → map plain_answer new ≡ map plain_answer answers ++ plain_answer answer ∷ []
-grown_to answers new answer grown = ap (map plain_answer) grown ∙ map-append plain_answer answers (answer ∷ [])
+    → map plain_shown_breakpoint new ≡ map plain_shown_breakpoint answers ++ plain_shown_breakpoint answer ∷ []
+grown_to answers new answer grown =
+    ap (map plain_shown_breakpoint) grown ∙ map-append plain_shown_breakpoint answers (answer ∷ [])
 
 pub one_set : {S : Type 0} (first_place : S → ℕ → Option Location → Type 0) (a : S) (asked : List Value) (i : ℕ)
     (one : Value) (answers new : List AnswerValue) (answer : AnswerValue) (set all : List PlainBreakpoint)
     (more : Option PlainBreakpoint) → i < length asked
     → one ≡ get_or asked i one → new ≡ answers ++ answer ∷ [] → all ≡ set ++ option_to_list more
-    → AreSet first_place a (items_of (map view (take i asked))) (map plain_answer answers) set
-    → IsSet first_place a (view one) (plain_answer answer) more
-    → AreSet first_place a (items_of (map view (take (i + 1) asked))) (map plain_answer new) all
+    → AreSet first_place a (items_of (map view (take i asked))) (map plain_shown_breakpoint answers) set
+    → IsSet first_place a (view one) (plain_shown_breakpoint answer) more
+    → AreSet first_place a (items_of (map view (take (i + 1) asked))) (map plain_shown_breakpoint new) all
 one_set first_place a asked i one answers new answer set all more within here grown kept are is =
-    subst (λ l. AreSet first_place a (items_of l) (map plain_answer new) all) (sym (taken asked i one within here))
+    subst (λ l. AreSet first_place a (items_of l) (map plain_shown_breakpoint new) all)
+    (sym (taken asked i one within here))
     (subst (λ l. AreSet first_place a (items_of (map view (take i asked) ++ view one ∷ [])) l all)
     (sym (grown_to answers new answer grown))
     (subst (AreSet first_place a (items_of (map view (take i asked) ++ view one ∷ []))
-    (map plain_answer answers ++ plain_answer answer ∷ [])) (sym kept)
-    (set_more first_place a (map view (take i asked)) (map plain_answer answers) set more (view one)
-    (plain_answer answer) are is)))
+    (map plain_shown_breakpoint answers ++ plain_shown_breakpoint answer ∷ [])) (sym kept)
+    (set_more first_place a (map view (take i asked)) (map plain_shown_breakpoint answers) set more (view one)
+    (plain_shown_breakpoint answer) are is)))
 
 pub one_unset : (asked : List Value) (i : ℕ) (one : Value) (answers new : List AnswerValue) (answer : AnswerValue)
     (why : List ℕ) → i < length asked → one ≡ get_or asked i one → new ≡ answers ++ answer ∷ []
-    → AreUnset (items_of (map view (take i asked))) (map plain_answer answers) → plain_answer answer ≡ Refused why
-    → AreUnset (items_of (map view (take (i + 1) asked))) (map plain_answer new)
+    → AreUnset (items_of (map view (take i asked))) (map plain_shown_breakpoint answers)
+    → plain_shown_breakpoint answer ≡ Refused why
+    → AreUnset (items_of (map view (take (i + 1) asked))) (map plain_shown_breakpoint new)
 one_unset asked i one answers new answer why within here grown are is =
-    subst (λ l. AreUnset (items_of l) (map plain_answer new)) (sym (taken asked i one within here))
+    subst (λ l. AreUnset (items_of l) (map plain_shown_breakpoint new)) (sym (taken asked i one within here))
     (subst (AreUnset (items_of (map view (take i asked) ++ view one ∷ []))) (sym (grown_to answers new answer grown))
-    (unset_more (map view (take i asked)) (map plain_answer answers) (view one) (plain_answer answer) are (why, is)))
+    (unset_more (map view (take i asked)) (map plain_shown_breakpoint answers) (view one)
+    (plain_shown_breakpoint answer) are (why, is)))

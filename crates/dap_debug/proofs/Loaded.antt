@@ -11,10 +11,10 @@ use Rattle.dap_debug.specs.Arguments.{text_at}
 use Rattle.dap_debug.specs.Loading.{LoadsGiven, LoadsAt, LoadsFrom}
 use Rattle.dap_debug.specs.Standings.{Standing}
 
-pub loads_given : {S : Type 0} (begins : List ℕ → Result S (List ℕ) → Type 0) (arguments : Option Data) (p : Phase S)
+pub loads_given : {S : Type 0} (reads_as : List ℕ → Result S (List ℕ) → Type 0) (arguments : Option Data) (p : Phase S)
     (path : List ℕ) (given : Result (List ℕ) Unread) (stood stands : Standing S) (reply : PlainReply)
     → ((a : S) (how : Mode) → p ≡ phase.Running a how → ⊥) → text_at (codes "program") arguments ≡ Some path
-    → LoadsGiven begins arguments given stood reply stands → LoadsFrom begins p arguments stood reply stands
-loads_given begins arguments (phase.Running a how) path given stood stands reply not at is = absurd (not a how refl)
-loads_given begins arguments _ path given stood stands reply not at is =
-    subst (λ place. LoadsAt begins arguments place stood reply stands) (sym at) (given, is)
+    → LoadsGiven reads_as arguments given stood reply stands → LoadsFrom reads_as p arguments stood reply stands
+loads_given reads_as arguments (phase.Running a how) path given stood stands reply not at is = absurd (not a how refl)
+loads_given reads_as arguments _ path given stood stands reply not at is =
+    subst (λ place. LoadsAt reads_as arguments place stood reply stands) (sym at) (given, is)

@@ -7,7 +7,8 @@ use Rattle.dap_server.specs.Conversation.{State, state, Replies, Handles, Conver
 use Rattle.dap_server.specs.Inbox.{PlainItem, Bytes, Event, End, Failed, NoMemory, Gives, TakesOne}
 use Rattle.dap_server.specs.Serving.{FailsAt, FailsInFront, IsDone, BreaksWithin}
 use Rattle.dap_server.specs.ServingInbox.{ServingEndsBy, EndsWithin, EndsAt}
-use Rattle.dap_server.specs.Working.{Works, Polls, Course, begins, takes, works_on, EndsInWork, WorkerEnds, ServedWorker}
+use Rattle.dap_server.specs.Working as courses
+use Rattle.dap_server.specs.Working.{Works, Polls, Course, EndsInWork, WorkerEnds, ServedWorker}
 use Rattle.dap_debug.specs.Replies.{Known}
 use Rattle.dap_debug.specs.Serving.{replied_by, worked_by, runs_in, Debugged}
 use Rattle.dap_debug.specs.Standings.{Standing, unused}
@@ -67,15 +68,15 @@ coursed : {S T I : Type 0} (see : S → T) (replies : Replies T) (works : Works 
     (polls : Polls I) (a : State S) (inbox : I) (b : State S) (rest : List ℕ) (left : I) (texts : List (List ℕ))
     → Course (seen_replies see replies) (seen_works see works) (λ s. busy (see s)) gives polls a inbox b rest left texts
     → Course replies works busy gives polls (seen see a) inbox (seen see b) rest left texts
-coursed see replies works busy gives polls a inbox b rest left texts begins = begins
+coursed see replies works busy gives polls a inbox b rest left texts courses.begins = courses.begins
 coursed see replies works busy gives polls a inbox b rest left texts
-    (takes m n before after j k item first later course there is_open comes taken) =
-    takes (seen see m) (seen see n) before after j k item first later
+    (courses.takes m n before after j k item first later course there is_open comes taken) =
+    courses.takes (seen see m) (seen see n) before after j k item first later
     (coursed see replies works busy gives polls a inbox m before j first course) there is_open comes
     (took see replies m n before after item later taken)
 coursed see replies works busy gives polls a inbox b rest left texts
-    (works_on m adapter before j k events first later course there is_open busy_is none worked told) =
-    works_on (seen see m) (see adapter) before j k events first later
+    (courses.works_on m adapter before j k events first later course there is_open busy_is none worked told) =
+    courses.works_on (seen see m) (see adapter) before j k events first later
     (coursed see replies works busy gives polls a inbox m before j first course) there is_open busy_is none worked told
 
 -- ---- ends

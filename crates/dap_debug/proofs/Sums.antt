@@ -7,10 +7,11 @@ use Rattle.dap_server.specs.Messages.{PlainReply, events_after, leaves}
 use Rattle.dap_server.specs.Requests.{Request}
 use Rattle.dap_server.specs.Conversation.{State, Handles, Conversation}
 use Rattle.dap_server.specs.Inbox.{PlainItem, Bytes, Event, End, Failed, NoMemory, Gives, TakesOne}
-use Rattle.dap_server.specs.Working.{Polls, Course, begins, takes, works_on}
+use Rattle.dap_server.specs.Working as courses
+use Rattle.dap_server.specs.Working.{Polls, Course}
 use Rattle.dap_debug.specs.Commands.{command_of}
 use Rattle.dap_debug.specs.Laws.{ends_told, owed}
-use Rattle.dap_debug.specs.Replies.{Known, Replies}
+use Rattle.dap_debug.specs.Replies.{Known, RepliesTo}
 use Rattle.dap_debug.specs.Serving.{replied_by, worked_by, runs_in}
 use Rattle.dap_debug.specs.Standings.{Standing}
 use Rattle.dap_debug.specs.Sums.{asked_by, asked_in, asked_at, asked, told_by, told_in, told_at, told}
@@ -18,13 +19,13 @@ use Rattle.dap_debug.proofs.Balance.{work_balanced, replies_balanced}
 
 -- no event of a session comes with the answer to `disconnect`
 sent_alike : {S : Type 0} (known : Known S) (name : List ℕ) (arguments : Option Data) (stood stands : Standing S)
-    (reply : PlainReply) (b : Bool) → leaves name ≡ b → Replies known (command_of name) arguments stood reply stands
+    (reply : PlainReply) (b : Bool) → leaves name ≡ b → RepliesTo known (command_of name) arguments stood reply stands
     → ends_told (events_after name reply.events) ≡ ends_told reply.events
 sent_alike known name arguments stood stands reply false stays is =
     ap (λ c. ends_told (if c then [] else reply.events)) stays
 sent_alike known name arguments stood stands reply true left is =
     let same : name ≡ codes "disconnect" = (bytes_eq-Decides name (codes "disconnect")).0 left in
-    let quiet = subst (λ n. Replies known (command_of n) arguments stood reply stands) same is in
+    let quiet = subst (λ n. RepliesTo known (command_of n) arguments stood reply stands) same is in
     ap (λ c. ends_told (if c then [] else reply.events)) left
     ∙ sym (ap (λ (r : PlainReply). ends_told r.events) quiet.0)
 
@@ -66,14 +67,14 @@ pub each_ends_once : {S I : Type 0} (known : Known S) (gives : Gives I) (polls :
     (course : Course (replied_by known) (worked_by known) runs_in gives polls a inbox b rest left texts)
     → owed b.adapter.phase + told known gives polls a inbox b rest left texts course
     ≡ owed a.adapter.phase + asked known gives polls a inbox b rest left texts course
-each_ends_once known gives polls a inbox b rest left texts begins = refl
+each_ends_once known gives polls a inbox b rest left texts courses.begins = refl
 each_ends_once known gives polls a inbox b rest left texts
-    (takes m n before after j k item first later course there is_open comes taken) =
+    (courses.takes m n before after j k item first later course there is_open comes taken) =
     let earlier = each_ends_once known gives polls a inbox m before j first course in
     let more = took known m n before after item later taken in
     omega (arith, earlier, more)
 each_ends_once known gives polls a inbox b rest left texts
-    (works_on m adapter before j k events first later course there is_open busy none worked are) =
+    (courses.works_on m adapter before j k events first later course there is_open busy none worked are) =
     let earlier = each_ends_once known gives polls a inbox m before j first course in
     let more = work_balanced known.takes known.sees m.adapter adapter events worked in
     omega (arith, earlier, more)

@@ -2,7 +2,7 @@
 use Rattle.std.specs.Prelude.{◌≡◌, ◌≢◌, ◌⊎◌, ◌<◌, ◌^◌, ℕ, All, List, [], ◌∷◌, ◌++◌, codes, decimal, Option, None, Some, unwrap_or}
 use Rattle.std.specs.Option.{option_to_list}
 use Rattle.serde_json.specs.Data.{Data, Items, no_items, item}
-use Rattle.dap_bodies.specs.Bodies.{PlainBreakpoint as Answer, SetAt, Refused, breakpoints}
+use Rattle.dap_bodies.specs.Bodies.{ShownBreakpoint, SetAt, Refused, breakpoints}
 use Rattle.dap_server.specs.Messages.{PlainReply}
 use Rattle.debuggee.specs.Plain.{PlainPart, Text, Expression, PlainBreakpoint}
 use Rattle.debuggee.specs.declared.breakpoint.Rule.{Rule}
@@ -81,7 +81,7 @@ pub record IsBreakpoint (asked : Data) (place : ℕ) (set : PlainBreakpoint) : T
 
 -- What is answered where the first place for the line is this one: a breakpoint is set there, and it is told at which
 -- line; or none is, and why. Where there is a place, none is only where the hit condition is no rule.
-abbrev pub IsAnswered : Data → Option Location → Answer → Option PlainBreakpoint → Type 0
+abbrev pub IsAnswered : Data → Option Location → ShownBreakpoint → Option PlainBreakpoint → Type 0
 IsAnswered asked None answer None = (why : List ℕ) × (answer ≡ Refused why)
 IsAnswered asked None answer (Some set) = ⊥
 IsAnswered asked (Some location) answer None =
@@ -91,13 +91,13 @@ IsAnswered asked (Some location) answer (Some set) =
     (answer ≡ SetAt location.line) × IsBreakpoint asked location.place set
 
 -- the same, where the first place is as the language says
-abbrev pub IsSet : {S : Type 0} → (S → ℕ → Option Location → Type 0) → S → Data → Answer → Option PlainBreakpoint
-    → Type 0
+abbrev pub IsSet : {S : Type 0} → (S → ℕ → Option Location → Type 0) → S → Data → ShownBreakpoint
+    → Option PlainBreakpoint → Type 0
 IsSet first_place program asked answer set =
     (first : Option Location) × first_place program (line_of asked) first × IsAnswered asked first answer set
 
 -- each is answered, in order, and what is set is just those that are
-abbrev pub AreSet : {S : Type 0} → (S → ℕ → Option Location → Type 0) → S → Items → List Answer
+abbrev pub AreSet : {S : Type 0} → (S → ℕ → Option Location → Type 0) → S → Items → List ShownBreakpoint
     → List PlainBreakpoint → Type 0
 AreSet first_place program no_items [] set = set ≡ []
 AreSet first_place program (item asked more) (answer ∷ others) set =
@@ -112,23 +112,23 @@ abbrev pub source_asked : Option Data → Option (List ℕ)
 source_asked arguments = text_at (codes "path") (member_at (codes "source") arguments)
 
 -- none of them is set
-abbrev pub AreUnset : Items → List Answer → Type 0
+abbrev pub AreUnset : Items → List ShownBreakpoint → Type 0
 AreUnset no_items [] = Unit {0}
 AreUnset (item asked more) (answer ∷ others) = ((why : List ℕ) × (answer ≡ Refused why)) × AreUnset more others
 AreUnset _ _ = ⊥
 
 -- the reply that gives these answers
-abbrev pub answers_reply : List Answer → PlainReply
+abbrev pub answers_reply : List ShownBreakpoint → PlainReply
 answers_reply answers = success (Some (breakpoints answers)) []
 
 -- In the program's own source each is set or not, as it is answered, and no other is left. In another source none is
 -- set, and those of the program are left.
 pub data SetsIn {S : Type 0} (first_place : S → ℕ → Option Location → Type 0) (arguments : Option Data) (program : S)
     (path : List ℕ) (old : List PlainBreakpoint) (reply : PlainReply) (new : List PlainBreakpoint) : Type 0 where
-  Own : source_asked arguments ≡ Some path → (answers : List Answer)
+  Own : source_asked arguments ≡ Some path → (answers : List ShownBreakpoint)
       → AreSet first_place program (list_at (codes "breakpoints") arguments) answers new
       → reply ≡ answers_reply answers → SetsIn first_place arguments program path old reply new
-  Other : source_asked arguments ≢ Some path → (answers : List Answer)
+  Other : source_asked arguments ≢ Some path → (answers : List ShownBreakpoint)
       → AreUnset (list_at (codes "breakpoints") arguments) answers → reply ≡ answers_reply answers → new ≡ old
       → SetsIn first_place arguments program path old reply new
 

@@ -1,7 +1,7 @@
 -- Defines what questions show of a program where it stands.
 use Rattle.std.specs.Prelude.{◌≡◌, ◌+◌, ◌-◌, ◌*◌, ◌/◌, ◌%◌, ◌^◌, ◌&&◌, ℕ, min, nat_eq, nat_le, List, [], ◌∷◌, map, length, take, slice_get, codes, if◌then◌else◌, Option, None, Some, option_and_then, unwrap_or}
 use Rattle.serde_json.specs.Data.{Data}
-use Rattle.dap_bodies.specs.Bodies.{PlainFrame as ShownFrame, stack_trace, PlainScope as ShownScope, scopes, PlainVariable as ShownVariable, variables, evaluated, exception_info}
+use Rattle.dap_bodies.specs.Bodies.{ShownFrame, stack_trace, ShownScope, scopes, ShownVariable, variables, evaluated, exception_info}
 use Rattle.dap_server.specs.Messages.{PlainReply}
 use Rattle.debuggee.specs.Plain.{PlainEvaluated, Value, NoValue}
 use Rattle.debuggee.specs.Due.{Sight}

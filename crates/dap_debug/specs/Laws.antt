@@ -13,7 +13,7 @@ use Rattle.dap_debug.specs.declared.command.Command.TheVariants as command
 use Rattle.dap_debug.specs.declared.state.Phase.{Phase}
 use Rattle.dap_debug.specs.declared.state.Phase.TheVariants as phase
 use Rattle.dap_debug.specs.Inspecting.{frame_of_reference, frame_with, index_of_reference, scope_limit, shown_frame, shown_scope}
-use Rattle.dap_debug.specs.Replies.{Known, Replies}
+use Rattle.dap_debug.specs.Replies.{Known, RepliesTo}
 use Rattle.dap_debug.specs.Running.{WorksOn}
 use Rattle.dap_debug.specs.Shown.{PlainFrame, PlainScope}
 use Rattle.dap_debug.specs.Standings.{Standing}
@@ -51,7 +51,7 @@ WorkIsBalanced {S} takes sees =
 abbrev pub RepliesAreBalanced : {S : Type 0} → Known S → Type 0
 RepliesAreBalanced {S} known =
     (asked : Command) (arguments : Option Data) (stood stands : Standing S) (reply : PlainReply)
-    → Replies known asked arguments stood reply stands
+    → RepliesTo known asked arguments stood reply stands
     → owed stands.phase + ends_told reply.events ≡ owed stood.phase + asks asked stood.phase
 
 -- ---- texts

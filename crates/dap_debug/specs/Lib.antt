@@ -20,7 +20,7 @@ pub mod Loading
 pub mod Replies
 -- what holds of each session
 pub mod Laws
--- what is promised of a conversation: the contract of `serve_language_inbox`
+-- what is promised of a conversation: the contracts of `serve_language` and `serve_language_inbox`
 pub mod Serving
 -- what holds of a whole conversation
 pub mod Sums

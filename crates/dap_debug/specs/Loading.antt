@@ -37,26 +37,26 @@ unread_text Failed = codes "the program can't be read"
 -- What a file gave, or why it couldn't be opened or read. Where it is UTF-8, the language reads all of it.
 abbrev pub LoadsGiven : {S : Type 0} → (List ℕ → Result S (List ℕ) → Type 0) → Option Data → Result (List ℕ) Unread
     → Standing S → PlainReply → Standing S → Type 0
-LoadsGiven begins arguments (Err why) stood reply stands = IsQuiet (refusal (unread_text why)) stood reply stands
-LoadsGiven {S} begins arguments (Ok bytes) stood reply stands =
-    (IsUtf8 bytes × (loaded : Result S (List ℕ)) × begins bytes loaded × LoadsAs arguments loaded stood reply stands)
+LoadsGiven reads_as arguments (Err why) stood reply stands = IsQuiet (refusal (unread_text why)) stood reply stands
+LoadsGiven {S} reads_as arguments (Ok bytes) stood reply stands =
+    (IsUtf8 bytes × (loaded : Result S (List ℕ)) × reads_as bytes loaded × LoadsAs arguments loaded stood reply stands)
     ⊎ ((¬ IsUtf8 bytes) × IsQuiet (refusal (codes "the program isn't UTF-8")) stood reply stands)
 
 -- a path has to be given; no word is said of what the file there gives
 abbrev pub LoadsAt : {S : Type 0} → (List ℕ → Result S (List ℕ) → Type 0) → Option Data → Option (List ℕ) → Standing S
     → PlainReply → Standing S → Type 0
-LoadsAt begins arguments None stood reply stands = IsQuiet (refusal (codes "`program` is missing")) stood reply stands
-LoadsAt begins arguments (Some path) stood reply stands =
-    (given : Result (List ℕ) Unread) × LoadsGiven begins arguments given stood reply stands
+LoadsAt reads_as arguments None stood reply stands = IsQuiet (refusal (codes "`program` is missing")) stood reply stands
+LoadsAt reads_as arguments (Some path) stood reply stands =
+    (given : Result (List ℕ) Unread) × LoadsGiven reads_as arguments given stood reply stands
 
 -- a program is loaded in the place of another, but for one that runs
 abbrev pub LoadsFrom : {S : Type 0} → (List ℕ → Result S (List ℕ) → Type 0) → Phase S → Option Data → Standing S
     → PlainReply → Standing S → Type 0
-LoadsFrom begins (phase.Running program how) arguments stood reply stands =
+LoadsFrom reads_as (phase.Running program how) arguments stood reply stands =
     IsQuiet (refusal (codes "a program runs")) stood reply stands
-LoadsFrom begins _ arguments stood reply stands =
-    LoadsAt begins arguments (text_at (codes "program") arguments) stood reply stands
+LoadsFrom reads_as _ arguments stood reply stands =
+    LoadsAt reads_as arguments (text_at (codes "program") arguments) stood reply stands
 
 abbrev pub Loads : {S : Type 0} → (List ℕ → Result S (List ℕ) → Type 0) → Option Data → Standing S → PlainReply
     → Standing S → Type 0
-Loads begins arguments stood reply stands = LoadsFrom begins stood.phase arguments stood reply stands
+Loads reads_as arguments stood reply stands = LoadsFrom reads_as stood.phase arguments stood reply stands

@@ -19,10 +19,22 @@ use Rattle.dap_debug.specs.Standings.{Standing}
 pub record Known (S : Type 0) : Type 1 where
   pub takes : Meaning S
   pub sees : Sight S
-  pub begins : List ℕ → Result S (List ℕ) → Type 0
+  pub reads_as : List ℕ → Result S (List ℕ) → Type 0
   pub first_place : S → ℕ → Option Location → Type 0
   pub frame_of : S → ℕ → PlainFrame → Type 0
   pub variables_of : S → ℕ → List PlainScope → Type 0
+
+abbrev pub known_of : {S : Type 0} → Meaning S → Sight S → (List ℕ → Result S (List ℕ) → Type 0)
+    → (S → ℕ → Option Location → Type 0) → (S → ℕ → PlainFrame → Type 0) → (S → ℕ → List PlainScope → Type 0)
+    → Known S
+known_of takes sees reads_as first_place frame_of variables_of = record {
+  takes = takes;
+  sees = sees;
+  reads_as = reads_as;
+  first_place = first_place;
+  frame_of = frame_of;
+  variables_of = variables_of;
+}
 
 -- what the adapter can do
 abbrev pub capabilities : Data
@@ -36,23 +48,23 @@ capabilities =
     (member (codes "supportsTerminateRequest") (boolean true) no_members)))))))
 
 -- what is replied to a command with these arguments
-abbrev pub Replies : {S : Type 0} → Known S → Command → Option Data → Standing S → PlainReply → Standing S → Type 0
-Replies known command.Initialize arguments stood reply stands =
+abbrev pub RepliesTo : {S : Type 0} → Known S → Command → Option Data → Standing S → PlainReply → Standing S → Type 0
+RepliesTo known command.Initialize arguments stood reply stands =
     IsQuiet (success (Some capabilities) []) stood reply stands
-Replies known command.Launch arguments stood reply stands = Loads known.begins arguments stood reply stands
-Replies known command.SetBreakpoints arguments stood reply stands =
+RepliesTo known command.Launch arguments stood reply stands = Loads known.reads_as arguments stood reply stands
+RepliesTo known command.SetBreakpoints arguments stood reply stands =
     Sets known.first_place arguments stood reply stands
-Replies known command.ConfigurationDone arguments stood reply stands =
+RepliesTo known command.ConfigurationDone arguments stood reply stands =
     Starts known.takes known.sees stood reply stands
-Replies known command.Threads arguments stood reply stands =
+RepliesTo known command.Threads arguments stood reply stands =
     IsQuiet (success (Some (threads (codes "main"))) []) stood reply stands
-Replies known (command.Resume how) arguments stood reply stands =
+RepliesTo known (command.Resume how) arguments stood reply stands =
     Resumes known.takes known.sees how stood reply stands
-Replies known command.Pause arguments stood reply stands = Pauses stood reply stands
-Replies known command.Terminate arguments stood reply stands = Terminates stood reply stands
-Replies known (command.Inspect asked) arguments stood reply stands =
+RepliesTo known command.Pause arguments stood reply stands = Pauses stood reply stands
+RepliesTo known command.Terminate arguments stood reply stands = Terminates stood reply stands
+RepliesTo known (command.Inspect asked) arguments stood reply stands =
     Inspects known.sees known.frame_of known.variables_of asked arguments stood reply × (stands ≡ stood)
-Replies known command.ExceptionInfo arguments stood reply stands = Explains stood reply × (stands ≡ stood)
-Replies known command.Disconnect arguments stood reply stands = IsQuiet (success None []) stood reply stands
-Replies known command.Unsupported arguments stood reply stands =
+RepliesTo known command.ExceptionInfo arguments stood reply stands = Explains stood reply × (stands ≡ stood)
+RepliesTo known command.Disconnect arguments stood reply stands = IsQuiet (success None []) stood reply stands
+RepliesTo known command.Unsupported arguments stood reply stands =
     IsQuiet (refusal (codes "unsupported")) stood reply stands

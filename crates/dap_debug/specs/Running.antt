@@ -98,7 +98,7 @@ GoesOn takes sees true stood events stands = EntersFrom stood.phase stood events
 GoesOn takes sees false stood events stands = WorksOn takes sees stood events stands
 
 -- First it arrives. What is told of its entry, or of its first slice, follows.
-pub record Begins {S : Type 0} (takes : Meaning S) (sees : Sight S) (stop_on_entry : Bool) (program : S)
+pub record ArrivesAndGoesOn {S : Type 0} (takes : Meaning S) (sees : Sight S) (stop_on_entry : Bool) (program : S)
     (old : List PlainBreakpoint) (path : List ℕ) (events : List PlainEvent) (stands : Standing S) : Type 0 where
   pub there : Standing S
   pub more : List PlainEvent
@@ -112,7 +112,7 @@ pub record Begins {S : Type 0} (takes : Meaning S) (sees : Sight S) (stop_on_ent
 abbrev pub StartsFrom : {S : Type 0} → Meaning S → Sight S → Phase S → Standing S → PlainReply → Standing S → Type 0
 StartsFrom takes sees (phase.Configuring program stop_on_entry) stood reply stands =
     (events : List PlainEvent)
-    × Begins takes sees stop_on_entry program stood.breakpoints stood.path events stands
+    × ArrivesAndGoesOn takes sees stop_on_entry program stood.breakpoints stood.path events stands
     × (reply ≡ success None events)
 StartsFrom takes sees _ stood reply stands = IsRefused stood reply stands
 

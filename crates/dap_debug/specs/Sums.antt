@@ -5,7 +5,8 @@ use Rattle.dap_server.specs.Messages.{events_after}
 use Rattle.dap_server.specs.Requests.{Request}
 use Rattle.dap_server.specs.Conversation.{State, Handles, Conversation}
 use Rattle.dap_server.specs.Inbox.{PlainItem, Bytes, Gives, TakesOne}
-use Rattle.dap_server.specs.Working.{Polls, Course, begins, takes, works_on}
+use Rattle.dap_server.specs.Working as courses
+use Rattle.dap_server.specs.Working.{Polls, Course}
 use Rattle.dap_debug.specs.Commands.{command_of}
 use Rattle.dap_debug.specs.Laws.{asks, ends_told, owed}
 use Rattle.dap_debug.specs.Replies.{Known}
@@ -34,12 +35,12 @@ abbrev pub asked : {S I : Type 0} → (known : Known S) → (gives : Gives I) �
     → (a : State (Standing S)) → (inbox : I) → (b : State (Standing S)) → (rest : List ℕ) → (left : I)
     → (texts : List (List ℕ))
     → Course (replied_by known) (worked_by known) runs_in gives polls a inbox b rest left texts → ℕ
-asked known gives polls a inbox b rest left texts begins = 0
+asked known gives polls a inbox b rest left texts courses.begins = 0
 asked known gives polls a inbox b rest left texts
-    (takes m n before after j k item first later course there is_open comes taken) =
+    (courses.takes m n before after j k item first later course there is_open comes taken) =
     asked known gives polls a inbox m before j first course + asked_at known m n before after item later taken
 asked known gives polls a inbox b rest left texts
-    (works_on m adapter before j k events first later course there is_open busy none worked are) =
+    (courses.works_on m adapter before j k events first later course there is_open busy none worked are) =
     asked known gives polls a inbox m before j first course
 
 -- ---- how many ends are told
@@ -65,12 +66,12 @@ abbrev pub told : {S I : Type 0} → (known : Known S) → (gives : Gives I) →
     → (a : State (Standing S)) → (inbox : I) → (b : State (Standing S)) → (rest : List ℕ) → (left : I)
     → (texts : List (List ℕ))
     → Course (replied_by known) (worked_by known) runs_in gives polls a inbox b rest left texts → ℕ
-told known gives polls a inbox b rest left texts begins = 0
+told known gives polls a inbox b rest left texts courses.begins = 0
 told known gives polls a inbox b rest left texts
-    (takes m n before after j k item first later course there is_open comes taken) =
+    (courses.takes m n before after j k item first later course there is_open comes taken) =
     told known gives polls a inbox m before j first course + told_at known m n before after item later taken
 told known gives polls a inbox b rest left texts
-    (works_on m adapter before j k events first later course there is_open busy none worked are) =
+    (courses.works_on m adapter before j k events first later course there is_open busy none worked are) =
     told known gives polls a inbox m before j first course + ends_told events
 
 -- What was told, and what is owed at the end, is what requests asked for, and what was owed at first.

@@ -4,7 +4,7 @@ ghost use Rattle.std.specs.Prelude.{◌≡◌, ◌≢◌, ℕ, Option, ◌++◌,
 ghost use Rattle.std.specs.Bool.{Decides};
 ghost use Rattle.std.specs.Option.{option_to_list};
 ghost use Rattle.serde_json.specs.View.{items_view, view};
-ghost use Rattle.dap_bodies.specs.Bodies.{Refused, plain_breakpoint as plain_answer};
+ghost use Rattle.dap_bodies.specs.Bodies.{Refused, plain_shown_breakpoint};
 ghost use Rattle.dap_server.specs.Messages.{plain_reply};
 ghost use Rattle.debuggee.specs.Plain.{Text, Expression, plain_breakpoint, plain_part};
 ghost use Rattle.dap_debug.specs.Arguments.{list_at};
@@ -14,7 +14,6 @@ ghost use Rattle.dap_debug.specs.Breakpoints.{AreParts, AreSet, AreUnset, HasExp
 use crate::arguments::{list, member, text, whole};
 use crate::language::{Language, Location};
 use crate::state::State;
-use dap_bodies::Breakpoint as Answer;
 use dap_server::Reply;
 use debuggee::{Breakpoint, Part, Rule};
 use serde_json::Value;
@@ -24,14 +23,14 @@ use std::alloc::{AllocError, Global};
 #[derive(Drop)]
 pub struct Answered {
     pub breakpoint: Option<Breakpoint>,
-    pub answer: Answer,
+    pub answer: dap_bodies::Breakpoint,
 }
 
 /// Breakpoints that are set, and what is answered.
 #[derive(Drop)]
 pub struct AllAnswered {
     pub breakpoints: Vec<Breakpoint>,
-    pub answers: Vec<Answer>,
+    pub answers: Vec<dap_bodies::Breakpoint>,
 }
 
 impl<L: Language> State<L> {
@@ -92,20 +91,19 @@ fn is_source(arguments: Option<&Value>, path: &str) -> bool
 }
 
 /// Returns the reply that gives these answers.
-fn reply_with(alloc: Global, answers: Vec<Answer>) -> Result<Reply, AllocError>
-    ensures { IfOk result (λ reply. plain_reply reply ≡ answers_reply (map plain_answer answers.items)) }
+fn reply_with(alloc: Global, answers: Vec<dap_bodies::Breakpoint>) -> Result<Reply, AllocError>
+    ensures { IfOk result (λ reply. plain_reply reply ≡ answers_reply (map plain_shown_breakpoint answers.items)) }
 {
     let body = dap_bodies::breakpoints(alloc, answers)?;
     Ok(Reply::with_body(alloc, body))
 }
 
 /// Answers that none of these breakpoints is set.
-fn refuse_all(alloc: Global, asked: &[Value]) -> Result<Vec<Answer>, AllocError>
-    ensures { IfOk result (λ answers. AreUnset (items_view asked.now) (map plain_answer answers.items)) }
+fn refuse_all(alloc: Global, asked: &[Value]) -> Result<Vec<dap_bodies::Breakpoint>, AllocError>
+    ensures { IfOk result (λ answers. AreUnset (items_view asked.now) (map plain_shown_breakpoint answers.items)) }
 {
     let mut answers = Vec::new(alloc);
-    for one in asked {
-        let _ = one;
+    for _ in asked {
         answers.push(refused(alloc, "this isn't the program's source")?)?;
     }
     Ok(answers)
@@ -118,7 +116,7 @@ fn set_all<L: Language>(
     asked: &[Value],
 ) -> Result<AllAnswered, AllocError>
     ensures { IfOk result (λ set. AreSet L.first_place program.now (items_view asked.now)
-        (map plain_answer set.answers.items) (map plain_breakpoint set.breakpoints.items)) }
+        (map plain_shown_breakpoint set.answers.items) (map plain_breakpoint set.breakpoints.items)) }
 {
     let mut breakpoints = Vec::new(alloc);
     let mut answers = Vec::new(alloc);
@@ -147,7 +145,7 @@ fn keep(breakpoints: &mut Vec<Breakpoint>, breakpoint: Option<Breakpoint>) -> Re
 
 /// Sets a breakpoint.
 fn set_one<L: Language>(alloc: Global, program: &L, asked: &Value) -> Result<Answered, AllocError>
-    ensures { IfOk result (λ set. IsSet L.first_place program.now (view asked.now) (plain_answer set.answer)
+    ensures { IfOk result (λ set. IsSet L.first_place program.now (view asked.now) (plain_shown_breakpoint set.answer)
         (option_map plain_breakpoint set.breakpoint)) }
 {
     let first = program.place_for(line_of(asked));
@@ -156,7 +154,7 @@ fn set_one<L: Language>(alloc: Global, program: &L, asked: &Value) -> Result<Ans
 
 /// Sets a breakpoint where the first place for its line is this one.
 fn set_at(alloc: Global, asked: &Value, first: Option<Location>) -> Result<Answered, AllocError>
-    ensures { IfOk result (λ set. IsAnswered (view asked.now) first (plain_answer set.answer)
+    ensures { IfOk result (λ set. IsAnswered (view asked.now) first (plain_shown_breakpoint set.answer)
         (option_map plain_breakpoint set.breakpoint)) }
 {
     match first {
@@ -176,13 +174,13 @@ fn set_with(
     rule: Option<Rule>,
 ) -> Result<Answered, AllocError>
     requires { IsRule (text_of (codes "hitCondition") (view asked.now)) rule }
-    ensures { IfOk result (λ set. IsAnswered (view asked.now) (Some location) (plain_answer set.answer)
+    ensures { IfOk result (λ set. IsAnswered (view asked.now) (Some location) (plain_shown_breakpoint set.answer)
         (option_map plain_breakpoint set.breakpoint)) }
 {
     let breakpoint = breakpoint_at(alloc, asked, location.place, rule)?;
     Ok(Answered {
         breakpoint: Some(breakpoint),
-        answer: Answer::SetAt(location.line),
+        answer: dap_bodies::Breakpoint::SetAt(location.line),
     })
 }
 
@@ -207,7 +205,7 @@ fn breakpoint_at(
 
 /// Answers that a breakpoint isn't set, and why.
 fn refuse(alloc: Global, why: &str) -> Result<Answered, AllocError>
-    ensures { IfOk result (λ set. (set.breakpoint ≡ None) × (plain_answer set.answer ≡ Refused why.now)) }
+    ensures { IfOk result (λ set. (set.breakpoint ≡ None) × (plain_shown_breakpoint set.answer ≡ Refused why.now)) }
 {
     Ok(Answered {
         breakpoint: None,
@@ -216,10 +214,10 @@ fn refuse(alloc: Global, why: &str) -> Result<Answered, AllocError>
 }
 
 /// Returns the answer that a breakpoint isn't set, and why.
-fn refused(alloc: Global, why: &str) -> Result<Answer, AllocError>
-    ensures { IfOk result (λ answer. plain_answer answer ≡ Refused why.now) }
+fn refused(alloc: Global, why: &str) -> Result<dap_bodies::Breakpoint, AllocError>
+    ensures { IfOk result (λ answer. plain_shown_breakpoint answer ≡ Refused why.now) }
 {
-    Ok(Answer::Refused(String::from_str(alloc, why)?))
+    Ok(dap_bodies::Breakpoint::Refused(String::from_str(alloc, why)?))
 }
 
 /// Returns the line that a breakpoint is asked for; 0 where there is none.

@@ -1,8 +1,8 @@
 //! Questions about the program where it stands.
 
-ghost use Rattle.std.specs.Prelude.{◌≡◌, ◌<◌, ◌≤◌, ◌^◌, ◌-◌, codes, length, take, Some, IfOk, map, option_map};
+ghost use Rattle.std.specs.Prelude.{◌≡◌, ◌<◌, ◌≤◌, ◌^◌, ◌-◌, codes, length, slice_get, take, Some, IfOk, map, option_map};
 ghost use Rattle.serde_json.specs.View.{view};
-ghost use Rattle.dap_bodies.specs.Bodies.{plain_frame as plain_shown_frame, plain_scope as plain_shown_scope, plain_variable as plain_shown_variable};
+ghost use Rattle.dap_bodies.specs.Bodies.{plain_shown_frame, plain_shown_scope, plain_shown_variable};
 ghost use Rattle.dap_server.specs.Messages.{plain_reply};
 ghost use Rattle.dap_debug.specs.Arguments.{text_at};
 ghost use Rattle.dap_debug.specs.Shown.{plain_frame, plain_scope, plain_variable};
@@ -203,45 +203,39 @@ fn first_scopes(
 {
     let mut first = scopes;
     first.truncate(SCOPE_LIMIT);
-    let shown = all_scopes(alloc, frame, first.as_slice())?;
-    Ok(shown)
+    all_scopes(alloc, frame, first)
 }
 
 /// Shows scopes.
 fn all_scopes(
     alloc: Global,
     frame: usize,
-    scopes: &[Scope],
+    scopes: Vec<Scope>,
 ) -> Result<Vec<dap_bodies::Scope>, AllocError>
     requires near { frame < frame_limit }
-    requires few { length scopes.now ≤ 16 }
+    requires few { length scopes.items ≤ 16 }
     ensures { IfOk result (λ shown. map plain_shown_scope shown.items ≡
-        shown_scopes frame 0 (map plain_scope scopes.now)) }
+        shown_scopes frame 0 (map plain_scope scopes.items)) }
 {
     let mut shown = Vec::new(alloc);
     let mut index = 0;
     for one in scopes {
-        shown.push(scope(alloc, frame, index, one)?)?;
+        shown.push(scope(frame, index, one))?;
         index += 1;
     }
     Ok(shown)
 }
 
 /// Shows a scope.
-fn scope(
-    alloc: Global,
-    frame: usize,
-    index: usize,
-    scope: &Scope,
-) -> Result<dap_bodies::Scope, AllocError>
+fn scope(frame: usize, index: usize, scope: Scope) -> dap_bodies::Scope
     requires near { frame < frame_limit }
     requires few { index < 16 }
-    ensures { IfOk result (λ shown. plain_shown_scope shown ≡ shown_scope frame index (plain_scope scope.now)) }
+    ensures { plain_shown_scope result ≡ shown_scope frame index (plain_scope scope) }
 {
-    Ok(dap_bodies::Scope {
-        name: String::from_str(alloc, scope.name.as_str())?,
+    dap_bodies::Scope {
+        name: scope.name,
         reference: frame as u64 * SCOPE_LIMIT as u64 + index as u64 + 1,
-    })
+    }
 }
 
 /// Shows the variables of the scope that is asked for.
@@ -260,7 +254,7 @@ fn variables<L: Language>(
     match frame_of_reference(program.depth(), reference) {
         Some(frame) => {
             let scopes = program.scopes(alloc, frame)?;
-            match scopes.get(index_of_reference(reference)) {
+            match scope_at(scopes, index_of_reference(reference)) {
                 Some(scope) => shown_variables(alloc, scope),
                 None => Reply::refused(alloc, "no variables have this reference"),
             }
@@ -287,11 +281,23 @@ fn index_of_reference(reference: u64) -> usize
     (reference.saturating_sub(1) % SCOPE_LIMIT as u64) as usize
 }
 
-/// Shows the variables of a scope.
-fn shown_variables(alloc: Global, scope: &Scope) -> Result<Reply, AllocError>
-    ensures { IfOk result (λ reply. ShowsScope (Some (plain_scope scope.now)) (plain_reply reply)) }
+/// Returns the scope with this index, if there is one.
+fn scope_at(scopes: Vec<Scope>, index: usize) -> Option<Scope>
+    ensures { option_map plain_scope result ≡ slice_get (map plain_scope scopes.items) index }
 {
-    let shown = all_variables(alloc, scope.variables.as_slice())?;
+    let mut scopes = scopes;
+    if index < scopes.len() {
+        Some(scopes.swap_remove(index))
+    } else {
+        None
+    }
+}
+
+/// Shows the variables of a scope.
+fn shown_variables(alloc: Global, scope: Scope) -> Result<Reply, AllocError>
+    ensures { IfOk result (λ reply. ShowsScope (Some (plain_scope scope)) (plain_reply reply)) }
+{
+    let shown = all_variables(alloc, scope.variables)?;
     let body = dap_bodies::variables(alloc, shown)?;
     Ok(Reply::with_body(alloc, body))
 }
@@ -299,27 +305,27 @@ fn shown_variables(alloc: Global, scope: &Scope) -> Result<Reply, AllocError>
 /// Shows variables.
 fn all_variables(
     alloc: Global,
-    variables: &[Variable],
+    variables: Vec<Variable>,
 ) -> Result<Vec<dap_bodies::Variable>, AllocError>
     ensures { IfOk result (λ shown. map plain_shown_variable shown.items ≡
-        map shown_variable (map plain_variable variables.now)) }
+        map shown_variable (map plain_variable variables.items)) }
 {
     let mut shown = Vec::new(alloc);
     for variable in variables {
-        shown.push(shown_variable(alloc, variable)?)?;
+        shown.push(shown_variable(variable))?;
     }
     Ok(shown)
 }
 
 /// Shows a variable.
-fn shown_variable(alloc: Global, variable: &Variable) -> Result<dap_bodies::Variable, AllocError>
-    ensures { IfOk result (λ shown. plain_shown_variable shown ≡ shown_variable (plain_variable variable.now)) }
+fn shown_variable(variable: Variable) -> dap_bodies::Variable
+    ensures { plain_shown_variable result ≡ shown_variable (plain_variable variable) }
 {
-    Ok(dap_bodies::Variable {
-        name: String::from_str(alloc, variable.name.as_str())?,
-        value: String::from_str(alloc, variable.value.as_str())?,
+    dap_bodies::Variable {
+        name: variable.name,
+        value: variable.value,
         reference: 0,
-    })
+    }
 }
 
 /// Shows the value of an expression.

@@ -44,7 +44,7 @@ pub trait Language: Debuggee + Drop {
 
     /// What a text is: which program, before its first step, or which mistake. A language that leaves it out promises
     /// nothing of that.
-    ghost begins: { List ℕ → Result Self (List ℕ) → Type 0 } = { λ _ _. Unit {0} };
+    ghost reads_as: { List ℕ → Result Self (List ℕ) → Type 0 } = { λ _ _. Unit {0} };
 
     /// Where a breakpoint is set that is asked for at a line. A language that leaves it out promises nothing of that.
     ghost first_place: { Self → ℕ → Option Location → Type 0 } = { λ _ _ _. Unit {0} };
@@ -61,7 +61,7 @@ pub trait Language: Debuggee + Drop {
     ///
     /// An allocation failed.
     fn load(alloc: Global, text: &str) -> Result<Result<Self, String>, AllocError>
-        ensures { IfOk result (λ loaded. begins text.now (plain_loaded loaded)) };
+        ensures { IfOk result (λ loaded. reads_as text.now (plain_loaded loaded)) };
 
     /// Returns the first place at or after a line, which is counted from 1; `None` where there is none.
     fn place_for(&self, line: u64) -> Option<Location>

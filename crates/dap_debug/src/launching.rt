@@ -1,9 +1,7 @@
 //! Loading a program.
 
-ghost use Rattle.std.specs.Prelude.{◌≡◌, ◌<◌, Err, IfOk, Ok, OnOk, Some, codes, option_map, true};
+ghost use Rattle.std.specs.Prelude.{◌≡◌, IfOk, Ok, Some, codes, option_map};
 ghost use Rattle.serde_json.specs.View.{view};
-ghost use Rattle.byte_streams.specs.Streams.{Appends};
-ghost use Rattle.byte_streams.specs.declared.beginning.ReadFault.TheVariants.{CannotRead};
 ghost use Rattle.dap_server.specs.Messages.{plain_reply};
 ghost use Rattle.dap_debug.specs.Arguments.{text_at};
 ghost use Rattle.dap_debug.specs.Loading.{Loads, LoadsGiven, unread_text};
@@ -12,7 +10,7 @@ ghost use Rattle.dap_debug.specs.Standings.{standing};
 use crate::arguments::{text, truth};
 use crate::language::Language;
 use crate::state::{Phase, State};
-use byte_streams::{IoFault, ReadFault, Reading, Source};
+use byte_streams::{ReadFault, Reading, read_all};
 use dap_bodies::initialized;
 use dap_server::Reply;
 use serde_json::Value;
@@ -21,9 +19,6 @@ use std::fs;
 use std::io::ErrorKind;
 use std::rt::{Clock, Files};
 use std::sync::Wait;
-
-/// How many bytes are read at once.
-const ROOM: usize = 4096;
 
 /// Why nothing is read of a file.
 #[derive(Clone, Copy)]
@@ -50,7 +45,7 @@ impl<L: Language> State<L> {
         alloc: Global,
         arguments: Option<&Value>,
     ) -> Result<Reply, AllocError>
-        ensures { IfOk result (λ reply. Loads L.begins (option_map (λ v. view v.now) arguments.entry)
+        ensures { IfOk result (λ reply. Loads L.reads_as (option_map (λ v. view v.now) arguments.entry)
             (standing self.old) (plain_reply reply) (standing self.new)) }
     {
         if let Phase::Running(_, _) = self.phase {
@@ -77,7 +72,7 @@ impl<L: Language> State<L> {
         bytes: Vec<u8>,
     ) -> Result<Reply, AllocError>
         requires { text_at (codes "program") (option_map (λ v. view v.now) arguments) ≡ Some path.now }
-        ensures { IfOk result (λ reply. LoadsGiven L.begins (option_map (λ v. view v.now) arguments.entry)
+        ensures { IfOk result (λ reply. LoadsGiven L.reads_as (option_map (λ v. view v.now) arguments.entry)
             (Ok bytes.items) (standing self.old) (plain_reply reply) (standing self.new)) }
     {
         let Ok(source) = String::from_utf8(bytes) else {
@@ -153,31 +148,4 @@ fn reason_of(kind: ErrorKind) -> Unread {
         ErrorKind::PermissionDenied => Unread::Forbidden,
         _ => Unread::Failed,
     }
-}
-
-/// Returns all bytes of a source, up to its end. An interrupted read is tried again. After an error some bytes were read
-/// and are lost.
-///
-/// # Errors
-///
-/// `CannotRead` where a read failed, and `NoMemory` where memory ran out.
-fn read_all<R: Wait, S: Source>(rt: &R, alloc: Global, source: &mut S) -> Result<Vec<u8>, ReadFault>
-    ensures bytes { IfOk result (λ bytes. Appends (S.supply source.old).read (S.supply source.new).read bytes.items) }
-    ensures all { OnOk result ((S.supply source.new).ended ≡ true) }
-    ensures cannot_read { result ≡ Err CannotRead → (S.supply source.old).failures < (S.supply source.new).failures }
-{
-    let mut bytes = Vec::new(alloc);
-    let mut room = [0; ROOM];
-    for _ in rt.forever() {
-        match source.read(&mut room) {
-            Ok(0) => return Ok(bytes),
-            Ok(count) => match bytes.extend_from_slice(&room[..count]) {
-                Ok(()) => {}
-                Err(_) => return Err(ReadFault::NoMemory),
-            },
-            Err(IoFault::Failed) => return Err(ReadFault::CannotRead),
-            Err(IoFault::Interrupted) => {}
-        }
-    }
-    unreachable!()
 }

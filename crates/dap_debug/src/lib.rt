@@ -19,7 +19,7 @@
 //! its own reply.
 //!
 //! The contract is `Debugged` in `specs/Serving.antt`: each request that the inbox gave is answered once, in order, with what
-//! `Replies` in `specs/Replies.antt` says, and each slice is told as `WorksOn` in `specs/Running.antt` says, by the language's
+//! `RepliesTo` in `specs/Replies.antt` says, and each slice is told as `WorksOn` in `specs/Running.antt` says, by the language's
 //! own steps. By `conversation_laws` each run ends once: with a `stopped`, or with `exited` and `terminated`. Over the thread of
 //! `serve_language` the inbox gave what reads of the input gave, from its beginning on (`DebuggedByReader`).
 //!
@@ -42,4 +42,4 @@ mod telling;
 
 pub use language::{Frame, Language, Location, Scope, Variable};
 pub use laws::{conversation_laws, debug_laws, shown_laws, worked_debugger};
-pub use serving::{serve_language, serve_language_inbox};
+pub use serving::{DebugFault, serve_language, serve_language_inbox};

@@ -4,7 +4,7 @@ ghost use Rattle.std.specs.Prelude.{◌≡◌, ◌++◌, [], None, IfOk, map, op
 ghost use Rattle.dap_server.specs.Messages.{plain_event, plain_reply};
 ghost use Rattle.debuggee.specs.Plain.{plain_breakpoint, plain_halt};
 ghost use Rattle.dap_debug.specs.Standings.{standing};
-ghost use Rattle.dap_debug.specs.Running.{Arrival, Begins, EntersFrom, GoesOn, fault_of, mode_of, phase_after, resumed, success, Pauses, Resumes, Slice, Starts, Terminates, WorksOn};
+ghost use Rattle.dap_debug.specs.Running.{Arrival, ArrivesAndGoesOn, EntersFrom, GoesOn, fault_of, mode_of, phase_after, resumed, success, Pauses, Resumes, Slice, Starts, Terminates, WorksOn};
 
 use crate::command::Resume;
 use crate::language::Language;
@@ -60,7 +60,7 @@ impl<L: Language> State<L> {
     {
         match mem::replace(&mut self.phase, Phase::NoProgram) {
             Phase::Configuring(program, stop_on_entry) => {
-                let events = self.begin(alloc, program, stop_on_entry)?;
+                let events = self.arrive_and_go_on(alloc, program, stop_on_entry)?;
                 Ok(done_with(alloc, events))
             }
             phase => {
@@ -71,14 +71,15 @@ impl<L: Language> State<L> {
     }
 
     /// Lets a program arrive where it begins, and then stop there or go on. Returns what is told of that.
-    fn begin(
+    fn arrive_and_go_on(
         &mut self,
         alloc: Global,
         program: L,
         stop_on_entry: bool,
     ) -> Result<Vec<Event>, AllocError>
-        ensures { IfOk result (λ events. Begins L.takes L.sees stop_on_entry program (standing self.old).breakpoints
-            (standing self.old).path (map plain_event events.items) (standing self.new)) }
+        ensures { IfOk result (λ events. ArrivesAndGoesOn L.takes L.sees stop_on_entry program
+            (standing self.old).breakpoints (standing self.old).path (map plain_event events.items)
+            (standing self.new)) }
     {
         let ran = arrive_first(alloc, program, &mut self.breakpoints)?;
         self.phase = ran.phase;

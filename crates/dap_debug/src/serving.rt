@@ -1,12 +1,13 @@
 //! Serving a client.
 
 ghost use Rattle.dap_server.specs.ServingInbox.{OutputFailures};
+ghost use Rattle.dap_debug.specs.Replies.{known_of};
 ghost use Rattle.dap_debug.specs.Serving.{Debugged, DebuggedByReader};
 
 use crate::language::Language;
 use crate::session::Session;
 use byte_streams::Sink;
-use dap_reader::{Arrivals, start_reader};
+use dap_reader::{Arrivals, StartFault, start_reader};
 use dap_server::{Ending, Polled, ServeFault, serve_worker};
 use std::alloc::Global;
 use std::io::Read;
@@ -14,36 +15,42 @@ use std::rt::{Clock, Files};
 use std::sync::Wait;
 use std::thread::Threads;
 
+/// Why serving a language failed.
+#[derive(Clone, Copy)]
+pub enum DebugFault {
+    /// The thread that reads isn't started, and nothing is written.
+    Start(StartFault),
+    /// A client was served, and then this fault came.
+    Serve(ServeFault),
+}
+
 /// Serves a client that debugs programs of a language. A thread of its own reads the input; it ends with the input, or is cut
 /// off when `main` returns.
 ///
 /// # Errors
 ///
-/// As [`serve_worker`]. `NoMemory`, with nothing written, also where the thread can't be started.
+/// `Start`, as [`start_reader`], and `Serve`, as [`serve_worker`].
 pub fn serve_language<L, R, I, O>(
     rt: &R,
     alloc: Global,
     input: I,
     output: &mut O,
-) -> Result<Ending, ServeFault>
+) -> Result<Ending, DebugFault>
 where
     L: Language,
     R: Threads + Wait + Files + Clock + Copy + Send + Drop + 'static,
     I: Read + Send + Drop + 'static,
     O: Sink,
-    ensures served { DebuggedByReader (record {
-      takes = L.takes;
-      sees = L.sees;
-      begins = L.begins;
-      first_place = L.first_place;
-      frame_of = L.frame_of;
-      variables_of = L.variables_of;
-    }) (I.remaining input) (O.output output.old).written (O.output output.new).written result }
-    ensures failures { OutputFailures result (O.output output.old).failures (O.output output.new).failures }
+    ensures { DebuggedByReader (known_of L.takes L.sees L.reads_as L.first_place L.frame_of L.variables_of)
+        (I.remaining input) (O.output output.old) (O.output output.new) result }
 {
-    match start_reader(rt, alloc, input) {
-        Ok(mut inbox) => serve_language_inbox::<L, R, Arrivals, O>(rt, alloc, &mut inbox, output),
-        Err(_) => Err(ServeFault::NoMemory),
+    let mut inbox = match start_reader(rt, alloc, input) {
+        Ok(inbox) => inbox,
+        Err(fault) => return Err(DebugFault::Start(fault)),
+    };
+    match serve_language_inbox::<L, R, Arrivals, O>(rt, alloc, &mut inbox, output) {
+        Ok(ending) => Ok(ending),
+        Err(fault) => Err(DebugFault::Serve(fault)),
     }
 }
 
@@ -63,15 +70,8 @@ where
     R: Wait + Files + Clock,
     I: Polled,
     O: Sink,
-    ensures served { Debugged (record {
-      takes = L.takes;
-      sees = L.sees;
-      begins = L.begins;
-      first_place = L.first_place;
-      frame_of = L.frame_of;
-      variables_of = L.variables_of;
-    }) I.gives I.polls
-        inbox.old inbox.new (O.output output.old).written (O.output output.new).written result }
+    ensures served { Debugged (known_of L.takes L.sees L.reads_as L.first_place L.frame_of L.variables_of)
+        I.gives I.polls inbox.old inbox.new (O.output output.old).written (O.output output.new).written result }
     ensures failures { OutputFailures result (O.output output.old).failures (O.output output.new).failures }
 {
     let mut session = Session::<R, L>::new(rt, alloc);

@@ -4,7 +4,7 @@ ghost use Rattle.std.specs.Prelude.{◌≡◌, IfOk, option_map};
 ghost use Rattle.serde_json.specs.View.{view};
 ghost use Rattle.dap_server.specs.Messages.{plain_reply};
 ghost use Rattle.dap_debug.specs.Standings.{standing, unused};
-ghost use Rattle.dap_debug.specs.Replies.{Replies, capabilities};
+ghost use Rattle.dap_debug.specs.Replies.{RepliesTo, capabilities, known_of};
 
 use crate::command::{Command, command_of};
 use crate::language::Language;
@@ -29,17 +29,11 @@ pub struct Session<'a, R, L> {
 impl<R: Wait + Files + Clock, L: Language> Responder for Session<'_, R, L> {
     ghost use Rattle.dap_debug.specs.Commands.{command_of};
     ghost use Rattle.dap_debug.specs.Standings.{standing};
-    ghost use Rattle.dap_debug.specs.Replies.{Replies};
+    ghost use Rattle.dap_debug.specs.Replies.{RepliesTo, known_of};
 
-    ghost replies = { λ before command arguments reply after. Replies (record {
-      takes = L.takes;
-      sees = L.sees;
-      begins = L.begins;
-      first_place = L.first_place;
-      frame_of = L.frame_of;
-      variables_of = L.variables_of;
-    })
-        (command_of command) arguments (standing before.state) reply (standing after.state) };
+    ghost replies = { λ before command arguments reply after. RepliesTo
+        (known_of L.takes L.sees L.reads_as L.first_place L.frame_of L.variables_of) (command_of command)
+        arguments (standing before.state) reply (standing after.state) };
 
     fn respond(
         &mut self,
@@ -87,14 +81,8 @@ impl<'a, R: Wait + Files + Clock, L: Language> Session<'a, R, L> {
         command: Command,
         arguments: Option<&Value>,
     ) -> Result<Reply, AllocError>
-        ensures { IfOk result (λ reply. Replies (record {
-          takes = L.takes;
-          sees = L.sees;
-          begins = L.begins;
-          first_place = L.first_place;
-          frame_of = L.frame_of;
-          variables_of = L.variables_of;
-        }) command
+        ensures { IfOk result (λ reply. RepliesTo
+            (known_of L.takes L.sees L.reads_as L.first_place L.frame_of L.variables_of) command
             (option_map (λ v. view v.now) arguments.entry) (standing self.old.state) (plain_reply reply)
             (standing self.new.state)) }
     {

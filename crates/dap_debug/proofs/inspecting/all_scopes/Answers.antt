@@ -1,4 +1,5 @@
-use Rattle.std.proofs.Common.{◌+◌, ◌∙◌, ap}
+use Rattle.std.proofs.Common.{◌++◌, ◌∷◌, [], ◌+◌, ◌∙◌, sym, ap, append_assoc}
+use Rattle.std.proofs.lemmas.List.{length_push}
 use Rattle.dap_debug.specs.Inspecting.{shown_scope}
 use Rattle.dap_debug.specs.Shown.{plain_scope}
 use Rattle.dap_debug.proofs.Further.{one_scope}
@@ -6,8 +7,12 @@ use Rattle.dap_debug.proofs.inspecting.all_scopes.Goals as goal
 
 pub loop-one-preserved : goal.loop-one-preserved
 loop-one-preserved c = (
-  ap (λ n. n + 1) c.loop-one.invariant.0,
-  one_scope c.args.frame _ c.loop-one.one-index _ _ _ _ c.loop-one-test.true c.one-item.is c.in_ok-push.ensures.items
-      c.loop-one.invariant.1 (c.in_ok-scope.ensures
-      ∙ ap (λ n. shown_scope c.args.frame n (plain_scope c.one-item.result)) c.loop-one.invariant.0),
+  tt,
+  tt,
+  one_scope c.args.frame c.loop-one.yielded c.in-Some.one _ _ _ c.in_ok-push.ensures.items c.loop-one.invariant.2
+      (c.scope.ensures ∙ ap (λ n. shown_scope c.args.frame n (plain_scope c.in-Some.one)) c.loop-one.invariant.4),
+  append_assoc c.loop-one.yielded (c.in-Some.one ∷ []) c.next.new.self.rest.items
+      ∙ ap (λ l. c.loop-one.yielded ++ l) (sym c.in-Some.ensures.steps.0)
+      ∙ c.loop-one.invariant.3,
+  ap (λ n. n + 1) c.loop-one.invariant.4 ∙ sym (length_push c.loop-one.yielded c.in-Some.one),
 )

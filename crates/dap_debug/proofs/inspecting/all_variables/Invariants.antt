@@ -1,9 +1,12 @@
-use Rattle.std.proofs.Common.{◌≡◌, map, take}
-use Rattle.dap_bodies.specs.Bodies.{plain_variable as plain_shown_variable}
+use Rattle.std.proofs.Common.{◌≡◌, ◌++◌, map}
+use Rattle.dap_bodies.specs.Bodies.{plain_shown_variable}
 use Rattle.dap_debug.specs.Inspecting.{shown_variable}
 use Rattle.dap_debug.specs.Shown.{plain_variable}
 use Rattle.dap_debug.proofs.inspecting.all_variables.Given as goal
 
 abbrev pub invariant-loop-variable : goal.invariant-loop-variable
 invariant-loop-variable l =
-    map plain_shown_variable l.shown.items ≡ map shown_variable (map plain_variable (take l.variable-index l.variables))
+    goal.iterator-loop-variable.can_next l.variable-iterator ×
+    goal.iterator-loop-variable.is_finite l.variable-iterator ×
+    (map plain_shown_variable l.shown.items ≡ map shown_variable (map plain_variable l.yielded)) ×
+    (l.yielded ++ l.variable-iterator.rest.items ≡ l.fn.variables.items)

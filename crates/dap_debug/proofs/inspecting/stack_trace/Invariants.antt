@@ -1,5 +1,5 @@
 use Rattle.std.proofs.Common.{◌≡◌, ◌+◌, length, map}
-use Rattle.dap_bodies.specs.Bodies.{plain_frame as plain_shown_frame}
+use Rattle.dap_bodies.specs.Bodies.{plain_shown_frame}
 use Rattle.dap_debug.specs.Inspecting.{ShowFrames}
 use Rattle.dap_debug.proofs.inspecting.stack_trace.Given as goal
 

@@ -1,5 +1,5 @@
 use Rattle.std.proofs.Common.{refl}
-use Rattle.dap_debug.proofs.state.State.begin.Goals as goal
+use Rattle.dap_debug.proofs.state.State.arrive_and_go_on.Goals as goal
 
 pub returns : goal.returns
 returns g c = record {
