@@ -5,7 +5,7 @@
 #![tactic(auto)]
 
 use byte_streams::Writing;
-use dap_debug::serve_language;
+use dap_debug::{DebugFault, serve_language};
 use dap_server::ServeFault;
 use stack_language::Machine;
 use std::process::ExitCode;
@@ -19,10 +19,11 @@ fn main(rt: HostRuntime) -> ExitCode {
 }
 
 /// Returns the exit status for a fault.
-fn status(fault: ServeFault) -> u8 {
+fn status(fault: DebugFault) -> u8 {
     match fault {
-        ServeFault::Input | ServeFault::Output => 1,
-        ServeFault::Framing(_) => 2,
-        ServeFault::NoMemory | ServeFault::NoSeq => 3,
+        DebugFault::Serve(ServeFault::Input | ServeFault::Output) => 1,
+        DebugFault::Serve(ServeFault::Framing(_)) => 2,
+        DebugFault::Serve(ServeFault::NoMemory | ServeFault::NoSeq) => 3,
+        DebugFault::Start(_) => 4,
     }
 }

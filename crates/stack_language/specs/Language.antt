@@ -31,8 +31,8 @@ plain_state s = record {
 }
 
 -- the state before the first line
-abbrev pub Begins : PlainState → Type 0
-Begins s = s ≡ record { line = 0; numbers = []; returns = []; variables = replicate 26 (pos 0) }
+abbrev pub IsInitial : PlainState → Type 0
+IsInitial s = s ≡ record { line = 0; numbers = []; returns = []; variables = replicate 26 (pos 0) }
 
 -- the value of a variable, of which `a` is 0
 abbrev pub value_of : ℕ → PlainState → ℤ

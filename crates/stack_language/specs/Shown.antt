@@ -12,7 +12,7 @@ use Rattle.debuggee.specs.Plain.{PlainEvaluated, Value, NoValue}
 use Rattle.stack_language.specs.declared.machine.Machine.{Machine}
 use Rattle.stack_language.specs.declared.program.Instruction.{Instruction}
 use Rattle.stack_language.specs.declared.program.Instruction.TheVariants as instruction
-use Rattle.stack_language.specs.Language.{PlainState, Begins, plain_state, value_of}
+use Rattle.stack_language.specs.Language.{PlainState, IsInitial, plain_state, value_of}
 
 -- whether an instruction does something: a line that is empty, or a comment, has one that doesn't
 abbrev pub does_something : Instruction → Bool
@@ -78,9 +78,9 @@ sees = record {
 -- ---- what a client is shown
 
 -- A program is before its first step; no word is said of which text it is, or of which line is a mistake.
-abbrev pub begins : List ℕ → Result Machine (List ℕ) → Type 0
-begins text (Ok m) = Begins (plain_state m.state)
-begins text (Err mistake) =
+abbrev pub reads_as : List ℕ → Result Machine (List ℕ) → Type 0
+reads_as text (Ok m) = IsInitial (plain_state m.state)
+reads_as text (Err mistake) =
     (line : ℕ) × (mistake ≡ codes "line " ++ (decimal line ++ codes " is no instruction"))
 
 -- the number of a line for the client, which counts from 1

@@ -57,9 +57,9 @@ impl Debuggee for Machine {
 }
 
 impl Language for Machine {
-    ghost use Rattle.stack_language.specs.Shown.{begins, first_place, frame_of, variables_of};
+    ghost use Rattle.stack_language.specs.Shown.{first_place, frame_of, reads_as, variables_of};
 
-    ghost begins = { begins };
+    ghost reads_as = { reads_as };
 
     ghost first_place = { first_place };
 

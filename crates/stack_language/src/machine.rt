@@ -1,7 +1,7 @@
 //! A program that runs, step by step.
 
 ghost use Rattle.std.specs.Prelude.{◌≡◌, IfOk};
-ghost use Rattle.stack_language.specs.Language.{Begins, Steps, plain_state};
+ghost use Rattle.stack_language.specs.Language.{IsInitial, Steps, plain_state};
 ghost use Rattle.stack_language.specs.Shown.{IsFirstFrom, has_instruction, line_of_frame};
 
 use crate::program::Instruction;
@@ -18,7 +18,7 @@ pub struct Machine {
 impl Machine {
     /// Returns a machine before the first line.
     pub fn new(alloc: Global, program: Vec<Instruction>) -> Machine
-        ensures begins { Begins (plain_state result.state) }
+        ensures initial { IsInitial (plain_state result.state) }
         ensures program { result.program ≡ program }
     {
         Machine {

@@ -1,7 +1,7 @@
 //! What each instruction does.
 
 ghost use Rattle.std.specs.Prelude.{◌≡◌, ◌<◌, ◌≤◌, ◌-◌, ◌^◌, IfOk, length};
-ghost use Rattle.stack_language.specs.Language.{AreTopTwo, Does, Begins, make_one, plain_state, result_of, set, value_of};
+ghost use Rattle.stack_language.specs.Language.{AreTopTwo, Does, IsInitial, make_one, plain_state, result_of, set, value_of};
 ghost use Rattle.stack_language.specs.declared.program.Instruction.TheVariants.{Nothing, Push, Store, Calculate, Print, Jump, JumpZero, Call, Return};
 
 use crate::program::{Operator, VARIABLES};
@@ -48,7 +48,7 @@ pub struct State {
 impl State {
     /// Returns the state before the first line.
     pub fn new(alloc: Global) -> State
-        ensures { Begins (plain_state result) }
+        ensures { IsInitial (plain_state result) }
     {
         State {
             line: 0,
