@@ -15,7 +15,7 @@ pub const BEGINNING_LIMIT: usize = 65_537;
 pub(crate) const ROOM: usize = 4096;
 
 /// Why what a source gives isn't returned.
-#[derive(Clone, Copy)]
+#[derive(Clone, Copy, Debug)]
 pub enum ReadFault {
     /// A read failed. The source counts this.
     CannotRead,
