@@ -1,7 +1,7 @@
 -- What several lemma files import, from the libraries and from the definitions.
 pub use Rattle.dap_frame.specs.Header.{FaultAt, HasFaultyLine, line_of, lines_of}
 pub use Rattle.dap_frame.specs.declared.fault.FramingFault.{FramingFault}
-pub use Rattle.dap_history.specs.Breakpoints.{AreAskedAs, IsAskedAs, IsResolved, answer_to_line, effect_in, hold_once, is_same_path, line_offset, offset}
+pub use Rattle.dap_history.specs.Breakpoints.{IsResolved, answer_to_line, asked_as, effect_in, hold_once, is_same_path, line_offset, offset}
 pub use Rattle.dap_history.specs.Considered.{all_runs, before_start, end_in, run_end, run_texts, starts_by}
 pub use Rattle.dap_history.specs.Emission.{Answers, Causes, HasEffect, IsAfter, RepliesIn}
 pub use Rattle.dap_history.specs.Events.{AreLawful, File, Incoming, IsHistoryOf, IsInFront, IsTaking, LeadsByEvent, LeadsByEvents, LeadsByFile, LeadsByPiece, LeadsByReport, Loads, MayTake, NoMemory, Piece, ReadFailed, Report, Rest, Rests, Takes, TakesSome, closed, faulty, no_content, one_content, only_bytes, open_ended, waits}

@@ -1,6 +1,6 @@
 -- No item leads nowhere: what its texts read as, or that they don't, gives it an answer.
-use Rattle.dap_history.proofs.Common.{Accepted, AreResolved, At, BadCondition, Block, Breakpoint, Command, Configuration, Configuring, Content, Ended, Err, EvalFault, EvaluatesIn, Expression, Fault, Faulted, Frame, Fresh, HasConditionAt, HasRule, History, InputEnd, Inspects, IsResolvedTo, IsSome, Item, Launch, Launched, Loaded, MemoryFailure, NoStep, None, OfProgram, Ok, Option, Reaction, Reacts, ReadFailure, Refuse, Ready, RepliesAt, Request, Resolution, RunFault, Running, SetsOf, Situation, Some, Stopped, WrittenJoins, [], at, frame_by_id, inl, inr, is_same_path, launched, launches, line_offset, name_of, refl, refused, reply_of, reply_with, situation, step_from, string_bytes, subject_in, subst, sym, value, ℕ, ◌++◌, ◌-◌, ◌∷◌, ◌≡◌}
-use Rattle.std.proofs.Common.{List, Bool, true, false, ℤ, Result}
+use Rattle.dap_history.proofs.Common.{Accepted, AreResolved, At, BadCondition, Block, Breakpoint, Command, Configuration, Configuring, Content, Ended, Err, EvalFault, EvaluatesIn, Expression, Fault, Faulted, Frame, Fresh, HasConditionAt, HasRule, History, InputEnd, Inspects, IsResolvedTo, IsSome, Item, Launch, Launched, Loaded, MemoryFailure, NoStep, None, OfProgram, Ok, Option, Reaction, Reacts, ReadFailure, Refuse, Ready, RepliesAt, Request, Resolution, RunFault, Running, SetsOf, Situation, Some, Stopped, WrittenJoins, [], asked_as, at, frame_by_id, inl, inr, is_same_path, launched, launches, line_offset, name_of, refl, refused, reply_of, reply_with, situation, step_from, subject_in, subst, sym, value, ℕ, ◌++◌, ◌-◌, ◌∷◌, ◌≡◌}
+use Rattle.std.proofs.Common.{List, map, Bool, true, false, ℤ, Result}
 use Rattle.dap_msg.specs.declared.question.Question.TheVariants as question
 use Rattle.dap_msg.specs.declared.question.Shown.{Shown}
 use Rattle.dap_msg.specs.declared.outgoing.Refusal.{Refusal}
@@ -19,14 +19,13 @@ use Rattle.pl0_meaning.specs.Arithmetic.{IsArithmetic}
 use Rattle.pl0_meaning.specs.Laws.{RunsHaveNoGaps}
 use Rattle.dbg_plan.specs.Values.{answered as evaluated}
 use Rattle.dbg_plan.specs.Logs.{ValuesAreArithmetic}
-use Rattle.dbg_plan.specs.Resolutions.{HasMessageAt}
+use Rattle.dbg_plan.specs.Resolutions.{AskedLine, HasMessageAt}
 use Rattle.dbg_plan.specs.declared.evaluation.EvalFault.TheVariants.{Overflow, DivideByZero}
 use Rattle.dbg_plan.specs.declared.resolving.Resolution.TheVariants.{BadHitCondition, BadLogMessage}
-use Rattle.dbg_plan.specs.declared.resolving.SourceBreakpoint.{SourceBreakpoint as AskedLine}
 use Rattle.dap_history.specs.Readings.{position}
 use Rattle.dap_history.specs.Inspection.{result_answer}
 use Rattle.dap_history.specs.Launching.{syntax}
-use Rattle.dap_history.specs.Laws.{IsPlain, AreStrings, HasStrings, NoItemLeadsNowhere}
+use Rattle.dap_history.specs.Laws.{IsPlain, NoItemLeadsNowhere}
 use Rattle.dap_history.proofs.Texts.{OneProgram}
 use Rattle.dap_history.proofs.Along.{IsLawfulEvent, lawful_events, along}
 use Rattle.dap_history.proofs.Early.{IsEarly}
@@ -48,10 +47,10 @@ one_resolved main asked none = by_step_from (step_from main asked.line) refl
           (
             n,
             is,
-            λ (c : HasConditionAt main n (string_bytes asked.condition)).
+            λ (c : HasConditionAt main n asked.condition).
                 none BadHitCondition [] (
                   refl,
-                  (λ (r : HasRule (string_bytes asked.hit_condition)).
+                  (λ (r : HasRule asked.hit_condition).
                       none BadLogMessage [] (
                         refl,
                         r,
@@ -59,7 +58,7 @@ one_resolved main asked none = by_step_from (step_from main asked.line) refl
                           n,
                           is,
                           c,
-                          λ (m : HasMessageAt main n (string_bytes asked.log_message)).
+                          λ (m : HasMessageAt main n asked.log_message).
                               none (At n)
                               (record { step = n; condition = c.condition; rule = r.rule; message = m.message } ∷ []) (
                                 is,
@@ -149,28 +148,23 @@ module _ (one : OneProgram) (joins : WrittenJoins) (no_gaps : RunsHaveNoGaps) (t
   late : (s : Situation) → situation past ≡ s → ¬ IsEarly s → IsLaunched past
   late s is not = is_late one joins no_gaps past here s is not
 
-  sets : (l : Launched) (a : SetBreakpointsArguments) (same : Bool) → AreStrings (line_offset past)
-      (command.SetBreakpoints a) → ¬ ((reaction : Reaction) → ¬ SetsOf same past l a.breakpoints reaction)
-  sets l a false strings none = none _ refl
-  sets l a true strings none =
-      all_resolved l.program strings.0 (λ answers bs are. none _ (record {
-        answers = answers;
-        breakpoints = bs;
-        resolved = record { asked = strings.0; as_asked = strings.1; resolved = are };
-        reaction_is = refl;
-      }))
+  sets : (l : Launched) (a : SetBreakpointsArguments) (same : Bool)
+      → ¬ ((reaction : Reaction) → ¬ SetsOf same past l a.breakpoints reaction)
+  sets l a false none = none _ refl
+  sets l a true none =
+      all_resolved l.program (map (asked_as (line_offset past)) a.breakpoints) (λ answers bs are.
+      none _ (record { answers = answers; breakpoints = bs; resolved = are; reaction_is = refl }))
 
   -- lines are set in the launched program
   sets_lead : (s : Situation) → situation past ≡ s → ¬ IsEarly s → (request : Request) (a : SetBreakpointsArguments)
       → request.body ≡ command.SetBreakpoints a
-      → AreStrings (line_offset past) (command.SetBreakpoints a)
       → ((reaction : Reaction) → OfProgram (launched past)
       (λ l. SetsOf (is_same_path a.path l.path) past l a.breakpoints reaction)
       → Reacts s past (command.SetBreakpoints a) reaction)
       → ¬ (¬ Leads (Content (Some request)))
-  sets_lead s is not request a asks strings row none =
+  sets_lead s is not request a asks row none =
       let there = late s is not in
-      sets there.0 a (is_same_path a.path there.0.path) strings (λ reaction sets_so.
+      sets there.0 a (is_same_path a.path there.0.path) (λ reaction sets_so.
       none (by_reacting request s is reaction (subst (λ c. Reacts s past c reaction) (sym asks)
       (row reaction (of_program one joins no_gaps past here there.0 there.1
       (λ l. SetsOf (is_same_path a.path l.path) past l a.breakpoints reaction) sets_so)))))
@@ -204,62 +198,61 @@ module _ (one : OneProgram) (joins : WrittenJoins) (no_gaps : RunsHaveNoGaps) (t
           (λ o. RepliesAt (subject_in past there.0) o (question.Evaluate q) answer) (sym c_is) evaluates_so))
       at_some None c_is some = let e = subst IsSome c_is some in absurd cc
 
-  request_leads : (request : Request) (asked : Command) → request.body ≡ asked → AreStrings (line_offset past) asked
-      → (s : Situation) → situation past ≡ s → ¬ (¬ Leads (Content (Some request)))
-  request_leads request (command.SetBreakpoints a) asks strings Fresh is none =
+  request_leads : (request : Request) (asked : Command) → request.body ≡ asked → (s : Situation) → situation past ≡ s
+      → ¬ (¬ Leads (Content (Some request)))
+  request_leads request (command.SetBreakpoints a) asks Fresh is none =
       none (by_reacting request Fresh is (Refuse refusal.WrongPhase)
       (subst (λ c. Reacts Fresh past c (Refuse refusal.WrongPhase)) (sym asks) refl))
-  request_leads request (command.SetBreakpoints a) asks strings Ready is none =
+  request_leads request (command.SetBreakpoints a) asks Ready is none =
       none (by_reacting request Ready is (Refuse refusal.WrongPhase)
       (subst (λ c. Reacts Ready past c (Refuse refusal.WrongPhase)) (sym asks) refl))
-  request_leads request (command.SetBreakpoints a) asks strings Configuring is none =
-      sets_lead Configuring is (λ x. x) request a asks strings (λ reaction row. row) none
-  request_leads request (command.SetBreakpoints a) asks strings Running is none =
-      sets_lead Running is (λ x. x) request a asks strings (λ reaction row. row) none
-  request_leads request (command.SetBreakpoints a) asks strings Stopped is none =
-      sets_lead Stopped is (λ x. x) request a asks strings (λ reaction row. row) none
-  request_leads request (command.SetBreakpoints a) asks strings Faulted is none =
-      sets_lead Faulted is (λ x. x) request a asks strings (λ reaction row. row) none
-  request_leads request (command.SetBreakpoints a) asks strings Ended is none =
-      sets_lead Ended is (λ x. x) request a asks strings (λ reaction row. row) none
-  request_leads request (command.Inspect (question.Evaluate q)) asks strings Stopped is none =
+  request_leads request (command.SetBreakpoints a) asks Configuring is none =
+      sets_lead Configuring is (λ x. x) request a asks (λ reaction row. row) none
+  request_leads request (command.SetBreakpoints a) asks Running is none =
+      sets_lead Running is (λ x. x) request a asks (λ reaction row. row) none
+  request_leads request (command.SetBreakpoints a) asks Stopped is none =
+      sets_lead Stopped is (λ x. x) request a asks (λ reaction row. row) none
+  request_leads request (command.SetBreakpoints a) asks Faulted is none =
+      sets_lead Faulted is (λ x. x) request a asks (λ reaction row. row) none
+  request_leads request (command.SetBreakpoints a) asks Ended is none =
+      sets_lead Ended is (λ x. x) request a asks (λ reaction row. row) none
+  request_leads request (command.Inspect (question.Evaluate q)) asks Stopped is none =
       evaluate_leads Stopped is (λ x. x) request q asks (λ reaction row. row) none
-  request_leads request (command.Inspect (question.Evaluate q)) asks strings Faulted is none =
+  request_leads request (command.Inspect (question.Evaluate q)) asks Faulted is none =
       evaluate_leads Faulted is (λ x. x) request q asks (λ reaction row. row) none
-  request_leads request (command.Inspect (question.Evaluate q)) asks strings Fresh is none =
+  request_leads request (command.Inspect (question.Evaluate q)) asks Fresh is none =
       none (by_reacting request Fresh is (Refuse refusal.WrongPhase)
       (subst (λ c. Reacts Fresh past c (Refuse refusal.WrongPhase)) (sym asks) refl))
-  request_leads request (command.Inspect (question.Evaluate q)) asks strings Ready is none =
+  request_leads request (command.Inspect (question.Evaluate q)) asks Ready is none =
       none (by_reacting request Ready is (Refuse refusal.WrongPhase)
       (subst (λ c. Reacts Ready past c (Refuse refusal.WrongPhase)) (sym asks) refl))
-  request_leads request (command.Inspect (question.Evaluate q)) asks strings Configuring is none =
+  request_leads request (command.Inspect (question.Evaluate q)) asks Configuring is none =
       none (by_reacting request Configuring is (Refuse refusal.WrongPhase)
       (subst (λ c. Reacts Configuring past c (Refuse refusal.WrongPhase)) (sym asks) refl))
-  request_leads request (command.Inspect (question.Evaluate q)) asks strings Running is none =
+  request_leads request (command.Inspect (question.Evaluate q)) asks Running is none =
       none (by_reacting request Running is (Refuse refusal.NotStopped)
       (subst (λ c. Reacts Running past c (Refuse refusal.NotStopped)) (sym asks) refl))
-  request_leads request (command.Inspect (question.Evaluate q)) asks strings Ended is none =
+  request_leads request (command.Inspect (question.Evaluate q)) asks Ended is none =
       none (by_reacting request Ended is (Refuse refusal.WrongPhase)
       (subst (λ c. Reacts Ended past c (Refuse refusal.WrongPhase)) (sym asks) refl))
-  request_leads request asked asks strings s is none =
+  request_leads request asked asks s is none =
       none (leads_on one joins no_gaps past here (Content (Some request)) (subst IsPlain (sym asks) tt))
 
-  item_leads : (item : Item) → HasStrings (line_offset past) item → ¬ (¬ Leads item)
-  item_leads (Content None) strings none = none (leads_on one joins no_gaps past here (Content None) tt)
-  item_leads (Content (Some request)) strings none =
-      request_leads request request.body refl strings (situation past) refl none
-  item_leads (Loaded launch None) strings none = none (leads_on one joins no_gaps past here (Loaded launch None) tt)
-  item_leads (Loaded launch (Some text)) strings none = launch_leads launch text none
-  item_leads (Accepted r) strings none = none (leads_on one joins no_gaps past here (Accepted r) tt)
-  item_leads (Fault k) strings none = none (leads_on one joins no_gaps past here (Fault k) tt)
-  item_leads InputEnd strings none = none (leads_on one joins no_gaps past here InputEnd tt)
-  item_leads ReadFailure strings none = none (leads_on one joins no_gaps past here ReadFailure tt)
-  item_leads MemoryFailure strings none = none (leads_on one joins no_gaps past here MemoryFailure tt)
+  item_leads : (item : Item) → ¬ (¬ Leads item)
+  item_leads (Content None) none = none (leads_on one joins no_gaps past here (Content None) tt)
+  item_leads (Content (Some request)) none = request_leads request request.body refl (situation past) refl none
+  item_leads (Loaded launch None) none = none (leads_on one joins no_gaps past here (Loaded launch None) tt)
+  item_leads (Loaded launch (Some text)) none = launch_leads launch text none
+  item_leads (Accepted r) none = none (leads_on one joins no_gaps past here (Accepted r) tt)
+  item_leads (Fault k) none = none (leads_on one joins no_gaps past here (Fault k) tt)
+  item_leads InputEnd none = none (leads_on one joins no_gaps past here InputEnd tt)
+  item_leads ReadFailure none = none (leads_on one joins no_gaps past here ReadFailure tt)
+  item_leads MemoryFailure none = none (leads_on one joins no_gaps past here MemoryFailure tt)
 
 pub none_nowhere : OneProgram → WrittenJoins → RunsHaveNoGaps → TextsHaveOne → ValuesAreArithmetic
     → NoItemLeadsNowhere
-none_nowhere one joins no_gaps texts arithmetic f events past rest lawful history item strings nowhere =
+none_nowhere one joins no_gaps texts arithmetic f events past rest lawful history item nowhere =
     item_leads one joins no_gaps texts arithmetic past
     (along IsLawfulEvent (Leading one joins no_gaps) (leading_kept one joins no_gaps)
-    (leading_first one joins no_gaps) f events past rest (lawful_events events lawful) history) item strings
+    (leading_first one joins no_gaps) f events past rest (lawful_events events lawful) history) item
     (λ leads. nowhere leads.0 leads.1)

@@ -1,5 +1,5 @@
 -- Each line of a granted `setBreakpoints` is answered from the program, in the client's own counting.
-use Rattle.dap_history.proofs.Common.{FirstSeq, Accepted, AreAskedAs, AreResolved, At, BadCondition, BadHitCondition, BadLogMessage, Block, Body, Breakpoint, BreakpointAnswer, Causes, Command, Content, Err, Fresh, GiveBreakpoints, HasConditionAt, HasRule, History, Incoming, InitializeArguments, IsAskedAs, IsHistoryOf, IsResolvedTo, Item, Launched, Loaded, NoStep, None, Ok, Option, Reaction, ReadsConditionAt, ReadsMessageAt, ReadsRule, Refusal, RepliesIn, Reply, Resolution, Rest, SetBreakpointsArguments, Situation, Some, SourceBreakpoint, Step, StepAt, [], after_step, answer_to_line, ap, arith, effect_in, get_or, inl, inr, item_leads, launched, length, less_by, line_offset, name_of, offset, option_map_or, other_source, refl, reply_of, reply_with, settings, settings_by, situation, slice_get, step_from, steps, stop_in, string_bytes, subst, sym, unwrap_or, ℕ, ◌++◌, ◌+◌, ◌-◌, ◌<◌, ◌∙◌, ◌∷◌, ◌≡◌, ◌≤◌, ◌⊎◌}
+use Rattle.dap_history.proofs.Common.{FirstSeq, Accepted, At, BadCondition, BadHitCondition, BadLogMessage, Block, Body, Breakpoint, BreakpointAnswer, Causes, Command, Content, Err, Fresh, GiveBreakpoints, History, Incoming, InitializeArguments, IsHistoryOf, IsResolved, IsResolvedTo, Item, Launched, Loaded, NoStep, None, Ok, Option, Reaction, Refusal, RepliesIn, Reply, Resolution, Rest, SetBreakpointsArguments, Situation, Some, SourceBreakpoint, Step, StepAt, [], after_step, answer_to_line, ap, arith, asked_as, effect_in, get_or, inl, inr, item_leads, launched, length, less_by, line_offset, name_of, offset, option_map_or, other_source, refl, reply_of, reply_with, settings, settings_by, situation, slice_get, step_from, steps, stop_in, subst, sym, unwrap_or, ℕ, ◌++◌, ◌+◌, ◌-◌, ◌<◌, ◌∙◌, ◌∷◌, ◌≡◌, ◌≤◌, ◌⊎◌}
 use Rattle.std.proofs.Common.{List, map, Bool, true, false, Result}
 use Rattle.std.specs.List.{position, position_or_len}
 use Rattle.std.proofs.lemmas.Grind.{common_steps}
@@ -9,8 +9,6 @@ use Rattle.dap_msg.specs.declared.outgoing.Outgoing.TheVariants.{Answer}
 use Rattle.dap_msg.specs.declared.outgoing.Body.TheVariants as body
 use Rattle.dap_msg.specs.declared.outgoing.BreakpointAnswer.TheVariants as answer
 use Rattle.dap_msg.specs.declared.outgoing.BreakpointRefusal.TheVariants as why
-use Rattle.dbg_plan.specs.Resolutions.{HasMessageAt}
-use Rattle.dbg_plan.specs.declared.resolving.SourceBreakpoint.{SourceBreakpoint as AskedLine}
 use Rattle.dap_history.specs.Breakpoints.{step_line}
 use Rattle.dap_history.specs.Transitions.{command_leads}
 use Rattle.dap_history.specs.LineAnswers.{AnswersLine, AnswersLines, GivesBreakpoint, LinesAreAnswered}
@@ -162,59 +160,37 @@ module _ (main : Block) (less : ℕ) where
   line_at : (i : ℕ) (s : StepAt) → slice_get (steps main) i ≡ Some s → step_line main i ≡ s.place.line
   line_at i s is = ap (λ o. option_map_or (λ (x : StepAt). x.place.line) o 0) is
 
-  module _ (b : SourceBreakpoint) (asked : AskedLine) (as_asked : IsAskedAs less b asked) where
-    at_line : (o : Option ℕ) → step_from main asked.line ≡ o → step_from main (b.line + less) ≡ o
-    at_line o is = ap (step_from main) (sym as_asked.line) ∙ is
-
-    condition_so : (n : ℕ) → HasConditionAt main n (string_bytes asked.condition) → HasConditionAt main n b.condition
-    condition_so n is = subst (HasConditionAt main n) as_asked.condition is
-
-    condition_not : (n : ℕ) → ¬ HasConditionAt main n (string_bytes asked.condition)
-        → ¬ HasConditionAt main n b.condition
-    condition_not n not is = not (subst (HasConditionAt main n) (sym as_asked.condition) is)
-
-    answers_line : (r : Resolution) (mine : List Breakpoint) → IsResolvedTo main asked r mine
+  module _ (b : SourceBreakpoint) where
+    answers_line : (r : Resolution) (mine : List Breakpoint) → IsResolvedTo main (asked_as less b) r mine
         → AnswersLine main less b (answer_to_line main less r)
     answers_line (At n) mine is =
-        let there = step_there asked.line n is.0 in (
+        let there = step_there (b.line + less) n is.0 in (
           n,
           there.0,
-          at_line (Some n) is.0,
+          is.0,
           there.1,
           ap (λ k. k - less) (line_at n there.0 there.1),
-          condition_so n (record { condition = is.1.0.condition; reads = is.1.2.condition }),
-          subst HasRule as_asked.hit (record { rule = is.1.0.rule; reads = is.1.2.rule }),
-          subst (HasMessageAt main n) as_asked.message
-              (record { message = is.1.0.message; reads = is.1.2.message }),
+          record { condition = is.1.0.condition; reads = is.1.2.condition },
+          record { rule = is.1.0.rule; reads = is.1.2.rule },
+          record { message = is.1.0.message; reads = is.1.2.message },
         )
-    answers_line NoStep mine is = at_line None is.0
-    answers_line BadCondition mine is = (is.1.0, at_line (Some is.1.0) is.1.1, condition_not is.1.0 is.1.2)
-    answers_line BadHitCondition mine is = (
-      is.2.0,
-      at_line (Some is.2.0) is.2.1,
-      condition_so is.2.0 is.2.2,
-      λ rule. is.1 (subst HasRule (sym as_asked.hit) rule),
-    )
-    answers_line BadLogMessage mine is = (
-      is.2.0,
-      at_line (Some is.2.0) is.2.1,
-      condition_so is.2.0 is.2.2,
-      subst HasRule as_asked.hit is.1,
-      λ message. is.2.3 (subst (HasMessageAt main is.2.0) (sym as_asked.message) message),
-    )
+    answers_line NoStep mine is = is.0
+    answers_line BadCondition mine is = is.1
+    answers_line BadHitCondition mine is = (is.2.0, is.2.1, is.2.2, is.1)
+    answers_line BadLogMessage mine is = (is.2.0, is.2.1, is.2.2, is.1, is.2.3)
 
-    gives_line : (r : Resolution) (mine : List Breakpoint) → IsResolvedTo main asked r mine
+    gives_line : (r : Resolution) (mine : List Breakpoint) → IsResolvedTo main (asked_as less b) r mine
         → GivesBreakpoint main less b (answer_to_line main less r) mine
     gives_line (At n) mine is = (
       n,
       is.1.0,
-      at_line (Some n) is.0,
+      is.0,
       is.1.1,
       record {
         step_is = is.1.2.step;
-        condition_is = subst (λ t. ReadsConditionAt main n t is.1.0.condition) as_asked.condition is.1.2.condition;
-        rule_is = subst (λ t. ReadsRule t is.1.0.rule) as_asked.hit is.1.2.rule;
-        message_is = subst (λ t. ReadsMessageAt main n t is.1.0.message) as_asked.message is.1.2.message;
+        condition_is = is.1.2.condition;
+        rule_is = is.1.2.rule;
+        message_is = is.1.2.message;
       },
     )
     gives_line NoStep mine is = is.1
@@ -223,35 +199,29 @@ module _ (main : Block) (less : ℕ) where
     gives_line BadLogMessage mine is = is.0
 
   -- the breakpoints of lines
-  pub give_lines : (lines : List SourceBreakpoint) (asked : List AskedLine) (answers : List Resolution)
-      (bs : List Breakpoint) → AreAskedAs less lines asked → AreResolved main asked answers bs
+  pub give_lines : (lines : List SourceBreakpoint) (answers : List Resolution) (bs : List Breakpoint)
+      → IsResolved main less lines answers bs
       → GiveBreakpoints main less lines (map (answer_to_line main less) answers) bs
-  give_lines [] [] [] bs as_asked are = are
-  give_lines (b ∷ lines) (a ∷ asked) (r ∷ answers) bs as_asked are = (
+  give_lines [] [] bs are = are
+  give_lines (b ∷ lines) (r ∷ answers) bs are = (
     are.0,
     are.1,
     are.2,
-    answers_line b a as_asked.0 r are.0 are.3,
-    gives_line b a as_asked.0 r are.0 are.3,
-    give_lines lines asked answers are.1 as_asked.1 are.4,
+    answers_line b r are.0 are.3,
+    gives_line b r are.0 are.3,
+    give_lines lines answers are.1 are.4,
   )
-  give_lines [] [] (r ∷ answers) bs as_asked are = absurd are
-  give_lines [] (a ∷ asked) answers bs as_asked are = absurd as_asked
-  give_lines (b ∷ lines) [] answers bs as_asked are = absurd as_asked
-  give_lines (b ∷ lines) (a ∷ asked) [] bs as_asked are = absurd are
+  give_lines [] (r ∷ answers) bs are = absurd are
+  give_lines (b ∷ lines) [] bs are = absurd are
 
-  answers_lines : (lines : List SourceBreakpoint) (asked : List AskedLine) (answers : List Resolution)
-      (bs : List Breakpoint) → AreAskedAs less lines asked → AreResolved main asked answers bs
+  answers_lines : (lines : List SourceBreakpoint) (answers : List Resolution) (bs : List Breakpoint)
+      → IsResolved main less lines answers bs
       → AnswersLines main less lines (map (answer_to_line main less) answers)
-  answers_lines [] [] [] bs as_asked are = tt
-  answers_lines (b ∷ lines) (a ∷ asked) (r ∷ answers) bs as_asked are = (
-    answers_line b a as_asked.0 r are.0 are.3,
-    answers_lines lines asked answers are.1 as_asked.1 are.4,
-  )
-  answers_lines [] [] (r ∷ answers) bs as_asked are = absurd are
-  answers_lines [] (a ∷ asked) answers bs as_asked are = absurd as_asked
-  answers_lines (b ∷ lines) [] answers bs as_asked are = absurd as_asked
-  answers_lines (b ∷ lines) (a ∷ asked) [] bs as_asked are = absurd are
+  answers_lines [] [] bs are = tt
+  answers_lines (b ∷ lines) (r ∷ answers) bs are =
+      (answers_line b r are.0 are.3, answers_lines lines answers are.1 are.4)
+  answers_lines [] (r ∷ answers) bs are = absurd are
+  answers_lines (b ∷ lines) [] bs are = absurd are
 
 -- what a granted `setBreakpoints` is answered with
 record AnswersSet (past : History) (asked : SetBreakpointsArguments) (reply : Reply) : Type 0 where
@@ -274,8 +244,7 @@ reaction_answers past (by_setting s c l found bs there path_is resolved) a b ask
       answers = map (answer_to_line l.program (line_offset past)) found;
       there = there;
       result_is = refl;
-      ours = λ same. answers_lines l.program (line_offset past) c.breakpoints resolved.asked found bs
-          resolved.as_asked resolved.resolved;
+      ours = λ same. answers_lines l.program (line_offset past) c.breakpoints found bs resolved;
       others = λ not. absurd (not (at_path c.path l.path path_is));
     })
 reaction_answers past (by_answering s asked body calm) a b asks granted =

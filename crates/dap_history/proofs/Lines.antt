@@ -44,7 +44,7 @@ spelled l counting (Some lines) bs is =
     subst (λ n. (answers : List BreakpointAnswer) × GiveBreakpoints l.program n lines answers bs)
     (offset_is counting.lines_start_at_1) (
       map (answer_to_line l.program (offset counting.lines_start_at_1)) is.0,
-      give_lines l.program (offset counting.lines_start_at_1) lines is.1.asked is.0 bs is.1.as_asked is.1.resolved,
+      give_lines l.program (offset counting.lines_start_at_1) lines is.0 bs is.1,
     )
 
 record View : Type 0 where

@@ -1,5 +1,5 @@
 -- A command and a launch each have at most one reply, and so an item has at most one step.
-use Rattle.dap_history.proofs.Common.{Accepted, Answers, AreAskedAs, AreResolved, At, AtMostOne, BadCondition, BadHitCondition, BadLogMessage, Block, Breakpoint, Causes, Command, CommandName, Configuration, Configuring, Content, DivideByZero, Effect, Err, EvalFault, EvaluatesIn, Faulted, Frame, Fresh, HasConditionAt, HasEffect, HasRule, History, Inspects, InspectsAs, IsAfter, IsAskedAs, IsResolvedTo, IsTreeOf, Item, LaunchArguments, Launched, Launches, Loaded, NoStep, None, OfProgram, Ok, Option, Overflow, Path, Question, Reaction, Reacts, ReadsConditionAt, ReadsMessageAt, ReadsRule, Ready, RepliesAt, RepliesFrom, RepliesIn, Reply, Resolution, Resume, Retreat, SetBreakpoints, SetBreakpointsArguments, SetsOf, Situation, Some, SourceBreakpoint, Start, Step, Stopped, Subject, [], answer_to_line, ap, arith, at, for_thread, frame_by_id, get_or, inl, inr, is_same_path, launched, launches, line_offset, refl, refused, reply_of, reply_with, result_answer, situation, step_from, string_bytes, subject_in, subst, sym, value, ℕ, ∥∥₁_elim, ◌++◌, ◌<◌, ◌^◌, ◌∙◌, ◌∷◌, ◌≡◌}
+use Rattle.dap_history.proofs.Common.{Accepted, Answers, AreResolved, At, AtMostOne, BadCondition, BadHitCondition, BadLogMessage, Block, Breakpoint, Causes, Command, CommandName, Configuration, Configuring, Content, DivideByZero, Effect, Err, EvalFault, EvaluatesIn, Faulted, Frame, Fresh, HasConditionAt, HasEffect, HasRule, History, Inspects, InspectsAs, IsAfter, IsResolvedTo, IsTreeOf, Item, LaunchArguments, Launched, Launches, Loaded, NoStep, None, OfProgram, Ok, Option, Overflow, Path, Question, Reaction, Reacts, ReadsConditionAt, ReadsMessageAt, ReadsRule, Ready, RepliesAt, RepliesFrom, RepliesIn, Reply, Resolution, Resume, Retreat, SetBreakpoints, SetBreakpointsArguments, SetsOf, Situation, Some, SourceBreakpoint, Start, Step, Stopped, Subject, [], answer_to_line, ap, arith, asked_as, at, for_thread, frame_by_id, get_or, inl, inr, is_same_path, launched, launches, line_offset, refl, refused, reply_of, reply_with, result_answer, situation, step_from, subject_in, subst, sym, value, ℕ, ∥∥₁_elim, ◌++◌, ◌<◌, ◌^◌, ◌∙◌, ◌∷◌, ◌≡◌}
 use Rattle.std.proofs.Common.{Bool, true, false, ℤ, List, Result}
 use Rattle.std.specs.Prelude.{map}
 use Rattle.std.specs.Fmt.{decimal}
@@ -15,9 +15,8 @@ use Rattle.pl0_tree.specs.Faults.{IsFirstFault, IsConditionOf, IsExpressionOf}
 use Rattle.pl0_syntax.specs.Laws.{OneFault, FaultExcludesTrees}
 use Rattle.dbg_plan.specs.declared.breakpoint.Rule.{Rule}
 use Rattle.dbg_plan.specs.declared.breakpoint.Rule.TheVariants.{From, Every}
-use Rattle.dbg_plan.specs.declared.resolving.SourceBreakpoint.{SourceBreakpoint as AskedLine}
 use Rattle.dbg_plan.specs.Messages.{Message}
-use Rattle.dbg_plan.specs.Resolutions.{IsBreakpointOf}
+use Rattle.dbg_plan.specs.Resolutions.{AskedLine, HasMessageAt, IsBreakpointOf}
 use Rattle.dbg_plan.specs.Values.{answered as evaluated}
 use Rattle.dbg_plan.specs.Breakpoints.{TextCondition}
 use Rattle.dap_history.specs.Readings.{position}
@@ -95,185 +94,94 @@ module _ (once : IsTextOnce) where
       (one_parts (IsExpressionOf main (step_path main n)) (once.one_expression main (step_path main n)) text t.parts
       u.parts x.2.reads y.2.reads)
 
-  -- two lines with the same words
-  record SameLine (x y : AskedLine) : Type 0 where
-    line : x.line ≡ y.line
-    condition : string_bytes x.condition ≡ string_bytes y.condition
-    hit : string_bytes x.hit_condition ≡ string_bytes y.hit_condition
-    message : string_bytes x.log_message ≡ string_bytes y.log_message
-
-  one_breakpoint : (main : Block) (x y : AskedLine) (n k : ℕ) (a b : Breakpoint) → SameLine x y → n ≡ k
-      → IsBreakpointOf main x n a → IsBreakpointOf main y k b → a ≡ b
-  one_breakpoint main x y n k a b same at here there =
-      let condition : a.condition ≡ b.condition =
-      one_text main n (string_bytes x.condition) a.condition b.condition here.condition
-      (subst (λ t. ReadsConditionAt main n t b.condition) (sym same.condition)
-      (subst (λ i. ReadsConditionAt main i (string_bytes y.condition) b.condition) (sym at) there.condition)) in
-      let rule : a.rule ≡ b.rule =
-      one_rule (string_bytes x.hit_condition) a.rule b.rule here.rule
-      (subst (λ t. ReadsRule t b.rule) (sym same.hit) there.rule) in
-      let message : a.message ≡ b.message =
-      one_message main n (string_bytes x.log_message) a.message b.message here.message
-      (subst (λ t. ReadsMessageAt main n t b.message) (sym same.message)
-      (subst (λ i. ReadsMessageAt main i (string_bytes y.log_message) b.message) (sym at) there.message)) in
+  one_breakpoint : (main : Block) (x : AskedLine) (n : ℕ) (a b : Breakpoint) → IsBreakpointOf main x n a
+      → IsBreakpointOf main x n b → a ≡ b
+  one_breakpoint main x n a b here there =
       ap (λ s. record { step = s; condition = a.condition; rule = a.rule; message = a.message })
-      (here.step ∙ at ∙ sym there.step)
-      ∙ ap (λ c. record { step = b.step; condition = c; rule = a.rule; message = a.message }) condition
-      ∙ ap (λ r. record { step = b.step; condition = b.condition; rule = r; message = a.message }) rule
-      ∙ ap (λ m. record { step = b.step; condition = b.condition; rule = b.rule; message = m }) message
+      (here.step ∙ sym there.step)
+      ∙ ap (λ c. record { step = b.step; condition = c; rule = a.rule; message = a.message })
+      (one_text main n x.condition a.condition b.condition here.condition there.condition)
+      ∙ ap (λ r. record { step = b.step; condition = b.condition; rule = r; message = a.message })
+      (one_rule x.hit_condition a.rule b.rule here.rule there.rule)
+      ∙ ap (λ m. record { step = b.step; condition = b.condition; rule = b.rule; message = m })
+      (one_message main n x.log_message a.message b.message here.message there.message)
 
-  same_step_from : (main : Block) (x y : AskedLine) (n k : ℕ) → SameLine x y → step_from main x.line ≡ Some n
-      → step_from main y.line ≡ Some k → n ≡ k
-  same_step_from main x y n k same here there = let e = sym here ∙ ap (step_from main) same.line ∙ there in cc
+  -- A line is resolved to the first of these that fails of it, or to its step.
+  module _ (main : Block) (x : AskedLine) where
+    abbrev AtStep : (ℕ → Type 0) → Type 0
+    AtStep P = (n : ℕ) × (step_from main x.line ≡ Some n) × P n
 
-  no_step_there : (main : Block) (x y : AskedLine) (k : ℕ) → SameLine x y → step_from main x.line ≡ None
-      → ¬ (step_from main y.line ≡ Some k)
-  no_step_there main x y k same here there = let e = sym here ∙ ap (step_from main) same.line ∙ there in absurd cc
+    abbrev Passes : Resolution → Type 0
+    Passes NoStep = AtStep (λ n. Unit {0})
+    Passes BadCondition = AtStep (λ n. HasConditionAt main n x.condition)
+    Passes BadHitCondition = HasRule x.hit_condition
+    Passes BadLogMessage = AtStep (λ n. HasMessageAt main n x.log_message)
+    Passes (At n) = ⊥
 
-  other_way : (x y : AskedLine) → SameLine x y → SameLine y x
-  other_way x y same =
-      record { line = sym same.line; condition = sym same.condition; hit = sym same.hit; message = sym same.message }
+    abbrev rank : Resolution → ℕ
+    rank NoStep = 0
+    rank BadCondition = 1
+    rank BadHitCondition = 2
+    rank BadLogMessage = 3
+    rank (At n) = 4
 
-  -- what reads there reads here
-  condition_there : (main : Block) (x y : AskedLine) (n k : ℕ) → SameLine x y → step_from main x.line ≡ Some n
-      → step_from main y.line ≡ Some k → (c : Option TextCondition)
-      → ReadsConditionAt main n (string_bytes x.condition) c → ReadsConditionAt main k (string_bytes y.condition) c
-  condition_there main x y n k same here there c reads =
-      subst (λ t. ReadsConditionAt main k t c) same.condition
-      (subst (λ i. ReadsConditionAt main i (string_bytes x.condition) c)
-      (same_step_from main x y n k same here there) reads)
+    one_step : (n k : ℕ) → step_from main x.line ≡ Some n → step_from main x.line ≡ Some k → n ≡ k
+    one_step n k here there = let e = sym here ∙ there in cc
 
-  message_there : (main : Block) (x y : AskedLine) (n k : ℕ) → SameLine x y → step_from main x.line ≡ Some n
-      → step_from main y.line ≡ Some k → (m : Option Message)
-      → ReadsMessageAt main n (string_bytes x.log_message) m → ReadsMessageAt main k (string_bytes y.log_message) m
-  message_there main x y n k same here there m reads =
-      subst (λ t. ReadsMessageAt main k t m) same.message
-      (subst (λ i. ReadsMessageAt main i (string_bytes x.log_message) m)
-      (same_step_from main x y n k same here there) reads)
+    fails : (a : Resolution) (bs : List Breakpoint) → IsResolvedTo main x a bs → ¬ Passes a
+    fails NoStep bs is p = let e = sym is.0 ∙ p.1 in absurd cc
+    fails BadCondition bs is p =
+        is.1.2 (subst (λ n. HasConditionAt main n x.condition) (one_step p.0 is.1.0 p.1 is.1.1) p.2)
+    fails BadHitCondition bs is p = is.1 p
+    fails BadLogMessage bs is p =
+        is.2.3 (subst (λ n. HasMessageAt main n x.log_message) (one_step p.0 is.2.0 p.1 is.2.1) p.2)
+    fails (At n) bs is p = p
 
-  rule_there : (x y : AskedLine) → SameLine x y → HasRule (string_bytes x.hit_condition)
-      → HasRule (string_bytes y.hit_condition)
-  rule_there x y same has = record { rule = has.rule; reads = subst (λ t. ReadsRule t has.rule) same.hit has.reads }
+    passes : (b a : Resolution) (bs : List Breakpoint) → rank a < rank b → IsResolvedTo main x b bs → Passes a
+    passes BadCondition NoStep bs lt is = (is.1.0, is.1.1, tt)
+    passes BadHitCondition NoStep bs lt is = (is.2.0, is.2.1, tt)
+    passes BadLogMessage NoStep bs lt is = (is.2.0, is.2.1, tt)
+    passes (At n) NoStep bs lt is = (n, is.0, tt)
+    passes BadHitCondition BadCondition bs lt is = is.2
+    passes BadLogMessage BadCondition bs lt is = (is.2.0, is.2.1, is.2.2)
+    passes (At n) BadCondition bs lt is =
+        (n, is.0, record { condition = is.1.0.condition; reads = is.1.2.condition })
+    passes BadLogMessage BadHitCondition bs lt is = is.1
+    passes (At n) BadHitCondition bs lt is = record { rule = is.1.0.rule; reads = is.1.2.rule }
+    passes (At n) BadLogMessage bs lt is = (n, is.0, record { message = is.1.0.message; reads = is.1.2.message })
+    passes _ _ bs lt is = absurd (omega (arith, lt))
 
-  has_there : (main : Block) (x y : AskedLine) (n k : ℕ) → SameLine x y → step_from main x.line ≡ Some n
-      → step_from main y.line ≡ Some k
-      → HasConditionAt main n (string_bytes x.condition) → HasConditionAt main k (string_bytes y.condition)
-  has_there main x y n k same here there has =
-      record { condition = has.condition; reads = condition_there main x y n k same here there has.condition has.reads }
+    not_before : (a b : Resolution) (bs cs : List Breakpoint) → IsResolvedTo main x a bs → IsResolvedTo main x b cs
+        → ¬ (rank a < rank b)
+    not_before a b bs cs here there lt = fails a bs here (passes b a cs lt there)
 
-  abbrev SameAnswer : Resolution → List Breakpoint → Resolution → List Breakpoint → Type 0
-  SameAnswer a bs b cs = (a ≡ b) × (bs ≡ cs)
+    one_line : (a b : Resolution) (bs cs : List Breakpoint) → IsResolvedTo main x a bs → IsResolvedTo main x b cs
+        → (a ≡ b) × (bs ≡ cs)
+    one_line NoStep NoStep bs cs here there = (refl, here.1 ∙ sym there.1)
+    one_line BadCondition BadCondition bs cs here there = (refl, here.0 ∙ sym there.0)
+    one_line BadHitCondition BadHitCondition bs cs here there = (refl, here.0 ∙ sym there.0)
+    one_line BadLogMessage BadLogMessage bs cs here there = (refl, here.0 ∙ sym there.0)
+    one_line (At n) (At k) bs cs here there =
+        let at = one_step k n there.0 here.0 in (
+          ap At (sym at),
+          here.1.1
+              ∙ ap (λ b. b ∷ []) (one_breakpoint main x n here.1.0 there.1.0 here.1.2
+              (subst (λ i. IsBreakpointOf main x i there.1.0) at there.1.2))
+              ∙ sym there.1.1,
+        )
+    one_line a b bs cs here there =
+        absurd (omega (arith, not_before a b bs cs here there, not_before b a cs bs there here))
 
-  one_line : (main : Block) (x y : AskedLine) (a b : Resolution) (bs cs : List Breakpoint) → SameLine x y
-      → IsResolvedTo main x a bs → IsResolvedTo main y b cs → SameAnswer a bs b cs
-  one_line main x y (At n) (At k) bs cs same here there =
-      let at = same_step_from main x y n k same here.0 there.0 in (
-        ap At at,
-        here.1.1 ∙ ap (λ b. b ∷ []) (one_breakpoint main x y n k here.1.0 there.1.0 same at here.1.2 there.1.2)
-            ∙ sym there.1.1,
-      )
-  one_line main x y (At n) NoStep bs cs same here there =
-      absurd (no_step_there main y x n (other_way x y same) there.0 here.0)
-  one_line main x y (At n) BadCondition bs cs same here there =
-      absurd (there.1.2 (record {
-        condition = here.1.0.condition;
-        reads = condition_there main x y n there.1.0 same
-            here.0 there.1.1 here.1.0.condition here.1.2.condition;
-      }))
-  one_line main x y (At n) BadHitCondition bs cs same here there =
-      absurd (there.1 (record {
-        rule = here.1.0.rule;
-        reads = subst (λ t. ReadsRule t here.1.0.rule) same.hit
-            here.1.2.rule;
-      }))
-  one_line main x y (At n) BadLogMessage bs cs same here there =
-      absurd (there.2.3 (record {
-        message = here.1.0.message;
-        reads = message_there main x y n there.2.0 same here.0
-            there.2.1 here.1.0.message here.1.2.message;
-      }))
-  one_line main x y NoStep BadLogMessage bs cs same here there =
-      absurd (no_step_there main x y there.2.0 same here.0 there.2.1)
-  one_line main x y BadCondition BadLogMessage bs cs same here there =
-      absurd (here.1.2 (has_there main y x there.2.0 here.1.0 (other_way x y same) there.2.1 here.1.1 there.2.2))
-  one_line main x y BadHitCondition BadLogMessage bs cs same here there =
-      absurd (here.1 (rule_there y x (other_way x y same) there.1))
-  one_line main x y BadLogMessage (At k) bs cs same here there =
-      absurd (here.2.3 (record {
-        message = there.1.0.message;
-        reads = message_there main y x k here.2.0
-            (other_way x y same) there.0 here.2.1 there.1.0.message there.1.2.message;
-      }))
-  one_line main x y BadLogMessage NoStep bs cs same here there =
-      absurd (no_step_there main y x here.2.0 (other_way x y same) there.0 here.2.1)
-  one_line main x y BadLogMessage BadCondition bs cs same here there =
-      absurd (there.1.2 (has_there main x y here.2.0 there.1.0 same here.2.1 there.1.1 here.2.2))
-  one_line main x y BadLogMessage BadHitCondition bs cs same here there = absurd (there.1 (rule_there x y same here.1))
-  one_line main x y BadLogMessage BadLogMessage bs cs same here there = (refl, here.0 ∙ sym there.0)
-  one_line main x y NoStep (At k) bs cs same here there = absurd (no_step_there main x y k same here.0 there.0)
-  one_line main x y NoStep NoStep bs cs same here there = (refl, here.1 ∙ sym there.1)
-  one_line main x y NoStep BadCondition bs cs same here there =
-      absurd (no_step_there main x y there.1.0 same here.0 there.1.1)
-  one_line main x y NoStep BadHitCondition bs cs same here there =
-      absurd (no_step_there main x y there.2.0 same here.0 there.2.1)
-  one_line main x y BadCondition (At k) bs cs same here there =
-      absurd (here.1.2 (record {
-        condition = there.1.0.condition;
-        reads = condition_there main y x k here.1.0
-            (other_way x y same) there.0 here.1.1 there.1.0.condition there.1.2.condition;
-      }))
-  one_line main x y BadCondition NoStep bs cs same here there =
-      absurd (no_step_there main y x here.1.0 (other_way x y same) there.0 here.1.1)
-  one_line main x y BadCondition BadCondition bs cs same here there = (refl, here.0 ∙ sym there.0)
-  one_line main x y BadCondition BadHitCondition bs cs same here there =
-      absurd (here.1.2 (record {
-        condition = there.2.2.condition;
-        reads = condition_there main y x there.2.0 here.1.0
-            (other_way x y same) there.2.1 here.1.1 there.2.2.condition there.2.2.reads;
-      }))
-  one_line main x y BadHitCondition (At k) bs cs same here there =
-      absurd (here.1 (record {
-        rule = there.1.0.rule;
-        reads = subst (λ t. ReadsRule t there.1.0.rule) (sym same.hit)
-            there.1.2.rule;
-      }))
-  one_line main x y BadHitCondition NoStep bs cs same here there =
-      absurd (no_step_there main y x here.2.0 (other_way x y same) there.0 here.2.1)
-  one_line main x y BadHitCondition BadCondition bs cs same here there =
-      absurd (there.1.2 (record {
-        condition = here.2.2.condition;
-        reads = condition_there main x y here.2.0 there.1.0
-            same here.2.1 there.1.1 here.2.2.condition here.2.2.reads;
-      }))
-  one_line main x y BadHitCondition BadHitCondition bs cs same here there = (refl, here.0 ∙ sym there.0)
-
-  same_line : (less : ℕ) (b : SourceBreakpoint) (x y : AskedLine) → IsAskedAs less b x → IsAskedAs less b y
-      → SameLine x y
-  same_line less b x y here there =
-      record {
-        line = here.line ∙ sym there.line;
-        condition = here.condition ∙ sym there.condition;
-        hit = here.hit
-            ∙ sym there.hit;
-        message = here.message ∙ sym there.message;
-      }
-
-  one_lines : (main : Block) (less : ℕ) (lines : List SourceBreakpoint) (xs ys : List AskedLine)
-      (answers bs : List Resolution) (ps qs : List Breakpoint)
-      → AreAskedAs less lines xs → AreAskedAs less lines ys → AreResolved main xs answers ps → AreResolved main ys bs qs
-      → (answers ≡ bs) × (ps ≡ qs)
-  one_lines main less [] [] [] [] [] ps qs x y here there = (refl, here ∙ sym there)
-  one_lines main less [] [] [] (a ∷ answers) bs ps qs x y here there = absurd here
-  one_lines main less [] [] [] [] (b ∷ bs) ps qs x y here there = absurd there
-  one_lines main less [] (u ∷ xs) ys answers bs ps qs x y here there = absurd x
-  one_lines main less [] [] (v ∷ ys) answers bs ps qs x y here there = absurd y
-  one_lines main less (l ∷ lines) [] ys answers bs ps qs x y here there = absurd x
-  one_lines main less (l ∷ lines) (u ∷ xs) [] answers bs ps qs x y here there = absurd y
-  one_lines main less (l ∷ lines) (u ∷ xs) (v ∷ ys) [] bs ps qs x y here there = absurd here
-  one_lines main less (l ∷ lines) (u ∷ xs) (v ∷ ys) (a ∷ answers) [] ps qs x y here there = absurd there
-  one_lines main less (l ∷ lines) (u ∷ xs) (v ∷ ys) (a ∷ answers) (b ∷ bs) ps qs x y here there =
-      let first = one_line main u v a b here.0 there.0 (same_line less l u v x.0 y.0) here.3 there.3 in
-      let rest = one_lines main less lines xs ys answers bs here.1 there.1 x.1 y.1 here.4 there.4 in (
+  one_lines : (main : Block) (lines : List AskedLine) (answers others : List Resolution) (bs cs : List Breakpoint)
+      → AreResolved main lines answers bs → AreResolved main lines others cs → (answers ≡ others) × (bs ≡ cs)
+  one_lines main [] [] [] bs cs here there = (refl, here ∙ sym there)
+  one_lines main [] [] (b ∷ others) bs cs here there = absurd there
+  one_lines main [] (a ∷ answers) others bs cs here there = absurd here
+  one_lines main (x ∷ lines) [] others bs cs here there = absurd here
+  one_lines main (x ∷ lines) (a ∷ answers) [] bs cs here there = absurd there
+  one_lines main (x ∷ lines) (a ∷ answers) (b ∷ others) bs cs here there =
+      let first = one_line main x a b here.0 there.0 here.3 there.3 in
+      let rest = one_lines main lines answers others here.1 there.1 here.4 there.4 in (
         ap (λ c. c ∷ answers) first.0 ∙ ap (λ cs. b ∷ cs) rest.0,
         here.2 ∙ ap (λ m. m ++ here.1) first.1 ∙ ap (λ m. there.0 ++ m) rest.1 ∙ sym there.2,
       )
@@ -282,8 +190,8 @@ module _ (once : IsTextOnce) where
       → Resolves past l lines r → Resolves past l lines s → r ≡ s
   one_resolves past l lines r s a b =
       let same =
-      one_lines l.program (line_offset past) lines a.resolved.asked b.resolved.asked a.answers b.answers
-      a.breakpoints b.breakpoints a.resolved.as_asked b.resolved.as_asked a.resolved.resolved b.resolved.resolved in
+      one_lines l.program (map (asked_as (line_offset past)) lines) a.answers b.answers a.breakpoints b.breakpoints
+      a.resolved b.resolved in
       a.reaction_is
       ∙ ap (λ answers. SetBreakpoints (map (answer_to_line l.program (line_offset past)) answers) a.breakpoints) same.0
       ∙ ap (λ bs. SetBreakpoints (map (answer_to_line l.program (line_offset past)) b.answers) bs) same.1

@@ -1,5 +1,5 @@
 -- Defines `setBreakpoints`: how its lines are resolved, what they are answered with, and what they cause.
-use Rattle.std.specs.Prelude.{◌≡◌, ℕ, ◌+◌, ◌-◌, Bool, true, false, ◌||◌, List, [], ◌∷◌, slice_get, if◌then◌else◌, Option, Some, string_bytes}
+use Rattle.std.specs.Prelude.{ℕ, ◌+◌, ◌-◌, Bool, true, false, ◌||◌, List, [], ◌∷◌, slice_get, map, if◌then◌else◌, Option, Some}
 use Rattle.std.specs.Option.{option_map_or}
 use Rattle.std.specs.Str.{bytes_eq}
 use Rattle.dap_msg.specs.declared.requests.set_breakpoints.SourceBreakpoint.{SourceBreakpoint}
@@ -9,9 +9,8 @@ use Rattle.dap_msg.specs.declared.outgoing.BreakpointRefusal.TheVariants as why
 use Rattle.pl0_tree.specs.Tree.{Block}
 use Rattle.pl0_tree.specs.Steps.{steps}
 use Rattle.dbg_plan.specs.Breakpoints.{Breakpoint}
-use Rattle.dbg_plan.specs.Resolutions.{AreResolved}
+use Rattle.dbg_plan.specs.Resolutions.{AskedLine, AreResolved}
 use Rattle.dbg_runner.specs.Plain.{PlainOrder, Hold}
-use Rattle.dbg_plan.specs.declared.resolving.SourceBreakpoint.{SourceBreakpoint as AskedLine}
 use Rattle.dbg_plan.specs.declared.resolving.Resolution.{Resolution}
 use Rattle.dbg_plan.specs.declared.resolving.Resolution.TheVariants.{At, NoStep, BadCondition, BadHitCondition, BadLogMessage}
 use Rattle.dap_history.specs.declared.situation.Situation.{Situation}
@@ -40,25 +39,18 @@ column_offset past = offset (settings past).columns_start_at_1
 
 -- A line of the request, as the debugger is asked for it: with its number counted from 1, which is `less` more than the
 -- client's, and with the client's texts.
-pub record IsAskedAs (less : ℕ) (b : SourceBreakpoint) (asked : AskedLine) : Type 0 where
-  pub line : asked.line ≡ b.line + less
-  pub condition : string_bytes asked.condition ≡ b.condition
-  pub hit : string_bytes asked.hit_condition ≡ b.hit_condition
-  pub message : string_bytes asked.log_message ≡ b.log_message
-
--- the same for each line of the request, in order
-abbrev pub AreAskedAs : ℕ → List SourceBreakpoint → List AskedLine → Type 0
-AreAskedAs less [] [] = Unit {0}
-AreAskedAs less (b ∷ bs) (asked ∷ more) = IsAskedAs less b asked × AreAskedAs less bs more
-AreAskedAs less _ _ = ⊥
+abbrev pub asked_as : ℕ → SourceBreakpoint → AskedLine
+asked_as less b = record {
+  line = b.line + less;
+  condition = b.condition;
+  hit_condition = b.hit_condition;
+  log_message = b.log_message;
+}
 
 -- Each line is answered from the program alone. The breakpoints are those that were answered with a step, in the order
 -- asked.
-pub record IsResolved (main : Block) (less : ℕ) (lines : List SourceBreakpoint) (answers : List Resolution)
-    (breakpoints : List Breakpoint) : Type 0 where
-  pub asked : List AskedLine
-  pub as_asked : AreAskedAs less lines asked
-  pub resolved : AreResolved main asked answers breakpoints
+abbrev pub IsResolved : Block → ℕ → List SourceBreakpoint → List Resolution → List Breakpoint → Type 0
+IsResolved main less lines = AreResolved main (map (asked_as less) lines)
 
 -- the line of step n, from 1
 abbrev pub step_line : Block → ℕ → ℕ

@@ -28,9 +28,7 @@ use Rattle.dap_history.specs.declared.situation.Situation.TheVariants.{Ready}
 use Rattle.dap_history.specs.declared.ending.Ending.{Ending}
 use Rattle.dap_history.specs.declared.ending.Ending.TheVariants as ending
 use Rattle.dap_history.specs.declared.ending.Closed.TheVariants as closed
-use Rattle.dbg_plan.specs.declared.resolving.SourceBreakpoint.{SourceBreakpoint as AskedLine}
 use Rattle.dbg_runner.specs.Plain.{PlainOrder, Quit}
-use Rattle.dap_history.specs.Breakpoints.{AreAskedAs, line_offset}
 use Rattle.dap_history.specs.Emission.{IsAfter}
 use Rattle.dap_history.specs.Events.{Incoming, Piece, End, ReadFailed, Rest, IsTaking, IsHistoryOf}
 use Rattle.dap_history.specs.Output.{frames_from}
@@ -67,21 +65,11 @@ abbrev pub EachItemLeads : Type 0
 EachItemLeads = OfLawfulHistories (λ past.
     (item : Item) → IsPlainItem item → (new : History) × IsAfter past item new)
 
--- the texts of a command's lines are strings: UTF-8 that memory can hold
-abbrev pub AreStrings : ℕ → Command → Type 0
-AreStrings less (command.SetBreakpoints asked) = (lines : List AskedLine) × AreAskedAs less asked.breakpoints lines
-AreStrings less _ = Unit {0}
-
--- the same of an item
-abbrev pub HasStrings : ℕ → Item → Type 0
-HasStrings less (Content (Some request)) = AreStrings less request.body
-HasStrings less _ = Unit {0}
-
 -- No item leads nowhere, whatever its texts are. So each has an answer and an effect, a launch with its text, lines
 -- of breakpoints and an expression too.
 abbrev pub NoItemLeadsNowhere : Type 0
 NoItemLeadsNowhere = OfLawfulHistories (λ past.
-    (item : Item) → HasStrings (line_offset past) item → ¬ ((new : History) → ¬ IsAfter past item new))
+    (item : Item) → ¬ ((new : History) → ¬ IsAfter past item new))
 
 -- ---- Contents of the stream
 

@@ -21,8 +21,7 @@ pub mod Begun
 pub mod ReportSteps
 -- How runs begin, go on and end at a request; for the functions of `running`.
 pub mod Resumed
--- Lines that are asked for and answered one after another are all of them; for `asked_lines`, `line_answer` and
--- `resolved`.
+-- Lines are resolved to steps of the program, whose lines the unit keeps; for `line_answer` and `resolved`.
 pub mod Lines
 -- What is chosen for `setBreakpoints`, and that the phase afterwards represents the longer history; for `in_program`
 -- and the functions of `planning`.

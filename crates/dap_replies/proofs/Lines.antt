@@ -1,9 +1,8 @@
--- Lines that are asked for and answered one after another.
-use Rattle.std.proofs.Common.{◌≡◌, ℕ, zero, suc, ◌+◌, ◌<◌, List, [], ◌∷◌, ◌++◌, length, take, get_or, slice_get, refl, ap, sym, ◌∙◌, subst, arith, All, nat_le}
+-- Lines that are answered are resolved to steps of the program.
+use Rattle.std.proofs.Common.{◌≡◌, ℕ, zero, suc, ◌<◌, List, [], ◌∷◌, length, get_or, slice_get, ap, ◌∙◌, arith, All, nat_le}
 use Rattle.std.specs.Option.{option_map_or}
 use Rattle.std.proofs.Math.Logic.{∥∥₁_elim}
 use Rattle.std.proofs.Math.Nat.{ℕ_set}
-use Rattle.std.proofs.lemmas.List.{take_more}
 use Rattle.std.proofs.lemmas.List.Elements.{All-cons, All-nil}
 use Rattle.std.proofs.lemmas.List.Quantifiers.{position-Some}
 use Rattle.pl0_tree.specs.Tree.{Block}
@@ -13,43 +12,13 @@ use Rattle.pl0_tree.specs.declared.step.StepKind.TheVariants.{Return}
 use Rattle.pl0_tree.specs.Steps.{StepAt, AreSteps, steps}
 use Rattle.pl0_unit.specs.declared.unit.Unit.{Unit as Compiled}
 use Rattle.pl0_machine.specs.Machine.{program_of}
-use Rattle.dap_msg.specs.declared.requests.set_breakpoints.SourceBreakpoint.{SourceBreakpoint}
 use Rattle.dbg_plan.specs.Breakpoints.{Breakpoint}
-use Rattle.dbg_plan.specs.declared.resolving.SourceBreakpoint.{SourceBreakpoint as AskedLine}
 use Rattle.dbg_plan.specs.declared.resolving.Resolution.{Resolution}
 use Rattle.dbg_plan.specs.declared.resolving.Resolution.TheVariants.{At, NoStep, BadCondition, BadHitCondition, BadLogMessage}
-use Rattle.dbg_plan.specs.Resolutions.{IsResolvedTo, AreResolved}
+use Rattle.dbg_plan.specs.Resolutions.{AskedLine, IsResolvedTo, AreResolved}
 use Rattle.dbg_plan.proofs.StepLines.{unit_length}
-use Rattle.dap_history.specs.Breakpoints.{IsAskedAs, AreAskedAs, step_line}
+use Rattle.dap_history.specs.Breakpoints.{step_line}
 use Rattle.dap_replies.specs.Lines.{IsAtStep}
-
--- ---- one more of a list
-
-more_asked : (less : ℕ) (lines : List SourceBreakpoint) (done : List AskedLine) (line : SourceBreakpoint)
-    (one : AskedLine)
-    → AreAskedAs less lines done → IsAskedAs less line one → AreAskedAs less (lines ++ line ∷ []) (done ++ one ∷ [])
-more_asked less [] [] line one old new = (new, tt)
-more_asked less [] (a ∷ done) line one old new = absurd old
-more_asked less (x ∷ lines) [] line one old new = absurd old
-more_asked less (x ∷ lines) (a ∷ done) line one old new = (old.0, more_asked less lines done line one old.1 new)
-
-pub one_more_asked : (less : ℕ) (lines : List SourceBreakpoint) (i : ℕ) (line : SourceBreakpoint)
-    (done all : List AskedLine) (one : AskedLine) → i < length lines → line ≡ get_or lines i line
-    → AreAskedAs less (take i lines) done → all ≡ done ++ one ∷ [] → IsAskedAs less line one
-    → AreAskedAs less (take (i + 1) lines) all
-one_more_asked less lines i line done all one lt at is now new =
-    subst (λ l. AreAskedAs less l all) (ap (λ x. take i lines ++ x ∷ []) at ∙ sym (take_more lines i line lt))
-    (subst (λ l. AreAskedAs less (take i lines ++ line ∷ []) l) (sym now)
-    (more_asked less (take i lines) done line one is new))
-
-pub asked_length : (less : ℕ) (lines : List SourceBreakpoint) (asked : List AskedLine) → AreAskedAs less lines asked
-    → length asked ≡ length lines
-asked_length less [] [] are = refl
-asked_length less [] (a ∷ asked) are = absurd are
-asked_length less (x ∷ lines) [] are = absurd are
-asked_length less (x ∷ lines) (a ∷ asked) are = ap suc (asked_length less lines asked are.1)
-
--- ---- steps
 
 some_step : StepAt
 some_step = record { kind = Return; place = record { line = 1; column = 1 }; path = [] }

@@ -8,7 +8,8 @@ ghost use Rattle.dap_msg.specs.declared.outgoing.BreakpointRefusal.TheVariants a
 ghost use Rattle.pl0_machine.specs.Machine.{program_of};
 ghost use Rattle.dbg_plan.specs.Breakpoints.{plain_breakpoints};
 ghost use Rattle.dbg_plan.specs.Plans.{IsPlanOf};
-ghost use Rattle.dap_history.specs.Breakpoints.{offset, IsAskedAs, AreAskedAs, answer_to_line, is_same_path};
+ghost use Rattle.dbg_plan.specs.Resolutions.{plain_line};
+ghost use Rattle.dap_history.specs.Breakpoints.{offset, asked_as, answer_to_line, is_same_path};
 ghost use Rattle.dap_replies.specs.declared.phase.Phase.{Phase};
 ghost use Rattle.dap_replies.specs.Choosing.{Chooses, MakesNothing};
 ghost use Rattle.dap_replies.specs.Lines.{AreAnswered, IsAtStep, program_in};
@@ -122,34 +123,34 @@ fn line_offset(settings: InitializeArguments) -> u32
 }
 
 /// Converts each breakpoint, as `asked_line` does.
-fn asked_lines(
+fn asked_lines<'a>(
     alloc: Global,
-    lines: &[SourceBreakpoint],
+    lines: &'a [SourceBreakpoint],
     less: u32,
-) -> Result<Vec<AskedLine>, AllocError>
+) -> Result<Vec<AskedLine<'a>>, AllocError>
     requires within { All LineIsWithin lines.now }
     requires small { less ≤ 1 }
-    ensures { IfOk result (λ asked. AreAskedAs less lines.now asked.items) }
+    ensures { IfOk result (λ asked. map plain_line asked.items ≡ map (asked_as less) lines.now) }
 {
     let mut asked = Vec::with_capacity(alloc, lines.len())?;
     for line in lines {
-        asked.push(asked_line(alloc, line, less)?)?;
+        asked.push(asked_line(line, less))?;
     }
     Ok(asked)
 }
 
 /// Converts a breakpoint that is asked for to one that counts lines from 1.
-fn asked_line(alloc: Global, line: &SourceBreakpoint, less: u32) -> Result<AskedLine, AllocError>
+fn asked_line(line: &SourceBreakpoint, less: u32) -> AskedLine<'_>
     requires within { LineIsWithin line.now }
     requires small { less ≤ 1 }
-    ensures { IfOk result (IsAskedAs less line.now) }
+    ensures { plain_line result ≡ asked_as less line.now }
 {
-    Ok(AskedLine {
+    AskedLine {
         line: line.line + less,
-        condition: String::from_str(alloc, line.condition.as_str())?,
-        hit_condition: String::from_str(alloc, line.hit_condition.as_str())?,
-        log_message: String::from_str(alloc, line.log_message.as_str())?,
-    })
+        condition: line.condition.as_str(),
+        hit_condition: line.hit_condition.as_str(),
+        log_message: line.log_message.as_str(),
+    }
 }
 
 /// Returns the answer to each line, by how it was resolved.

@@ -15,19 +15,19 @@ use Rattle.pl0_tree.specs.declared.fault.FaultKind.{FaultKind}
 use Rattle.pl0_tree.specs.declared.fault.SyntaxFault.{SyntaxFault}
 use Rattle.pl0_tree.specs.declared.fault.SyntaxFault.TheVariants.{InText}
 use Rattle.pl0_tree.specs.Faults.{FaultIs}
-use Rattle.std.specs.Prelude.{Some, option_map, string_bytes}
+use Rattle.std.specs.Prelude.{Some, map, option_map}
 use Rattle.pl0_tree.specs.Steps.{steps}
 use Rattle.pl0_unit.specs.declared.unit.Unit.{Unit as Compiled}
 use Rattle.dbg_plan.specs.Breakpoints.{Breakpoint as PlainBreakpoint, text_condition, plain_breakpoint, plain_breakpoints}
 use Rattle.dbg_plan.specs.Plans.{Listed, IsRule, AreNumbered, AreAtSteps, IsPlanOf, AreBreakpointsOf, breakpoint_limit, watched_lines}
-use Rattle.dbg_plan.specs.Resolutions.{step_from, ReadsRule, HasConditionAt, HasRule, HasMessageAt, IsResolvedTo, AreResolved}
+use Rattle.dbg_plan.specs.Resolutions.{AskedLine, plain_line, step_from, ReadsRule, HasConditionAt, HasRule, HasMessageAt, IsResolvedTo, AreResolved}
 use Rattle.dbg_plan.specs.Resolving.{IsBoundConditionOf, ResolvesLine}
 
 -- the first i lines are answered
 pub record Resolved (main : Block) (asked : List SourceBreakpoint) (i : ℕ) (answers : List Resolution)
     (bs : List Breakpoint) : Type 0 where
   pub few : length bs ≤ i
-  pub answered : AreResolved main (take i asked) answers (plain_breakpoints bs)
+  pub answered : AreResolved main (map plain_line (take i asked)) answers (plain_breakpoints bs)
   pub numbered : AreNumbered 0 bs
   pub placed : AreAtSteps main bs
 
@@ -49,8 +49,8 @@ more_placed : (main : Block) (bs mine : List Breakpoint) → AreAtSteps main bs 
 more_placed main [] mine old new = new
 more_placed main (b ∷ bs) mine old new = (old.0, old.1, old.2, more_placed main bs mine old.3 new)
 
-more_answered : (main : Block) (lines : List SourceBreakpoint) (answers : List Resolution)
-    (bs mine : List PlainBreakpoint) (line : SourceBreakpoint) (answer : Resolution) →
+more_answered : (main : Block) (lines : List AskedLine) (answers : List Resolution)
+    (bs mine : List PlainBreakpoint) (line : AskedLine) (answer : Resolution) →
     AreResolved main lines answers bs → IsResolvedTo main line answer mine
     → AreResolved main (lines ++ line ∷ []) (answers ++ answer ∷ []) (bs ++ mine)
 more_answered main [] [] bs mine line answer old new =
@@ -68,21 +68,23 @@ more_answered main (x ∷ lines) (a ∷ answers) bs mine line answer old new = (
 
 pub one_more : (main : Block) (asked : List SourceBreakpoint) (i : ℕ) (line : SourceBreakpoint)
     (answers all : List Resolution) (bs new : List Breakpoint) (answer : Resolution) → i < length asked
-    → line ≡ get_or asked i line →
-    Resolved main asked i answers bs → ResolvesLine main line bs new answer → all ≡ answers ++ answer ∷ []
-    → Resolved main asked (i + 1) all new
-one_more main asked i line answers all bs new answer lt is old more all_is =
+    → Resolved main asked i answers bs → ResolvesLine main (plain_line (get_or asked i line)) bs new answer
+    → all ≡ answers ++ answer ∷ [] → Resolved main asked (i + 1) all new
+one_more main asked i line answers all bs new answer lt old more all_is =
     let few = old.few in
     let one = more.few in
+    let before = map plain_line (take i asked) in
+    let this = plain_line (get_or asked i line) in
     let now : Resolved main asked (i + 1) (answers ++ answer ∷ []) (bs ++ more.mine) = record {
       few = omega (arith, length-append bs more.mine);
       answered =
           subst (λ l. AreResolved main l (answers ++ answer ∷ []) (plain_breakpoints (bs ++ more.mine)))
-          (sym (take_more asked i line lt ∙ ap (λ x. take i asked ++ x ∷ []) (sym is)))
-          (subst (λ l. AreResolved main (take i asked ++ line ∷ []) (answers ++ answer ∷ []) l)
+          (sym (ap (map plain_line) (take_more asked i line lt)
+          ∙ map-append plain_line (take i asked) (get_or asked i line ∷ [])))
+          (subst (λ l. AreResolved main (before ++ this ∷ []) (answers ++ answer ∷ []) l)
           (sym (map-append plain_breakpoint bs more.mine))
-          (more_answered main (take i asked) answers (plain_breakpoints bs) (plain_breakpoints more.mine) line
-          answer old.answered more.resolved));
+          (more_answered main before answers (plain_breakpoints bs) (plain_breakpoints more.mine) this answer
+          old.answered more.resolved));
       numbered = more_numbered 0 (length bs) bs more.mine (omega arith) old.numbered more.numbered;
       placed = more_placed main bs more.mine old.placed more.placed;
     } in
@@ -125,49 +127,40 @@ breakpoints_are main asked i answers bs plan old le same =
 
 -- ---- lines without a breakpoint
 
-refused : (main : Block) (asked : SourceBreakpoint) (old : List Breakpoint) (answer : Resolution)
+refused : (main : Block) (asked : AskedLine) (old : List Breakpoint) (answer : Resolution)
     → IsResolvedTo main asked answer [] → ResolvesLine main asked old old answer
 refused main asked old answer is =
     record { mine = []; few = omega arith; after = sym (append-nil old); resolved = is; numbered = tt; placed = tt }
 
-pub bad_condition : (main : Block) (asked : SourceBreakpoint) (old : List Breakpoint) (n : ℕ) (text : List ℕ)
-    (fault : SyntaxFault) (kind : FaultKind) (place : Place) → step_from main asked.line ≡ Some n
-    → text ≡ string_bytes asked.condition →
-    FaultIs (λ kind place. ¬ HasConditionAt main n text) fault → fault ≡ InText kind place
+pub bad_condition : (main : Block) (asked : AskedLine) (old : List Breakpoint) (n : ℕ) (fault : SyntaxFault)
+    (kind : FaultKind) (place : Place) → step_from main asked.line ≡ Some n
+    → FaultIs (λ kind place. ¬ HasConditionAt main n asked.condition) fault → fault ≡ InText kind place
     → ResolvesLine main asked old old BadCondition
-bad_condition main asked old n text fault kind place there same is e =
-    let none : ¬ HasConditionAt main n text =
-    subst (λ f. FaultIs (λ kind place. ¬ HasConditionAt main n text) f) e is in
-    refused main asked old BadCondition (refl, (n, there, subst (λ t. ¬ HasConditionAt main n t) same none))
+bad_condition main asked old n fault kind place there is e =
+    refused main asked old BadCondition (
+      refl,
+      (n, there, subst (λ f. FaultIs (λ kind place. ¬ HasConditionAt main n asked.condition) f) e is),
+    )
 
-pub bad_hit_condition : (main : Block) (asked : SourceBreakpoint) (old : List Breakpoint) (n : ℕ) (text hit : List ℕ)
-    (condition : Option BoundCondition) → step_from main asked.line ≡ Some n → text ≡ string_bytes asked.condition →
-    IsBoundConditionOf main n text condition → hit ≡ string_bytes asked.hit_condition → ¬ HasRule hit
+has_condition : (main : Block) (n : ℕ) (text : List ℕ) (condition : Option BoundCondition)
+    → IsBoundConditionOf main n text condition → HasConditionAt main n text
+has_condition main n text condition is = record { condition = option_map text_condition condition; reads = is.reads }
+
+pub bad_hit_condition : (main : Block) (asked : AskedLine) (old : List Breakpoint) (n : ℕ)
+    (condition : Option BoundCondition) → step_from main asked.line ≡ Some n
+    → IsBoundConditionOf main n asked.condition condition → ¬ HasRule asked.hit_condition
     → ResolvesLine main asked old old BadHitCondition
-bad_hit_condition main asked old n text hit condition there same is same_hit none =
-    let has : HasConditionAt main n text =
-    record { condition = option_map text_condition condition; reads = is.reads } in
+bad_hit_condition main asked old n condition there is none =
     refused main asked old BadHitCondition
-    (refl, subst (λ t. ¬ HasRule t) same_hit none, (n, there, subst (λ t. HasConditionAt main n t) same has))
+    (refl, none, (n, there, has_condition main n asked.condition condition is))
 
-pub bad_log_message : (main : Block) (asked : SourceBreakpoint) (old : List Breakpoint) (n : ℕ)
-    (text hit message : List ℕ) (condition : Option BoundCondition) (rule : Option Rule)
-    → step_from main asked.line ≡ Some n → text ≡ string_bytes asked.condition →
-    IsBoundConditionOf main n text condition → hit ≡ string_bytes asked.hit_condition → ReadsRule hit rule
-    → message ≡ string_bytes asked.log_message → ¬ HasMessageAt main n message
-    → ResolvesLine main asked old old BadLogMessage
-bad_log_message main asked old n text hit message condition rule there same is same_hit read same_message none =
-    let has : HasConditionAt main n text =
-    record { condition = option_map text_condition condition; reads = is.reads } in
-    let has_rule : HasRule hit = record { rule = rule; reads = read } in
+pub bad_log_message : (main : Block) (asked : AskedLine) (old : List Breakpoint) (n : ℕ)
+    (condition : Option BoundCondition) (rule : Option Rule) → step_from main asked.line ≡ Some n
+    → IsBoundConditionOf main n asked.condition condition → ReadsRule asked.hit_condition rule
+    → ¬ HasMessageAt main n asked.log_message → ResolvesLine main asked old old BadLogMessage
+bad_log_message main asked old n condition rule there is read none =
     refused main asked old BadLogMessage (
       refl,
-      subst (λ t. HasRule t) same_hit has_rule,
-      (
-        n,
-        there,
-        subst (λ t. HasConditionAt main n t) same has,
-        subst (λ t. ¬ HasMessageAt main n t) same_message
-            none,
-      ),
+      record { rule = rule; reads = read },
+      (n, there, has_condition main n asked.condition condition is, none),
     )

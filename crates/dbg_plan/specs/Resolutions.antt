@@ -1,5 +1,5 @@
 -- What an editor asks for, and what that is resolved to.
-use Rattle.std.specs.Prelude.{◌≡◌, ◌≢◌, ℕ, ◌<◌, ◌^◌, nat_le, List, [], ◌∷◌, ◌++◌, string_bytes, Option, Some, None}
+use Rattle.std.specs.Prelude.{◌≡◌, ◌≢◌, ℕ, ◌<◌, ◌^◌, nat_le, List, [], ◌∷◌, ◌++◌, Option, Some, None}
 use Rattle.std.specs.List.{position}
 use Rattle.std.specs.Fmt.{decimal}
 use Rattle.pl0_tree.specs.Tree.{Block}
@@ -12,6 +12,22 @@ use Rattle.dbg_plan.specs.Messages.{Message, IsMessageOf}
 use Rattle.dbg_plan.specs.declared.resolving.SourceBreakpoint.{SourceBreakpoint}
 use Rattle.dbg_plan.specs.declared.resolving.Resolution.{Resolution}
 use Rattle.dbg_plan.specs.declared.resolving.Resolution.TheVariants.{At, NoStep, BadCondition, BadHitCondition, BadLogMessage}
+
+-- A breakpoint as an editor asks for it: a line, from 1, and its texts.
+pub record AskedLine : Type 0 where
+  pub line : ℕ
+  pub condition : List ℕ
+  pub hit_condition : List ℕ
+  pub log_message : List ℕ
+
+-- without where the texts lie in memory
+abbrev pub plain_line : SourceBreakpoint → AskedLine
+plain_line b = record {
+  line = b.line;
+  condition = b.condition.now;
+  hit_condition = b.hit_condition.now;
+  log_message = b.log_message.now;
+}
 
 -- The step of a line: the first, in source order, at this line or after it.
 abbrev pub step_from : Block → ℕ → Option ℕ
@@ -61,31 +77,31 @@ pub record HasMessageAt (main : Block) (n : ℕ) (text : List ℕ) : Type 0 wher
   pub reads : ReadsMessageAt main n text message
 
 -- the breakpoint of a line that is resolved to a step
-pub record IsBreakpointOf (main : Block) (asked : SourceBreakpoint) (n : ℕ) (b : Breakpoint) : Type 0 where
+pub record IsBreakpointOf (main : Block) (asked : AskedLine) (n : ℕ) (b : Breakpoint) : Type 0 where
   pub step : b.step ≡ n
-  pub condition : ReadsConditionAt main n (string_bytes asked.condition) b.condition
-  pub rule : ReadsRule (string_bytes asked.hit_condition) b.rule
-  pub message : ReadsMessageAt main n (string_bytes asked.log_message) b.message
+  pub condition : ReadsConditionAt main n asked.condition b.condition
+  pub rule : ReadsRule asked.hit_condition b.rule
+  pub message : ReadsMessageAt main n asked.log_message b.message
 
 -- What a line is resolved to, and the breakpoints that it gives, one or none. If several refusals apply, it is the
 -- first.
-abbrev pub IsResolvedTo : Block → SourceBreakpoint → Resolution → List Breakpoint → Type 0
+abbrev pub IsResolvedTo : Block → AskedLine → Resolution → List Breakpoint → Type 0
 IsResolvedTo main asked (At n) bs =
     (step_from main asked.line ≡ Some n) × ((b : Breakpoint) × (bs ≡ b ∷ []) × IsBreakpointOf main asked n b)
 IsResolvedTo main asked NoStep bs = (step_from main asked.line ≡ None) × (bs ≡ [])
 IsResolvedTo main asked BadCondition bs =
     (bs ≡ []) × ((n : ℕ) × (step_from main asked.line ≡ Some n)
-    × (¬ HasConditionAt main n (string_bytes asked.condition)))
+    × (¬ HasConditionAt main n asked.condition))
 IsResolvedTo main asked BadHitCondition bs =
-    (bs ≡ []) × (¬ HasRule (string_bytes asked.hit_condition))
-    × ((n : ℕ) × (step_from main asked.line ≡ Some n) × HasConditionAt main n (string_bytes asked.condition))
+    (bs ≡ []) × (¬ HasRule asked.hit_condition)
+    × ((n : ℕ) × (step_from main asked.line ≡ Some n) × HasConditionAt main n asked.condition)
 IsResolvedTo main asked BadLogMessage bs =
-    (bs ≡ []) × HasRule (string_bytes asked.hit_condition) × ((n : ℕ) × (step_from main asked.line ≡ Some n)
-    × HasConditionAt main n (string_bytes asked.condition)
-    × (¬ HasMessageAt main n (string_bytes asked.log_message)))
+    (bs ≡ []) × HasRule asked.hit_condition × ((n : ℕ) × (step_from main asked.line ≡ Some n)
+    × HasConditionAt main n asked.condition
+    × (¬ HasMessageAt main n asked.log_message))
 
 -- Each line is resolved, in order, and the breakpoints are those that the lines give, in order.
-abbrev pub AreResolved : Block → List SourceBreakpoint → List Resolution → List Breakpoint → Type 0
+abbrev pub AreResolved : Block → List AskedLine → List Resolution → List Breakpoint → Type 0
 AreResolved main [] [] bs = bs ≡ []
 AreResolved main [] (a ∷ answers) bs = ⊥
 AreResolved main (asked ∷ more) [] bs = ⊥

@@ -5,10 +5,9 @@ use Rattle.dbg_plan.specs.declared.breakpoint.BoundCondition.{BoundCondition}
 use Rattle.dbg_plan.specs.declared.breakpoint.Breakpoint.{Breakpoint}
 use Rattle.dbg_plan.specs.declared.message.LogMessage.{LogMessage}
 use Rattle.dbg_plan.specs.Breakpoints.{text_condition, plain_message, plain_breakpoints}
-use Rattle.dbg_plan.specs.declared.resolving.SourceBreakpoint.{SourceBreakpoint}
 use Rattle.dbg_plan.specs.declared.resolving.Resolution.{Resolution}
 use Rattle.dbg_plan.specs.Plans.{AreNumbered, AreAtSteps, IsBoundAt, IsMessageBoundAt}
-use Rattle.dbg_plan.specs.Resolutions.{ReadsConditionAt, ReadsMessageAt, IsResolvedTo}
+use Rattle.dbg_plan.specs.Resolutions.{AskedLine, ReadsConditionAt, ReadsMessageAt, IsResolvedTo}
 
 -- the text reads as the condition at step n, whose names are bound there
 pub record IsBoundConditionOf (main : Block) (n : ℕ) (text : List ℕ) (condition : Option BoundCondition) : Type 0 where
@@ -21,7 +20,7 @@ pub record IsBoundMessageOf (main : Block) (n : ℕ) (text : List ℕ) (message 
   pub bound : IsMessageBoundAt main n message
 
 -- a line is resolved, and its breakpoint, if it has one, stands after the old ones, which its number counts
-pub record ResolvesLine (main : Block) (asked : SourceBreakpoint) (old new : List Breakpoint)
+pub record ResolvesLine (main : Block) (asked : AskedLine) (old new : List Breakpoint)
     (answer : Resolution) : Type 0 where
   pub mine : List Breakpoint
   pub few : length mine ≤ 1

@@ -1,6 +1,6 @@
 //! Resolves lines that an editor asks for to breakpoints.
 
-ghost use Rattle.std.specs.Prelude.{◌≡◌, ◌<◌, ◌≤◌, length, string_bytes, Some, IfOk, IfErr};
+ghost use Rattle.std.specs.Prelude.{◌≡◌, ◌<◌, ◌≤◌, length, map, Some, IfOk, IfErr};
 ghost use Rattle.pl0_tree.specs.Steps.{steps};
 ghost use Rattle.pl0_tree.specs.Plain.{plain_condition};
 ghost use Rattle.pl0_tree.specs.Faults.{FaultIs};
@@ -10,7 +10,7 @@ ghost use Rattle.dbg_plan.specs.declared.resolving.Resolution.TheVariants.{BadLo
 ghost use Rattle.dbg_plan.specs.Breakpoints.{text_condition, plain_breakpoints};
 ghost use Rattle.dbg_plan.specs.ReadsAs.{ReadsAs};
 ghost use Rattle.dbg_plan.specs.Plans.{IsBoundAt, IsPlanOf, AreBreakpointsOf, breakpoint_limit};
-ghost use Rattle.dbg_plan.specs.Resolutions.{step_from, HasConditionAt, AreResolved};
+ghost use Rattle.dbg_plan.specs.Resolutions.{plain_line, step_from, HasConditionAt, AreResolved};
 ghost use Rattle.dbg_plan.specs.Resolving.{IsBoundConditionOf, ResolvesLine};
 
 use crate::binding::bind_condition;
@@ -27,12 +27,12 @@ use std::sync::Arc;
 
 /// A breakpoint as an editor asks for it: a line, from 1, and the texts of a condition, of a hit condition and of a log
 /// message. An empty text is an absent one.
-#[derive(Drop)]
-pub struct SourceBreakpoint {
+#[derive(Clone, Copy)]
+pub struct SourceBreakpoint<'a> {
     pub line: u32,
-    pub condition: String,
-    pub hit_condition: String,
-    pub log_message: String,
+    pub condition: &'a str,
+    pub hit_condition: &'a str,
+    pub log_message: &'a str,
 }
 
 /// What a source breakpoint is resolved to: the step of its line, or why it has no breakpoint.
@@ -61,7 +61,7 @@ pub fn resolve(
     asked: &[SourceBreakpoint],
 ) -> Result<(Plan, Vec<Resolution>), AllocError>
     requires { length asked.now ≤ breakpoint_limit }
-    ensures resolutions { IfOk result (λ r. AreResolved (program_of unit.now) asked.now r.1.items
+    ensures resolutions { IfOk result (λ r. AreResolved (program_of unit.now) (map plain_line asked.now) r.1.items
         (plain_breakpoints r.0.breakpoints)) }
     ensures plan { IfOk result (λ r. IsPlanOf unit.now r.0) }
     ensures breakpoints { IfOk result (λ r. AreBreakpointsOf (program_of unit.now)
@@ -103,13 +103,14 @@ fn resolve_line(
     breakpoints: &mut Vec<Breakpoint>,
 ) -> Result<Resolution, AllocError>
     requires { names.now ≡ unit.now.tree.program }
-    ensures { IfOk result (ResolvesLine (program_of unit.now) asked.now breakpoints.old.items breakpoints.new.items) }
+    ensures { IfOk result (ResolvesLine (program_of unit.now) (plain_line asked.now) breakpoints.old.items
+        breakpoints.new.items) }
 {
     let step = match first_step(unit, asked.line) {
         Some(step) => step,
         None => return Ok(Resolution::NoStep),
     };
-    let condition = match read_condition(alloc, unit, names, asked.condition.as_str(), step) {
+    let condition = match read_condition(alloc, unit, names, asked.condition, step) {
         Ok(condition) => condition,
         Err(SyntaxFault::NoMemory) => return Err(AllocError),
         Err(SyntaxFault::InText { .. }) => return Ok(Resolution::BadCondition),
@@ -129,14 +130,15 @@ fn resolve_at(
 ) -> Result<Resolution, AllocError>
     requires names { names.now ≡ unit.now.tree.program }
     requires there { step_from (program_of unit.now) asked.now.line ≡ Some step }
-    requires condition { IsBoundConditionOf (program_of unit.now) step (string_bytes asked.now.condition) condition }
-    ensures { IfOk result (ResolvesLine (program_of unit.now) asked.now breakpoints.old.items breakpoints.new.items) }
+    requires condition { IsBoundConditionOf (program_of unit.now) step asked.now.condition.now condition }
+    ensures { IfOk result (ResolvesLine (program_of unit.now) (plain_line asked.now) breakpoints.old.items
+        breakpoints.new.items) }
 {
-    let rule = match read_rule(asked.hit_condition.as_str()) {
+    let rule = match read_rule(asked.hit_condition) {
         Ok(rule) => rule,
         Err(BadHitCondition) => return Ok(Resolution::BadHitCondition),
     };
-    let message = match read_message(alloc, unit, names, asked.log_message.as_str(), step) {
+    let message = match read_message(alloc, unit, names, asked.log_message, step) {
         Ok(message) => message,
         Err(fault) => return without_message(fault),
     };

@@ -4,12 +4,12 @@
 ghost use Rattle.std.specs.Prelude.{◌≡◌, ◌+◌, IsTrue};
 ghost use Rattle.dbg_plan.specs.Debugged.{IsConsidered};
 
+use crate::breakpoints::{
+    breakpoint_at, expression_of, known_condition, known_expression, random_breakpoints,
+};
 use crate::language::reason;
 use crate::program::Pl0;
-use crate::wishes::{
-    Wish, breakpoint_at, known_condition, known_expression, random_wishes, source_breakpoint,
-};
-use dbg_plan::{Debuggee, Logs, Mode, Reason, Resolution, log_text, resolve};
+use dbg_plan::{Debuggee, Logs, Mode, Reason, Resolution, SourceBreakpoint, log_text, resolve};
 use debuggee::{Breakpoint, Debuggee as Debugged, Halt, Mode as Going, Output, arrive, run};
 use pl0_machine::{Machine, StepOutcome};
 use pl0_unit::Unit;
@@ -226,54 +226,53 @@ struct Beside {
     lines: usize,
 }
 
-/// The breakpoints of answered wishes, of which the others drop out. What their texts read as is known from then on.
+/// The breakpoints of answered lines, of which the others drop out. What their texts read as is known from then on.
 fn breakpoints_of(
     rt: &impl Abort,
     alloc: Global,
     program: &mut Pl0,
-    wishes: &[Wish],
+    asked: &[SourceBreakpoint],
     answers: &[Resolution],
 ) -> Vec<Breakpoint> {
     let mut all = Vec::new(alloc);
-    for (wish, answer) in wishes.iter().zip(answers) {
+    for (line, answer) in asked.iter().zip(answers) {
         if let Resolution::At(step) = answer {
-            all.push(breakpoint_at(rt, alloc, *wish, *step))
+            all.push(breakpoint_at(rt, alloc, *line, *step))
                 .expect(rt, "memory");
-            learn(rt, alloc, program, *wish);
+            learn(rt, alloc, program, *line);
         }
     }
     all
 }
 
-/// Adds what the texts of a wish read as to what a program can evaluate.
-fn learn(rt: &impl Abort, alloc: Global, program: &mut Pl0, wish: Wish) {
-    if !wish.condition.is_empty() {
-        if let Some(known) = known_condition(rt, alloc, wish.condition) {
+/// Adds what the texts of a breakpoint read as to what a program can evaluate.
+fn learn(rt: &impl Abort, alloc: Global, program: &mut Pl0, asked: SourceBreakpoint) {
+    if !asked.condition.is_empty() {
+        if let Some(known) = known_condition(rt, alloc, asked.condition) {
             program.known.push(known).expect(rt, "memory");
         }
     }
-    if !wish.expression.is_empty() {
-        if let Some(known) = known_expression(rt, alloc, wish.expression) {
+    if let Some(expression) = expression_of(asked.log_message) {
+        if let Some(known) = known_expression(rt, alloc, expression) {
             program.known.push(known).expect(rt, "memory");
         }
     }
 }
 
 /// Sets breakpoints in a debuggee, and returns the answers.
-fn set(rt: &impl Abort, alloc: Global, debuggee: &mut Debuggee, wishes: &[Wish]) -> Vec<Resolution>
+fn set(
+    rt: &impl Abort,
+    alloc: Global,
+    debuggee: &mut Debuggee,
+    asked: &[SourceBreakpoint],
+) -> Vec<Resolution>
     ensures unit { debuggee.new.unit ≡ debuggee.old.unit }
     ensures position { debuggee.new.position ≡ debuggee.old.position }
     ensures next { debuggee.new.next ≡ debuggee.old.next }
 {
-    let mut asked = Vec::new(alloc);
-    for wish in wishes {
-        asked
-            .push(source_breakpoint(rt, alloc, *wish))
-            .expect(rt, "memory");
-    }
     assert!(rt; asked.len() <= 256);
     let unit: &Unit = debuggee.machine().unit();
-    let (plan, answers) = resolve(alloc, unit, &asked).expect(rt, "memory");
+    let (plan, answers) = resolve(alloc, unit, asked).expect(rt, "memory");
     debuggee.set_plan(Arc::new(alloc, plan).expect(rt, "memory"));
     answers
 }
@@ -284,9 +283,9 @@ impl Beside {
         ensures position { self.new.debuggee.position ≡ self.old.debuggee.position }
         ensures next { self.new.debuggee.next ≡ self.old.debuggee.next }
     {
-        let wishes = random_wishes(rt, alloc, &mut self.random, self.lines);
-        let answers = set(rt, alloc, &mut self.debuggee, &wishes);
-        self.breakpoints = breakpoints_of(rt, alloc, &mut self.program, &wishes, &answers);
+        let asked = random_breakpoints(rt, alloc, &mut self.random, self.lines);
+        let answers = set(rt, alloc, &mut self.debuggee, &asked);
+        self.breakpoints = breakpoints_of(rt, alloc, &mut self.program, &asked, &answers);
     }
 
     /// Sets other breakpoints on both sides, once in five times.

@@ -6,9 +6,9 @@
 
 #[cfg(test)]
 mod beside;
+#[cfg(test)]
+mod breakpoints;
 mod language;
 mod program;
-#[cfg(test)]
-mod wishes;
 
 pub use program::{Asked, Known, Pl0};

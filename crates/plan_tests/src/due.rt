@@ -38,59 +38,45 @@ const CONDITIONS: [&str; 16] = [
     "a >",
 ];
 
-/// Expressions of log messages, of which some read names that are not declared at a step, some fault, and one is none.
-const EXPRESSIONS: [&str; 10] = [
-    "",
-    "",
-    "",
-    "",
-    "a",
-    "b - a * a",
-    "1 / a",
-    "a * a * a * a * a * a * a",
-    "d + six",
-    "a +",
+/// Hit conditions, of which some are bad, and some are none.
+const HIT_CONDITIONS: [&str; 15] = [
+    "", "", "", "", "", "0", "1", "2", "3", "4", "%0", "%1", "%2", "%3", "%4",
 ];
 
-/// A line that is asked for, the rule that its hit condition writes, and the expression of its log message, if it has one.
-#[derive(Clone, Copy)]
-struct Wish {
-    line: u32,
-    condition: &'static str,
-    rule: Option<Rule>,
-    expression: &'static str,
-}
-
-/// No rule, or one with a small number, which may be 0: then its text is bad.
-fn random_rule(random: &mut Random) -> Option<Rule> {
-    let number = u32::try_from(random.below(5)).unwrap_or(0);
-    match random.below(3) {
-        0 => None,
-        1 => Some(Rule::From(number)),
-        _ => Some(Rule::Every(number)),
-    }
-}
+/// Log messages, of which some read names that are not declared at a step, some fault, and one is none.
+const LOG_MESSAGES: [&str; 10] = [
+    "",
+    "",
+    "",
+    "",
+    "<{a}>",
+    "<{b - a * a}>",
+    "<{1 / a}>",
+    "<{a * a * a * a * a * a * a}>",
+    "<{d + six}>",
+    "<{a +}>",
+];
 
 /// Six lines of a text that has this many, often one of them more than once.
-fn random_wishes(random: &mut Random, lines: usize) -> [Wish; 6] {
+fn random_lines(random: &mut Random, lines: usize) -> [SourceBreakpoint<'static>; 6] {
     let mut line = 0;
-    let none = Wish {
+    let none = SourceBreakpoint {
         line,
         condition: "",
-        rule: None,
-        expression: "",
+        hit_condition: "",
+        log_message: "",
     };
-    let mut wishes = [none; 6];
-    for (index, wish) in wishes.iter_mut().enumerate() {
+    let mut asked = [none; 6];
+    for (index, breakpoint) in asked.iter_mut().enumerate() {
         if index == 0 || random.percent(60) {
             line = u32::try_from(random.below(lines.saturating_add(2))).unwrap_or(0);
         }
-        wish.line = line;
-        wish.rule = random_rule(random);
-        wish.condition = CONDITIONS[random.below(CONDITIONS.len())];
-        wish.expression = EXPRESSIONS[random.below(EXPRESSIONS.len())];
+        breakpoint.line = line;
+        breakpoint.condition = CONDITIONS[random.below(CONDITIONS.len())];
+        breakpoint.hit_condition = HIT_CONDITIONS[random.below(HIT_CONDITIONS.len())];
+        breakpoint.log_message = LOG_MESSAGES[random.below(LOG_MESSAGES.len())];
     }
-    wishes
+    asked
 }
 
 fn random_mode(random: &mut Random) -> Mode {
@@ -188,11 +174,9 @@ fn condition_of(rt: &impl Abort, alloc: Global, text: &str) -> Option<Condition>
     }
 }
 
-/// The expression of a text, none where it is empty. It is read as that of a program's assignment.
-fn expression_of(rt: &impl Abort, alloc: Global, text: &str) -> Option<Expression> {
-    if text.is_empty() {
-        return None;
-    }
+/// The expression of a message, if it has one. It is read as that of a program's assignment.
+fn expression_of(rt: &impl Abort, alloc: Global, message: &str) -> Option<Expression> {
+    let text = message.strip_prefix("<{")?.strip_suffix("}>")?;
     let statement = format!(in alloc; "a := {text}").expect(rt, "memory");
     let body = body_of(rt, alloc, statement.as_str());
     match body {
@@ -201,29 +185,11 @@ fn expression_of(rt: &impl Abort, alloc: Global, text: &str) -> Option<Expressio
     }
 }
 
-/// The message with this expression, none where that is empty.
-fn log_message(rt: &impl Abort, alloc: Global, expression: &str) -> String {
-    if expression.is_empty() {
-        String::new(alloc)
-    } else {
-        format!(in alloc; "<{{{expression}}}>").expect(rt, "memory")
-    }
-}
-
-fn hit_condition(rt: &impl Abort, alloc: Global, rule: Option<Rule>) -> String {
-    match rule {
-        None => String::new(alloc),
-        Some(Rule::From(number)) => format!(in alloc; "{number}").expect(rt, "memory"),
-        Some(Rule::Every(number)) => format!(in alloc; "%{number}").expect(rt, "memory"),
-    }
-}
-
-fn breakpoint_of(rt: &impl Abort, alloc: Global, wish: Wish) -> SourceBreakpoint {
-    SourceBreakpoint {
-        line: wish.line,
-        condition: String::from_str(alloc, wish.condition).expect(rt, "memory"),
-        hit_condition: hit_condition(rt, alloc, wish.rule),
-        log_message: log_message(rt, alloc, wish.expression),
+/// The rule that a hit condition writes, if it writes one.
+fn rule_of(text: &str) -> Option<Rule> {
+    match text.strip_prefix('%') {
+        Some(number) => Some(Rule::Every(number.parse().ok()?)),
+        None => Some(Rule::From(text.parse().ok()?)),
     }
 }
 
@@ -232,7 +198,7 @@ fn watch(
     rt: &impl Abort,
     alloc: Global,
     machine: &Machine,
-    wish: Wish,
+    asked: SourceBreakpoint,
     answer: Resolution,
 ) -> Option<Watched> {
     let Resolution::At(step) = answer else {
@@ -240,20 +206,11 @@ fn watch(
     };
     Some(Watched {
         place: machine.unit().steps.get(step)?.place,
-        condition: condition_of(rt, alloc, wish.condition),
-        rule: wish.rule,
-        expression: expression_of(rt, alloc, wish.expression),
+        condition: condition_of(rt, alloc, asked.condition),
+        rule: rule_of(asked.hit_condition),
+        expression: expression_of(rt, alloc, asked.log_message),
         arrivals: Vec::new(alloc),
     })
-}
-
-fn breakpoints_of(rt: &impl Abort, alloc: Global, wishes: &[Wish]) -> Vec<SourceBreakpoint> {
-    let mut all = Vec::new(alloc);
-    for wish in wishes {
-        all.push(breakpoint_of(rt, alloc, *wish))
-            .expect(rt, "memory");
-    }
-    all
 }
 
 /// The breakpoints of answered lines, at which no arrival is noted. The others drop out.
@@ -261,12 +218,12 @@ fn all_watched(
     rt: &impl Abort,
     alloc: Global,
     machine: &Machine,
-    wishes: &[Wish],
+    asked: &[SourceBreakpoint],
     answers: &[Resolution],
 ) -> Vec<Watched> {
     let mut all = Vec::new(alloc);
-    for (wish, answer) in wishes.iter().zip(answers) {
-        if let Some(breakpoint) = watch(rt, alloc, machine, *wish, *answer) {
+    for (line, answer) in asked.iter().zip(answers) {
+        if let Some(breakpoint) = watch(rt, alloc, machine, *line, *answer) {
             all.push(breakpoint).expect(rt, "memory");
         }
     }
@@ -274,19 +231,18 @@ fn all_watched(
 }
 
 /// Puts a plan in: the breakpoints that its lines are answered with.
-fn put_in_wishes(
+fn put_in_lines(
     rt: &impl Abort,
     alloc: Global,
     debuggee: &mut Debuggee,
-    wishes: &[Wish],
+    asked: &[SourceBreakpoint],
 ) -> Vec<Watched>
     ensures unit { debuggee.new.unit ≡ debuggee.old.unit }
     ensures position { debuggee.new.position ≡ debuggee.old.position }
     ensures next { debuggee.new.next ≡ debuggee.old.next }
 {
-    let breakpoints = breakpoints_of(rt, alloc, wishes);
-    let answers = put_in(alloc, debuggee, &breakpoints).expect(rt, "a plan");
-    all_watched(rt, alloc, debuggee.machine(), wishes, &answers)
+    let answers = put_in(alloc, debuggee, asked).expect(rt, "a plan");
+    all_watched(rt, alloc, debuggee.machine(), asked, &answers)
 }
 
 /// The slow side of a run: a bare machine, which takes the steps that the debuggee takes.
@@ -401,8 +357,8 @@ type Considered = (Option<Reason>, String);
 /// A position, by the debuggee and by the definition.
 type Seen = (Considered, Considered);
 
-/// Runs both sides to the end, or to the last position: what is found of each position. The wishes are those of another
-/// plan.
+/// Runs both sides to the end, or to the last position: what is found of each position. The breakpoints are those of
+/// another plan.
 fn run_beside(
     rt: &impl Abort,
     alloc: Global,
@@ -410,7 +366,7 @@ fn run_beside(
     counted: &mut Counted,
     mode: Mode,
     change: Change,
-    wishes: &[Wish],
+    others: &[SourceBreakpoint],
 ) -> Vec<Seen>
     requires { debuggee.old.next ≡ debuggee.old.position }
 {
@@ -425,7 +381,7 @@ fn run_beside(
         seen.push((found, counted.due(rt, alloc, mode, debuggee)))
             .expect(rt, "memory");
         if change.position == Some(position) {
-            let watched = put_in_wishes(rt, alloc, debuggee, wishes);
+            let watched = put_in_lines(rt, alloc, debuggee, others);
             counted.first = position + 1;
             if change.is_other {
                 counted.watched = watched;
@@ -453,12 +409,12 @@ fn run_program(
 {
     let mode = random_mode(&mut random);
     let change = random_change(&mut random);
-    let wishes = random_wishes(&mut random, lines);
-    let others = random_wishes(&mut random, lines);
-    let others = if change.is_other { others } else { wishes };
+    let asked = random_lines(&mut random, lines);
+    let others = random_lines(&mut random, lines);
+    let others = if change.is_other { others } else { asked };
     let mut counted = Counted {
         machine,
-        watched: put_in_wishes(rt, alloc, debuggee, wishes.as_slice()),
+        watched: put_in_lines(rt, alloc, debuggee, asked.as_slice()),
         first: 0,
     };
     run_beside(

@@ -12,9 +12,9 @@ fn stops_at_a_breakpoint(rt: HostRuntime) {
     let unit = compiled(alloc, "var x;\nwhile x < 6 do\nx := x + 1.").expect(&rt, "a lawful text");
     let asked = SourceBreakpoint {
         line: 3,
-        condition: String::from_str(alloc, "x = 0").expect(&rt, "memory"),
-        hit_condition: String::new(alloc),
-        log_message: String::new(alloc),
+        condition: "x = 0",
+        hit_condition: "",
+        log_message: "",
     };
     let (plan, _) = resolve(alloc, &unit, [asked].as_slice()).expect(&rt, "memory");
     let mut debuggee = Debuggee::new(alloc, Machine::new(alloc, unit).expect(&rt, "memory"));

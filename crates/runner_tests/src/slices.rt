@@ -221,16 +221,19 @@ fn steps_by_mode(rt: HostRuntime) {
 
 /// 256 breakpoints at one line, each due at a different arrival: by its hit condition, which is this sign and a number.
 fn assert_counts(rt: &impl Abort, alloc: Global, sign: &str, from: u32, at_start: Option<Reason>) {
-    let mut lines = Vec::new(alloc);
+    let mut hit_conditions = Vec::new(alloc);
     for number in from..from.saturating_add(256) {
         let hit_condition = format!(in alloc; "{sign}{number}").expect(rt, "memory");
-        let condition = String::new(alloc);
+        hit_conditions.push(hit_condition).expect(rt, "memory");
+    }
+    let mut lines = Vec::new(alloc);
+    for hit_condition in &hit_conditions {
         lines
             .push(SourceBreakpoint {
                 line: 1,
-                condition,
-                hit_condition,
-                log_message: String::new(alloc),
+                condition: "",
+                hit_condition: hit_condition.as_str(),
+                log_message: "",
             })
             .expect(rt, "memory");
     }

@@ -48,16 +48,16 @@ fn mode_of(rt: &impl Abort, name: &str) -> Mode
     }
 }
 
-fn asked(rt: &impl Abort, alloc: Global, lines: &str) -> Vec<SourceBreakpoint> {
+fn asked(rt: &impl Abort, alloc: Global, lines: &str) -> Vec<SourceBreakpoint<'static>> {
     let mut asked = Vec::new(alloc);
     for line in lines.split(' ') {
         if let Ok(line) = line.parse::<u32>() {
             asked
                 .push(SourceBreakpoint {
                     line,
-                    condition: String::new(alloc),
-                    hit_condition: String::new(alloc),
-                    log_message: String::new(alloc),
+                    condition: "",
+                    hit_condition: "",
+                    log_message: "",
                 })
                 .expect(rt, "memory");
         }

@@ -29,14 +29,14 @@ pub fn debuggee_of(alloc: Global, text: &str) -> Option<Debuggee>
 }
 
 /// Breakpoints as they are asked for; `None` where there was no memory.
-pub fn breakpoints_at(alloc: Global, asked: &[Asked]) -> Option<Vec<SourceBreakpoint>> {
+pub fn breakpoints_at<'a>(alloc: Global, asked: &[Asked<'a>]) -> Option<Vec<SourceBreakpoint<'a>>> {
     let mut all = Vec::new(alloc);
     for (line, condition, hit_condition, log_message) in asked {
         let breakpoint = SourceBreakpoint {
             line: *line,
-            condition: String::from_str(alloc, condition).ok()?,
-            hit_condition: String::from_str(alloc, hit_condition).ok()?,
-            log_message: String::from_str(alloc, log_message).ok()?,
+            condition,
+            hit_condition,
+            log_message,
         };
         all.push(breakpoint).ok()?;
     }

@@ -1,9 +1,12 @@
 use Rattle.std.proofs.Common.{All, ap, arith, length, subst, sym}
+use Rattle.std.proofs.lemmas.List.{length-map}
 use Rattle.pl0_machine.specs.Machine.{program_of}
 use Rattle.dbg_plan.specs.Breakpoints.{plain_breakpoints}
+use Rattle.dbg_plan.specs.Resolutions.{plain_line}
 use Rattle.dap_msg.specs.Laws.{LineIsWithin}
+use Rattle.dap_history.specs.Breakpoints.{asked_as}
 use Rattle.dap_replies.specs.Lines.{IsAtStep}
-use Rattle.dap_replies.proofs.Lines.{asked_length, at_steps}
+use Rattle.dap_replies.proofs.Lines.{at_steps}
 use Rattle.dap_replies.proofs.breakpoints.resolved.Goals as goal
 
 pub resolve-requires : goal.resolve-requires
@@ -13,8 +16,9 @@ resolve-requires c =
       c.requires.0,
       ap length c.as_slice.ensures,
       ap length c.deref.ensures.value,
-      asked_length
-          c.line_offset-less.result c.as_slice.result.now c.in_ok-lines.lines.items c.in_ok-lines.ensures,
+      ap length c.in_ok-lines.ensures,
+      length-map c.in_ok-lines.lines.items plain_line,
+      length-map c.as_slice.result.now (asked_as c.line_offset-less.result),
     )
 
 pub asked_lines-requires-clause-within : goal.asked_lines-requires-clause-within

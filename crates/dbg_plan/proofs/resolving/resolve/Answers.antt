@@ -8,9 +8,9 @@ use Rattle.dbg_plan.proofs.resolving.resolve.Goals as goal
 
 pub loop-line-preserved : goal.loop-line-preserved
 loop-line-preserved c =
-    one_more (program_of c.args.unit.now) c.args.asked.now c.loop-line.line-index c.line-item.result
-    c.loop-line.resolutions.items _ c.loop-line.breakpoints.items _ c.in_ok-resolution.resolution
-    c.loop-line-test.true c.line-item.is c.loop-line.invariant c.in_ok-resolution.ensures c.in_ok-push.ensures.items
+    one_more (program_of c.args.unit.now) c.args.asked.now c.loop-line.line-index _ c.loop-line.resolutions.items _
+    c.loop-line.breakpoints.items _ c.in_ok-resolution.resolution c.loop-line-test.true c.loop-line.invariant
+    c.in_ok-resolution.ensures c.in_ok-push.ensures.items
 
 pub new-requires-clause-within : goal.new-requires-clause-within
 new-requires-clause-within c =

@@ -1,8 +1,8 @@
 //! Breakpoints at random, for either side.
 
 use crate::program::{Asked, Known};
-use dbg_plan::{Rule, SourceBreakpoint};
-use debuggee::{Breakpoint, Part, Rule as Accepting};
+use dbg_plan::SourceBreakpoint;
+use debuggee::{Breakpoint, Part, Rule};
 use pl0_syntax::{Statement, parse};
 use sample_programs::Random;
 use std::alloc::Global;
@@ -23,63 +23,50 @@ const CONDITIONS: [&str; 11] = [
     "a >",
 ];
 
-/// Expressions of messages, of which some read names that are not declared at a step, and some fault.
-const EXPRESSIONS: [&str; 10] = [
+/// Hit conditions, of which some are bad, and some are none.
+const HIT_CONDITIONS: [&str; 15] = [
+    "", "", "", "", "", "0", "1", "2", "3", "4", "%0", "%1", "%2", "%3", "%4",
+];
+
+/// Log messages, of which some read names that are not declared at a step, some fault, and one is none.
+const LOG_MESSAGES: [&str; 10] = [
     "",
     "",
     "",
     "",
     "",
     "",
-    "a",
-    "b - a * a",
-    "1 / a",
-    "a * a * a * a * a * a * a",
+    "<{a}>",
+    "<{b - a * a}>",
+    "<{1 / a}>",
+    "<{a * a * a * a * a * a * a}>",
 ];
 
 /// How many breakpoints are asked for at once.
-const WISHES: usize = 6;
-
-/// A breakpoint: its line, its condition, which arrivals it accepts, and the expression of its message. An empty text is
-/// an absent one.
-#[derive(Clone, Copy)]
-pub struct Wish {
-    line: u32,
-    pub condition: &'static str,
-    rule: Option<Rule>,
-    pub expression: &'static str,
-}
-
-/// No rule, or one with a small number, which may be 0: then its text is bad.
-fn random_rule(random: &mut Random) -> Option<Rule> {
-    let number = u32::try_from(random.below(5)).unwrap_or(0);
-    match random.below(3) {
-        0 => None,
-        1 => Some(Rule::From(number)),
-        _ => Some(Rule::Every(number)),
-    }
-}
+const BREAKPOINTS: usize = 6;
 
 /// Breakpoints in a text that has so many lines.
-pub fn random_wishes(
+pub fn random_breakpoints(
     rt: &impl Abort,
     alloc: Global,
     random: &mut Random,
     lines: usize,
-) -> Vec<Wish> {
-    let mut wishes = Vec::new(alloc);
-    for _ in 0..WISHES {
-        wishes.push(random_wish(random, lines)).expect(rt, "memory");
+) -> Vec<SourceBreakpoint<'static>> {
+    let mut asked = Vec::new(alloc);
+    for _ in 0..BREAKPOINTS {
+        asked
+            .push(random_breakpoint(random, lines))
+            .expect(rt, "memory");
     }
-    wishes
+    asked
 }
 
-fn random_wish(random: &mut Random, lines: usize) -> Wish {
-    Wish {
+fn random_breakpoint(random: &mut Random, lines: usize) -> SourceBreakpoint<'static> {
+    SourceBreakpoint {
         line: u32::try_from(random.below(lines.saturating_add(2))).unwrap_or(0),
         condition: CONDITIONS[random.below(CONDITIONS.len())],
-        rule: random_rule(random),
-        expression: EXPRESSIONS[random.below(EXPRESSIONS.len())],
+        hit_condition: HIT_CONDITIONS[random.below(HIT_CONDITIONS.len())],
+        log_message: LOG_MESSAGES[random.below(LOG_MESSAGES.len())],
     }
 }
 
@@ -87,37 +74,14 @@ fn text(rt: &impl Abort, alloc: Global, text: &str) -> String {
     String::from_str(alloc, text).expect(rt, "memory")
 }
 
-fn hit_condition(rt: &impl Abort, alloc: Global, rule: Option<Rule>) -> String {
-    match rule {
-        None => String::new(alloc),
-        Some(Rule::From(number)) => format!(in alloc; "{number}").expect(rt, "memory"),
-        Some(Rule::Every(number)) => format!(in alloc; "%{number}").expect(rt, "memory"),
-    }
-}
-
-/// The message with this expression, none where that is empty.
-fn log_message(rt: &impl Abort, alloc: Global, expression: &str) -> String {
-    if expression.is_empty() {
-        return String::new(alloc);
-    }
-    format!(in alloc; "<{{{expression}}}>").expect(rt, "memory")
-}
-
-/// The breakpoint as an editor asks for it.
-pub fn source_breakpoint(rt: &impl Abort, alloc: Global, wish: Wish) -> SourceBreakpoint {
-    SourceBreakpoint {
-        line: wish.line,
-        condition: text(rt, alloc, wish.condition),
-        hit_condition: hit_condition(rt, alloc, wish.rule),
-        log_message: log_message(rt, alloc, wish.expression),
-    }
+/// The expression of a log message, if it has one.
+pub fn expression_of(message: &str) -> Option<&str> {
+    message.strip_prefix("<{")?.strip_suffix("}>")
 }
 
 /// The parts of the message, whose text ends its line.
-fn parts(rt: &impl Abort, alloc: Global, expression: &str) -> Option<Vec<Part>> {
-    if expression.is_empty() {
-        return None;
-    }
+fn parts(rt: &impl Abort, alloc: Global, message: &str) -> Option<Vec<Part>> {
+    let expression = expression_of(message)?;
     let mut parts = Vec::new(alloc);
     parts
         .push(Part::Text(text(rt, alloc, "<")))
@@ -131,22 +95,28 @@ fn parts(rt: &impl Abort, alloc: Global, expression: &str) -> Option<Vec<Part>> 
     Some(parts)
 }
 
-fn accepting(rule: Rule) -> Accepting {
-    match rule {
-        Rule::From(number) => Accepting::From(number as u64),
-        Rule::Every(number) => Accepting::Every(number as u64),
+/// Which arrivals a hit condition accepts, if it says so.
+fn rule_of(hit_condition: &str) -> Option<Rule> {
+    match hit_condition.strip_prefix('%') {
+        Some(number) => Some(Rule::Every(number.parse().ok()?)),
+        None => Some(Rule::From(hit_condition.parse().ok()?)),
     }
 }
 
 /// The breakpoint at a step, with no arrival counted.
-pub fn breakpoint_at(rt: &impl Abort, alloc: Global, wish: Wish, step: usize) -> Breakpoint {
-    let is_conditional = !wish.condition.is_empty();
+pub fn breakpoint_at(
+    rt: &impl Abort,
+    alloc: Global,
+    asked: SourceBreakpoint,
+    step: usize,
+) -> Breakpoint {
+    let is_conditional = !asked.condition.is_empty();
     Breakpoint {
         place: step,
-        condition: is_conditional.then_some(text(rt, alloc, wish.condition)),
-        rule: wish.rule.map(accepting),
+        condition: is_conditional.then_some(text(rt, alloc, asked.condition)),
+        rule: rule_of(asked.hit_condition),
         arrivals: 0,
-        message: parts(rt, alloc, wish.expression),
+        message: parts(rt, alloc, asked.log_message),
     }
 }
 
