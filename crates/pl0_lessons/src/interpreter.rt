@@ -1,6 +1,6 @@
 //! A step's instructions, one by one, with the operands on the stack.
 
-ghost use Rattle.std.specs.Prelude.{◌≡◌, ◌+◌, ◌<◌, ◌^◌, ◌++◌, [], IfOk, OnOk, slice_get};
+ghost use Rattle.std.specs.Prelude.{◌≡◌, ◌+◌, ◌<◌, ◌^◌, ◌++◌, IfOk, OnOk, slice_get};
 ghost use Rattle.pl0_unit.specs.Mnemonics.{instruction_text};
 ghost use Rattle.pl0_lessons.specs.Interpreter.{entered_lines, first_lines, instruction_and, instruction_line, jumped_lines, led, of_one, of_two, onward_lines, operand_text, operands_text, operated, passed_lines, put, top};
 ghost use Rattle.pl0_lessons.specs.Taken.{IsTaken};
