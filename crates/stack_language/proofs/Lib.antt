@@ -1,3 +1,5 @@
+-- Lines that are read one after another; for `parse_lines`.
+mod Reading
 -- Lines without an instruction; for `line_at_or_after`.
 mod Lines
 -- The top of the stack; for `make_one`.

@@ -1,10 +1,10 @@
 -- Defines lines and frames, what a debugger sees of a state, and what a client is shown.
 use Rattle.std.specs.Prelude.{◌≡◌, ◌≤◌, ◌<◌, ◌+◌, ◌-◌, ◌^◌, ℕ, min, map, ℤ, pos, Bool, true, false, not, nat_eq, List, [], ◌∷◌, ◌++◌, length, codes, decimal, slice_get, unwrap_or, Option, None, Some, Result, Ok, Err, if◌then◌else◌}
-use Rattle.std.specs.Char.{is_ascii_lowercase}
 use Rattle.std.specs.Fmt.{signed_decimal}
 use Rattle.std.specs.List.{range_with_len}
 use Rattle.std.specs.Option.{option_map_or}
 use Rattle.std.specs.Ordering.{int_eq}
+use Rattle.std.specs.Str.Lines.{lines}
 use Rattle.dap_debug.specs.Shown.{PlainFrame, PlainVariable, PlainScope}
 use Rattle.dap_debug.specs.declared.language.Location.{Location}
 use Rattle.debuggee.specs.Due.{Sight}
@@ -12,6 +12,7 @@ use Rattle.debuggee.specs.Plain.{PlainEvaluated, Value, NoValue}
 use Rattle.stack_language.specs.declared.machine.Machine.{Machine}
 use Rattle.stack_language.specs.declared.program.Instruction.{Instruction}
 use Rattle.stack_language.specs.declared.program.Instruction.TheVariants as instruction
+use Rattle.stack_language.specs.Text.{AreRead, IsFirstMistake, variable_named}
 use Rattle.stack_language.specs.Language.{PlainState, IsInitial, plain_state, value_of}
 
 -- whether an instruction does something: a line that is empty, or a comment, has one that doesn't
@@ -51,11 +52,6 @@ line_of_frame m frame =
 
 -- ---- expressions
 
--- the variable of this name, a letter from a to z
-abbrev pub variable_named : List ℕ → Option ℕ
-variable_named (letter ∷ []) = if is_ascii_lowercase letter then Some (letter - 97) else None
-variable_named _ = None
-
 -- a condition holds unless its value is 0
 abbrev pub evaluated : ℤ → PlainEvaluated
 evaluated value = Value (signed_decimal value) (not (int_eq value (pos 0)))
@@ -77,11 +73,12 @@ sees = record {
 
 -- ---- what a client is shown
 
--- A program is before its first step; no word is said of which text it is, or of which line is a mistake.
+-- A program is what the lines of its text are, before its first step; a mistake is told of the first line that is none.
 abbrev pub reads_as : List ℕ → Result Machine (List ℕ) → Type 0
-reads_as text (Ok m) = IsInitial (plain_state m.state)
+reads_as text (Ok m) = AreRead (lines text) m.program.items × IsInitial (plain_state m.state)
 reads_as text (Err mistake) =
-    (line : ℕ) × (mistake ≡ codes "line " ++ (decimal line ++ codes " is no instruction"))
+    (line : ℕ) × IsFirstMistake (lines text) line
+    × (mistake ≡ codes "line " ++ (decimal line ++ codes " is no instruction"))
 
 -- the number of a line for the client, which counts from 1
 abbrev pub shown_line : ℕ → ℕ

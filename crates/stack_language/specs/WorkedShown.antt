@@ -4,7 +4,8 @@ use Rattle.std.specs.Prelude.{◌≡◌, ℕ, pos, negsuc, true, false, List, []
 use Rattle.debuggee.specs.Plain.{Value}
 use Rattle.dap_debug.specs.Shown.{PlainFrame, PlainVariable}
 use Rattle.stack_language.specs.declared.machine.Machine.{Machine}
-use Rattle.stack_language.specs.Shown.{evaluated, frame_of, has_instruction, sees, variable_named, variable_of}
+use Rattle.stack_language.specs.Shown.{evaluated, frame_of, has_instruction, sees, variable_of}
+use Rattle.stack_language.specs.Text.{variable_named}
 use Rattle.stack_language.specs.WorkedSteps.{program, state}
 
 -- the names of variables

@@ -1,6 +1,7 @@
 //! Worked examples of the language.
 
 ghost use Rattle.stack_language.specs.WorkedSteps.{LinesFollow, NumbersAreCalculated, NumbersAreMissing, NumbersMove, QuotientsAreRounded, ResultsOverflow, RoomIsLimited, StepsFollow, StepsTell, ZeroJumps};
+ghost use Rattle.stack_language.specs.WorkedText.{LinesAreRead, NamesMeanAlone, NamesMeanWithOperand, OperandsAreRead};
 ghost use Rattle.stack_language.specs.WorkedShown.{FramesAreShown, LinesAreSeen, NamesMean, ValuesHold, VariablesAreShown};
 
 /// What each instruction does, which fail, and the steps of a program, computed from the definitions. A wrong definition
@@ -26,4 +27,13 @@ pub fn worked_views()
     ensures variables { VariablesAreShown }
     ensures lines { LinesAreSeen }
     ensures frames { FramesAreShown }
+{}
+
+/// Which instruction a line is, and which line is a mistake, computed from the definitions. It does nothing: its contract is
+/// the examples.
+pub fn worked_texts()
+    ensures alone { NamesMeanAlone }
+    ensures operated { NamesMeanWithOperand }
+    ensures operands { OperandsAreRead }
+    ensures lines { LinesAreRead }
 {}

@@ -4,8 +4,10 @@
 //! stack, the calls and the variables, and when it fails. Each function of `state.rt` carries out one instruction, and is
 //! proved to do what `done` says of it. So a run of `debuggee` goes by these steps, and prints what they print.
 //!
-//! [`Machine`] is a program, and its state. Not promised is which program a text is: only that it stands before its first
-//! line. `worked_steps` and `worked_views` have examples of the words.
+//! `specs/Text.antt` is the manual's first page: which instruction each line of a text is. `parse` gives the program that
+//! the lines are, or the first that is none.
+//!
+//! [`Machine`] is a program, and its state. `worked_texts`, `worked_steps` and `worked_views` have examples of the words.
 #![tactic(auto)]
 
 mod language;
@@ -15,5 +17,5 @@ mod parsing;
 mod program;
 mod state;
 
-pub use laws::{worked_steps, worked_views};
+pub use laws::{worked_steps, worked_texts, worked_views};
 pub use machine::Machine;
