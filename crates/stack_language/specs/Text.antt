@@ -18,9 +18,13 @@ use Rattle.stack_language.specs.declared.program.Operator.TheVariants.{Add, Sub,
 abbrev pub IsNumber : List ℕ → Option ℤ → Type 0
 IsNumber word number = ParsesSigned {E = Unit {0}} w64 10 word (ok_or number tt)
 
+-- the code of `a`
+abbrev pub first_letter : ℕ
+first_letter = 97
+
 -- the variable of this name, a letter from a to z
 abbrev pub variable_named : List ℕ → Option ℕ
-variable_named (letter ∷ []) = if is_ascii_lowercase letter then Some (letter - 97) else None
+variable_named (letter ∷ []) = if is_ascii_lowercase letter then Some (letter - first_letter) else None
 variable_named _ = None
 
 -- the line with the number that a word is, if it is one from 1 on; the first line is 0
@@ -70,9 +74,13 @@ HasWord text word rest =
     (gap : List ℕ) × (text ≡ gap ++ (word ++ rest)) × (0 < length word) × IsBlank gap × NoCharPasses is_whitespace word
     × ((more : List ℕ) × EmptyOrStartsWithPassing is_whitespace rest more)
 
+-- the code of `;`
+abbrev pub comment_mark : ℕ
+comment_mark = 59
+
 -- a word that begins with `;` makes its line a comment
 abbrev pub StartsComment : List ℕ → Type 0
-StartsComment word = get_or word 0 0 ≡ 59
+StartsComment word = get_or word 0 0 ≡ comment_mark
 
 -- The instruction that a line is, if it is one. A blank line and a comment do nothing; any other has a name, and
 -- perhaps an operand.
