@@ -87,7 +87,7 @@ const MISTAKES: [(&str, &str); 19] = [
 ];
 
 /// What is said beside a token that can't stand where it does, and where nothing is.
-const HINTS: [(&str, &str); 74] = [
+const HINTS: [(&str, &str); 76] = [
     (
         "begin ! (1) x := 2 end.",
         "a.pl0:1:13: error: `x` can't stand here; perhaps a `;` is missing before it\n",
@@ -135,6 +135,14 @@ const HINTS: [(&str, &str); 74] = [
     (
         "var x y; .",
         "a.pl0:1:7: error: `y` can't stand here; perhaps a `,` is missing before it\n",
+    ),
+    (
+        "const c = 7 mod 3; .",
+        "a.pl0:1:13: error: `mod` can't stand here; a constant is a number, and isn't computed\n",
+    ),
+    (
+        "const c = 7 % 3; .",
+        "a.pl0:1:13: error: no word, number or sign begins with this character; a constant is a number, and isn't computed\n",
     ),
     (
         "begin ! 3 mod 2 end.",

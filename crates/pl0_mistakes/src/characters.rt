@@ -1,6 +1,6 @@
 //! What is said beside a character that no token can have.
 
-use crate::foreign::{division_hint, is_foreign_in_front, remainder_hint};
+use crate::foreign::{constant_hint, division_hint, is_foreign_in_front, remainder_hint};
 use crate::hint::{Hint, around, text};
 use crate::scene::Scene;
 use crate::situation::{at_opening, ends_statement, in_condition, wants_operand};
@@ -127,6 +127,8 @@ fn operator_hint(scene: Scene<'_>) -> Option<Hint<'_>> {
         text("PL/0 has no comments")
     } else if found.is("%") && wants_operand(scene) {
         text("a number or a name has to stand here")
+    } else if found.is("%") && scene.past.opener.is("const") {
+        constant_hint()
     } else if found.is("%") {
         remainder_hint()
     } else if found.is_one_of("& |") && in_condition(scene) {

@@ -184,6 +184,8 @@ pub(crate) fn word_hint(scene: Scene<'_>) -> Option<Hint<'_>> {
         text("perhaps `odd` is meant")
     } else if is_function(scene) {
         around("PL/0 has no `", last, "`")
+    } else if scene.found.is_word_of("mod rem div") && scene.past.opener.is("const") {
+        constant_hint()
     } else if scene.found.is_word_of("mod rem") {
         remainder_hint()
     } else if scene.found.is_word_of("div") {
@@ -195,6 +197,11 @@ pub(crate) fn word_hint(scene: Scene<'_>) -> Option<Hint<'_>> {
     } else {
         None
     }
+}
+
+/// What a constant is.
+pub(crate) fn constant_hint() -> Option<Hint<'static>> {
+    text("a constant is a number, and isn't computed")
 }
 
 /// How a remainder is computed.

@@ -2,8 +2,8 @@
 
 use crate::cases::{keyword_in_lower_case, keyword_nearby};
 use crate::foreign::{
-    assigning_hint, call_hint, comment_hint, comparing_hint, form_hint, separator_hint,
-    statement_word_hint, word_hint,
+    assigning_hint, call_hint, comment_hint, comparing_hint, constant_hint, form_hint,
+    separator_hint, statement_word_hint, word_hint,
 };
 use crate::hint::{Hint, around, text};
 use crate::names::procedure_with;
@@ -247,7 +247,7 @@ fn declaring_hint(scene: Scene<'_>) -> Option<Hint<'_>> {
     } else if past.opener.is("const") && is_name(past.last) {
         text("`=` has to stand here")
     } else if past.opener.is("const") && is_operator(scene.found) {
-        text("a constant is a number, and isn't computed")
+        constant_hint()
     } else if past.opener.is_one_of("const var") {
         text("`,` or `;` has to stand here")
     } else if past.opener.is("procedure") {
