@@ -133,11 +133,12 @@ def session_goals(log: Log) -> list[Goal]:
 
 # What is counted beside `continue`: its label, its name in a goal, and the most instructions a step.
 STEPPING = [
-    ("a step of `primes`, in a call that `next` passes over", "`next`", 65),
-    ("a step of `count`, in a procedure that `stepOut` leaves", "`stepOut`", 28),
+    ("a step of `primes`, in a call that `next` passes over", "`next`", 64),
+    ("a step of `count`, in a procedure that `stepOut` leaves", "`stepOut`", 26),
     ("a step in slices, a hit condition in the loop", "a hit condition", 44),
+    ("a step in slices, a hit condition with a condition beside it", "with a condition", 55),
     ("a step in slices, a false condition of another form", "`x + 1 < 0`", 96),
-    ("a step in slices, each tenth writes", "`writing`", 70),
+    ("a step in slices, each tenth writes", "`writing`", 35),
 ]
 
 
@@ -162,8 +163,8 @@ def machine_goals(log: Log) -> list[Goal]:
         Goal("256 breakpoints elsewhere at 0.85 of none", "{:.2f}", [sliced["256 breakpoints elsewhere"][2]], [0.85]),
         Goal("slices with a false condition at 150 million steps a second", "{:.1f}",
              [sliced["a false condition in the loop"][0]], [150]),
-        Goal("instructions a step: `count` 23, `links` 29, `divide` 52, `primes` 58, `nested` 48, a false condition 46",
-             "{:.1f}, {:.1f}, {:.1f}, {:.1f}, {:.1f}, {:.1f}", [*counts, false], [23, 29, 52, 58, 48, 46],
+        Goal("instructions a step: `count` 25, `links` 32, `divide` 56, `primes` 64, `nested` 53, a false condition 48",
+             "{:.1f}, {:.1f}, {:.1f}, {:.1f}, {:.1f}, {:.1f}", [*counts, false], [25, 32, 56, 64, 53, 48],
              (*names, "the condition"), least=False),
         Goal("instructions a step: a false condition on a variable around 150, in 10, 100 and 1,000 frames",
              "{:.1f}, {:.1f}, {:.1f}", around, [150] * len(around), tuple(f"{frames:,} frames" for frames in DEEP),
