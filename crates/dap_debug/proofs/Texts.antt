@@ -66,7 +66,7 @@ not_empty text r is some empty = let e : true ≡ false = ap (λ t. length t == 
 same_tail : (mark : ℕ) (xs ys : List ℕ) → mark ∷ xs ≡ mark ∷ ys → xs ≡ ys
 same_tail mark xs ys e = cc
 
-not_nil : (mark : ℕ) (xs : List ℕ) → mark ∷ xs ≢ []
+pub not_nil : (mark : ℕ) (xs : List ℕ) → mark ∷ xs ≢ []
 not_nil mark xs e = cc
 
 other_mark : (xs ys : List ℕ) → 37 ∷ xs ≢ 61 ∷ ys

@@ -26,3 +26,5 @@ pub mod Serving
 pub mod Sums
 -- worked examples: commands, modes, events, hit conditions, identifiers and references
 pub mod WorkedDebugger
+-- worked examples: what requests ask for by the names of their arguments
+pub mod WorkedRequests

@@ -4,6 +4,7 @@ ghost use Rattle.dap_debug.specs.Laws.{WorkIsBalanced, RepliesAreBalanced, Texts
 ghost use Rattle.dap_debug.specs.Replies.{known_of};
 ghost use Rattle.dap_debug.specs.Sums.{EachEndsOnce};
 ghost use Rattle.dap_debug.specs.WorkedDebugger.{CommandsAreNamed, ModesFollow, TextsAreTold, HaltsAreTold, RulesAreRead, ShownAreNumbered, NumbersAreFound};
+ghost use Rattle.dap_debug.specs.WorkedRequests.{BreakpointIsSet, ExpressionsAreEvaluated, FramesAreAsked, ProgramIsLoaded};
 
 use crate::language::Language;
 use dap_server::Polled;
@@ -41,4 +42,13 @@ pub fn worked_debugger()
     ensures rules { RulesAreRead }
     ensures numbered { ShownAreNumbered }
     ensures found { NumbersAreFound }
+{}
+
+/// What requests ask for, by the names of their arguments, computed from the definitions. A wrong name doesn't meet the
+/// examples. It does nothing: its contract is the examples.
+pub fn worked_requests()
+    ensures frames { FramesAreAsked }
+    ensures expressions { ExpressionsAreEvaluated }
+    ensures program { ProgramIsLoaded }
+    ensures breakpoint { BreakpointIsSet }
 {}

@@ -41,5 +41,5 @@ mod state;
 mod telling;
 
 pub use language::{Frame, Language, Location, Scope, Variable};
-pub use laws::{conversation_laws, debug_laws, shown_laws, worked_debugger};
+pub use laws::{conversation_laws, debug_laws, shown_laws, worked_debugger, worked_requests};
 pub use serving::{DebugFault, serve_language, serve_language_inbox};

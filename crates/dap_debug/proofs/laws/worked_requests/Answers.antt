@@ -1,0 +1,45 @@
+use Rattle.std.proofs.Common.{◌≢◌, refl, inl, [], ◌∷◌, codes, arith}
+use Rattle.std.specs.Prelude.{Some}
+use Rattle.std.specs.Fmt.{digits}
+use Rattle.std.proofs.lemmas.List.Elements.{All-cons, All-nil}
+use Rattle.dap_bodies.specs.Bodies.{SetAt}
+use Rattle.debuggee.specs.Plain.{Text, Expression}
+use Rattle.dap_debug.specs.Breakpoints.{Lacks, AreParts, IsBreakpoint}
+use Rattle.dap_debug.specs.Breakpoints.SetsIn.{Own}
+use Rattle.dap_debug.specs.WorkedRequests.{breakpoint, placed}
+use Rattle.dap_debug.proofs.Texts.{not_nil}
+use Rattle.dap_debug.proofs.laws.worked_requests.Goals as goal
+
+pub returns-clause-frames : goal.returns-clause-frames
+returns-clause-frames c = (refl, refl, refl, refl)
+
+pub returns-clause-expressions : goal.returns-clause-expressions
+unfolding digits
+returns-clause-expressions c = (refl, refl)
+
+pub returns-clause-program : goal.returns-clause-program
+returns-clause-program c =
+    record { reply_is = refl; path_is = refl; phase_is = refl; no_fault = refl; none_set = refl }
+
+pub returns-clause-breakpoint : goal.returns-clause-breakpoint
+unfolding digits
+returns-clause-breakpoint c =
+    Own refl (SetAt 4 ∷ []) (Some placed, [], refl, (Some _, refl, (refl, set)), refl) refl
+  where
+    before : Lacks 123 (codes "n")
+    before = All-cons (λ b. b ≢ 123) 110 [] (λ is. absurd (omega (arith, is))) (All-nil (λ b. b ≢ 123))
+
+    inner : Lacks 125 (codes "k")
+    inner = All-cons (λ b. b ≢ 125) 107 [] (λ is. absurd (omega (arith, is))) (All-nil (λ b. b ≢ 125))
+
+    parts : AreParts (codes "n{k}") (Text (codes "n") ∷ (Expression (codes "k") ∷ (Text [] ∷ (Text (codes "\n") ∷ []))))
+    parts = ([], (refl, before, inner), (refl, refl, inl (All-nil (λ b. b ≢ 123))))
+
+    set : IsBreakpoint breakpoint 7 placed
+    set = record {
+      place_is = refl;
+      condition = refl;
+      rule = (refl, (omega arith, omega arith));
+      message = (not_nil 110 (123 ∷ 107 ∷ 125 ∷ []), parts);
+      none_yet = refl;
+    }
