@@ -4,7 +4,7 @@ use Rattle.std.specs.Prelude.{◌≡◌, ℕ, pos, negsuc, true, false, List, []
 use Rattle.debuggee.specs.Plain.{Value}
 use Rattle.dap_debug.specs.Shown.{PlainFrame, PlainVariable}
 use Rattle.stack_language.specs.declared.machine.Machine.{Machine}
-use Rattle.stack_language.specs.Shown.{evaluated, frame_of, has_instruction, sees, variable_of}
+use Rattle.stack_language.specs.Shown.{evaluated, first_place, frame_of, has_instruction, sees, variable_of}
 use Rattle.stack_language.specs.Text.{variable_named}
 use Rattle.stack_language.specs.WorkedSteps.{program, state}
 
@@ -35,11 +35,18 @@ LinesAreSeen =
     → map (has_instruction m) (0 ∷ 1 ∷ 2 ∷ 3 ∷ 4 ∷ 5 ∷ 6 ∷ [])
     ≡ true ∷ true ∷ true ∷ false ∷ true ∷ true ∷ false ∷ []
 
+-- A breakpoint that is asked for at an empty line is set at the next one; behind the last line none is set. The client
+-- counts lines from 1.
+abbrev pub PlacesAreFound : Type 0
+PlacesAreFound =
+    (m : Machine) → m.program.items ≡ program
+    → first_place m 3 (Some (record { place = 2; line = 3 })) × first_place m 4 (Some (record { place = 4; line = 5 }))
+    × first_place m 7 None
+
 abbrev pub frame : List ℕ → ℕ → PlainFrame
 frame name line = record { name = name; line = line; column = 1 }
 
--- Line 4 comes next. The call that is alive longest returns to line 2, so it is at line 1; the newest is at line 8. The
--- client counts lines from 1.
+-- Line 4 comes next. The call that is alive longest returns to line 2, so it is at line 1; the newest is at line 8.
 abbrev pub FramesAreShown : Type 0
 FramesAreShown =
     (m : Machine) → m.state.line ≡ 4 → m.state.returns.items ≡ 2 ∷ 9 ∷ []

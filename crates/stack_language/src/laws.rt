@@ -2,7 +2,7 @@
 
 ghost use Rattle.stack_language.specs.WorkedSteps.{LinesFollow, NumbersAreCalculated, NumbersAreMissing, NumbersMove, QuotientsAreRounded, ResultsOverflow, RoomIsLimited, StepsFollow, StepsTell, ZeroJumps};
 ghost use Rattle.stack_language.specs.WorkedText.{LinesAreRead, NamesMeanAlone, NamesMeanWithOperand, OperandsAreRead};
-ghost use Rattle.stack_language.specs.WorkedShown.{FramesAreShown, LinesAreSeen, NamesMean, ValuesHold, VariablesAreShown};
+ghost use Rattle.stack_language.specs.WorkedShown.{FramesAreShown, LinesAreSeen, NamesMean, PlacesAreFound, ValuesHold, VariablesAreShown};
 
 /// What each instruction does, which fail, and the steps of a program, computed from the definitions. A wrong definition
 /// doesn't meet them. It does nothing: its contract is the examples.
@@ -26,6 +26,7 @@ pub fn worked_views()
     ensures values { ValuesHold }
     ensures variables { VariablesAreShown }
     ensures lines { LinesAreSeen }
+    ensures places { PlacesAreFound }
     ensures frames { FramesAreShown }
 {}
 

@@ -1,5 +1,7 @@
 use Rattle.std.specs.Fmt.{digits}
-use Rattle.std.specs.Prelude.{refl}
+use Rattle.std.proofs.Common.{◌≡◌, ◌≤◌, ◌<◌, ℕ, ◌∙◌, ap, arith, false, length, refl}
+use Rattle.stack_language.proofs.Lines.{none_at_all}
+use Rattle.stack_language.specs.Shown.{has_instruction}
 use Rattle.stack_language.proofs.laws.worked_views.Goals as goal
 
 pub returns-clause-names : goal.returns-clause-names
@@ -15,6 +17,21 @@ returns-clause-variables c = refl
 
 pub returns-clause-lines : goal.returns-clause-lines
 returns-clause-lines c m program = rw program refl
+
+pub returns-clause-places : goal.returns-clause-places
+returns-clause-places c m program = (
+  ((omega arith, rw program refl, λ line after before. absurd (omega (arith, after, before))), refl),
+  ((omega arith, rw program refl, at_empty), refl),
+  none_at_all m 6 6 (λ line after before. absurd (omega (arith, after, before))) (omega (arith, long)),
+)
+  where
+    at_empty : (line : ℕ) → 3 ≤ line → line < 4 → has_instruction m line ≡ false
+    at_empty line after before =
+        let same : line ≡ 3 = omega (arith, after, before) in
+        let empty : has_instruction m 3 ≡ false = rw program refl in ap (has_instruction m) same ∙ empty
+
+    long : length m.program.items ≡ 6
+    long = rw program refl
 
 pub returns-clause-frames : goal.returns-clause-frames
 returns-clause-frames c m line returns = rw (line, returns) (refl, refl, refl, refl)
