@@ -21,7 +21,7 @@ use Rattle.dbg_plan.specs.Breakpoints.{text_condition, plain_breakpoint}
 use Rattle.dbg_plan.specs.Comparisons.{expression_of, condition_of, Asks}
 use Rattle.dbg_plan.specs.Plans.{IsBoundAt}
 use Rattle.dbg_plan.specs.Counting.{holds_in, holds_now, IsMetHere}
-use Rattle.pl0_machine.specs.LocatedValues.{bound_value, bound_truth, CanRead, CanTest}
+use Rattle.pl0_machine.specs.LocatedValues.{located_value, located_truth, CanRead, CanTest}
 use Rattle.dbg_plan.specs.Table.{AsksFor}
 use Rattle.dbg_plan.proofs.ValuesLinks.{leads_to_main}
 use Rattle.dbg_plan.proofs.ValuesMet.{IsTested, stands_in, tested_here, holds_bound}
@@ -45,16 +45,17 @@ module _ (c : Configuration) (i depth : ℕ) (is : frame_at c i ≡ top_of c)
   has_operand (Variable k) can = variable_within (top_of c) k (subst (λ f. IsSome (number_of f k)) is can)
   has_operand (Main k) can = variable_within (frame_at c 0) k (subst (λ v. IsSome v) (up k) can)
 
-  operand_value : (o : Operand) → bound_value c i (expression_of depth o) ≡ Ok (or_zero (operand_in c o))
+  operand_value : (o : Operand) → located_value c i (expression_of depth o) ≡ Ok (or_zero (operand_in c o))
   operand_value (Number n) = refl
   operand_value (Variable k) = ap (λ f. Ok (or_zero (number_of f k))) is
   operand_value (Main k) = ap (λ number. Ok (or_zero number)) (up k)
 
-  comparison_truth : (q : Comparison) → bound_truth c i (condition_of depth q)
+  comparison_truth : (q : Comparison) → located_truth c i (condition_of depth q)
       ≡ Ok (comparison q.relation (or_zero (operand_in c q.left)) (or_zero (operand_in c q.right)))
   comparison_truth q =
       ap
-      (λ r. after r (λ x. after (bound_value c i (expression_of depth q.right)) (λ y. Ok (comparison q.relation x y))))
+      (λ r. after r (λ x.
+      after (located_value c i (expression_of depth q.right)) (λ y. Ok (comparison q.relation x y))))
       (operand_value q.left)
       ∙ ap (λ r. after r (λ y. Ok (comparison q.relation (or_zero (operand_in c q.left)) y))) (operand_value q.right)
 
@@ -119,13 +120,13 @@ module _ (laws : FramesAreLinked) (m : Standing) (b : Breakpoint) (here : IsMetH
     can_test (ACondition p) asks = subst (λ k. CanTest (frames m) (depth_of m - 1) k) (sym asks) tests.0
 
     truth_asked : (q : Question) → Asks guard q
-        → answer_in (frames m) q ≡ result_unwrap_or (bound_truth (frames m) (depth_of m - 1) guard.located.value) true
+        → answer_in (frames m) q ≡ result_unwrap_or (located_truth (frames m) (depth_of m - 1) guard.located.value) true
     truth_asked Nothing asks = absurd asks
     truth_asked (AComparison c) asks =
-        sym (ap (λ k. result_unwrap_or (bound_truth (frames m) (depth_of m - 1) k) true) (compared c asks)
+        sym (ap (λ k. result_unwrap_or (located_truth (frames m) (depth_of m - 1) k) true) (compared c asks)
         ∙ ap (λ r. result_unwrap_or r true) (comparison_truth (frames m) (depth_of m - 1) deep newest up c))
     truth_asked (ACondition p) asks =
-        ap (λ k. result_unwrap_or (bound_truth (frames m) (depth_of m - 1) k) true) asks
+        ap (λ k. result_unwrap_or (located_truth (frames m) (depth_of m - 1) k) true) asks
 
   -- what the machine is asked for the breakpoint can be asked, and is answered by whether its condition holds
   pub can_ask : (q : Question) → AsksFor b.condition q → CanAsk (frames m) q

@@ -24,7 +24,7 @@ use Rattle.dbg_plan.specs.Messages.{expressions, expression_limit, plain_part, p
 use Rattle.dbg_plan.specs.Breakpoints.{plain_message}
 use Rattle.dbg_plan.specs.Logs.{Log, log_in}
 use Rattle.dbg_plan.specs.Counting.{log_now}
-use Rattle.pl0_machine.specs.LocatedValues.{bound_value, CanRead}
+use Rattle.pl0_machine.specs.LocatedValues.{located_value, CanRead}
 use Rattle.dbg_plan.specs.Reads.{ReadsPart}
 use Rattle.dbg_plan.proofs.ValuesBound.{expression_reads}
 use Rattle.dbg_plan.proofs.ValuesMet.{stands_in, CanRead-prop}
@@ -41,12 +41,12 @@ part_prop main c i (part.Value e) = ×_prop (CanRead-prop c i e.located) (Coded-
 
 part_read : (main : Block) (c : Configuration) (n top : ℕ) (e : Expression) (b : LocatedExpression) → AreLinked main c
     → IsNext main (top_of c) n → IsExpressionBound main (step_path main n) e b → top ≡ length c - 1 → CanRead c top b
-    × (bound_value c top b ≡ value main c top e)
+    × (located_value c top b ≡ value main c top e)
 part_read main [] n top e b linked next is at = absurd next
 part_read main (f ∷ below) n top e b linked next is at =
     let here : length below ≡ length (f ∷ below) - 1 = omega arith in
     let bound = subst (λ q. IsExpressionBound main q e b) (sym (stands_in main f n next)) is in
-    subst (λ i. CanRead (f ∷ below) i b × (bound_value (f ∷ below) i b ≡ value main (f ∷ below) i e)) (sym at)
+    subst (λ i. CanRead (f ∷ below) i b × (located_value (f ∷ below) i b ≡ value main (f ∷ below) i e)) (sym at)
     (expression_reads main (f ∷ below) (length (f ∷ below) - 1) f linked
     (frame_at-top f below (length (f ∷ below) - 1) here) e b bound)
 

@@ -15,12 +15,12 @@ use Rattle.pl0_machine.specs.declared.located.LocatedExpression.TheVariants as b
 use Rattle.pl0_machine.specs.declared.located.LocatedCondition.{LocatedCondition}
 use Rattle.pl0_machine.specs.declared.located.LocatedCondition.TheVariants as bound_condition
 use Rattle.dbg_plan.specs.Bound.{IsDeclaredBound, IsNameBound, IsExpressionBound, IsConditionBound}
-use Rattle.pl0_machine.specs.LocatedValues.{bound_value, bound_truth, CanRead, CanTest}
+use Rattle.pl0_machine.specs.LocatedValues.{located_value, located_truth, CanRead, CanTest}
 use Rattle.dbg_plan.proofs.ValuesLinks.{leads}
 
 -- a bound expression can be read, and has this number
 abbrev pub Reads : Configuration → ℕ → LocatedExpression → ℤ → Type 0
-Reads c i b v = CanRead c i b × (bound_value c i b ≡ Ok v)
+Reads c i b v = CanRead c i b × (located_value c i b ≡ Ok v)
 
 reads_number : (c : Configuration) (i : ℕ) (b : LocatedExpression) (v w : ℤ) → b ≡ bound.Number v → v ≡ w
     → Reads c i b w
@@ -74,8 +74,8 @@ module _ (main : Block) (c : Configuration) (i : ℕ) (f : Frame) (linked : AreL
 
     -- an expression that is bound has its value
     pub expression_reads : (e : Expression) (b : LocatedExpression) → IsExpressionBound main f.block e b → CanRead c i b
-        × (bound_value c i b ≡ value main c i e)
-    expression_reads (Number n) b is = subst (λ e. CanRead c i e × (bound_value c i e ≡ Ok n)) (sym is) (tt, refl)
+        × (located_value c i b ≡ value main c i e)
+    expression_reads (Number n) b is = subst (λ e. CanRead c i e × (located_value c i e ≡ Ok n)) (sym is) (tt, refl)
     expression_reads (Variable x) b is = name_reads x.word b is
     expression_reads (Negate e) (bound.Negate' p b) is =
         let r = expression_reads e b is in (r.0, ap (λ v. after v (λ x. checked (neg_ℤ x))) r.1)
@@ -84,7 +84,7 @@ module _ (main : Block) (c : Configuration) (i : ℕ) (f : Frame) (linked : AreL
         let l = expression_reads left first is.1 in
         let m = expression_reads right second is.2 in (
           (l.0, m.0),
-          ap (λ v. after v (λ x. after (bound_value c i second) (λ y. operation op' x y))) l.1
+          ap (λ v. after v (λ x. after (located_value c i second) (λ y. operation op' x y))) l.1
               ∙ ap (λ w. after (value main c i left) (λ x. after w (λ y. operation op' x y))) m.1
               ∙ ap (λ o. after (value main c i left) (λ x. after (value main c i right) (λ y. operation o x y))) is.0,
         )
@@ -92,14 +92,14 @@ module _ (main : Block) (c : Configuration) (i : ℕ) (f : Frame) (linked : AreL
 
     -- a condition that is bound has its truth
     pub condition_reads : (t : Condition) (b : LocatedCondition) → IsConditionBound main f.block t b → CanTest c i b
-        × (bound_truth c i b ≡ truth main c i t)
+        × (located_truth c i b ≡ truth main c i t)
     condition_reads (Odd e) (bound_condition.Odd b) is =
         let r = expression_reads e b is in (r.0, ap (λ v. after v (λ x. Ok (is_odd x))) r.1)
     condition_reads (Compare relation left right) (bound_condition.Compare relation' first second) is =
         let l = expression_reads left first is.1 in
         let m = expression_reads right second is.2 in (
           (l.0, m.0),
-          ap (λ v. after v (λ x. after (bound_value c i second) (λ y. Ok (comparison relation' x y)))) l.1
+          ap (λ v. after v (λ x. after (located_value c i second) (λ y. Ok (comparison relation' x y)))) l.1
               ∙ ap (λ w. after (value main c i left) (λ x. after w (λ y. Ok (comparison relation' x y)))) m.1
               ∙ ap (λ o. after (value main c i left) (λ x. after (value main c i right) (λ y. Ok (comparison o x y))))
               is.0,

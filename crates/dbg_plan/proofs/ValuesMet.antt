@@ -28,7 +28,7 @@ use Rattle.dbg_plan.specs.Due.{true_or_faulty}
 use Rattle.dbg_plan.specs.Plans.{IsBoundAt}
 use Rattle.dbg_plan.specs.Counting.{holds_in, holds_now, IsMetHere}
 use Rattle.dbg_plan.specs.Values.{answered}
-use Rattle.pl0_machine.specs.LocatedValues.{bound_truth, CanRead, CanTest}
+use Rattle.pl0_machine.specs.LocatedValues.{located_truth, CanRead, CanTest}
 use Rattle.dbg_plan.proofs.ValuesBound.{condition_reads}
 
 -- ---- a frame's next step is one of its block
@@ -97,7 +97,7 @@ coded_truth = hlevel (codes, run_fault.the_row.coded)
 -- it can be tested in the newest frame, and gives the truth of its source
 abbrev pub IsTested : Block → Configuration → ℕ → BoundCondition → Type 0
 IsTested main c top guard =
-    CanTest c top guard.located.value × (bound_truth c top guard.located.value ≡ truth main c (length c - 1)
+    CanTest c top guard.located.value × (located_truth c top guard.located.value ≡ truth main c (length c - 1)
     (plain_condition guard.condition))
 
 tested : (main : Block) (c : Configuration) (n top : ℕ) (guard : BoundCondition) → AreLinked main c
@@ -127,7 +127,7 @@ unless_faulty (Err fault) = refl
 -- what is reported of the condition is whether it holds
 pub holds_told : (m : Standing) (b : Breakpoint) (guard : BoundCondition) (top : ℕ) (r : Result Bool EvalFault)
     (result : Bool) → configuration m ≡ Some (frames m) → b.condition ≡ Some guard
-    → IsTested (program m) (frames m) top guard → bound_truth (frames m) top guard.located.value ≡ answered r
+    → IsTested (program m) (frames m) top guard → located_truth (frames m) top guard.located.value ≡ answered r
     → result ≡ result_unwrap_or r true → result ≡ holds_now m b
 holds_told m b guard top r result there is t value e =
     e ∙ unless_faulty r
@@ -142,9 +142,9 @@ unless_fault (Err fault) = refl
 -- the truth of a bound condition is whether it holds
 pub holds_bound : (m : Standing) (b : Breakpoint) (guard : BoundCondition) (top : ℕ) → configuration m ≡ Some (frames m)
     → b.condition ≡ Some guard → IsTested (program m) (frames m) top guard
-    → result_unwrap_or (bound_truth (frames m) top guard.located.value) true ≡ holds_now m b
+    → result_unwrap_or (located_truth (frames m) top guard.located.value) true ≡ holds_now m b
 holds_bound m b guard top there is t =
-    unless_fault (bound_truth (frames m) top guard.located.value)
+    unless_fault (located_truth (frames m) top guard.located.value)
     ∙ ap true_or_faulty t.1
     ∙ ap (λ g. holds_in (program m) (Some (frames m)) (option_map text_condition g)) (sym is)
     ∙ ap (λ o. holds_in (program m) o (plain_breakpoint b).condition) (sym there)

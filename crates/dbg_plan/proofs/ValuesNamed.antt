@@ -15,7 +15,7 @@ use Rattle.pl0_machine.specs.Machine.{Shows, number_up}
 use Rattle.dbg_plan.specs.declared.binding.Located.{Located}
 use Rattle.dbg_plan.specs.declared.binding.Located.TheVariants as at
 use Rattle.dbg_plan.specs.Bound.{IsNameBound}
-use Rattle.pl0_machine.specs.LocatedValues.{bound_value}
+use Rattle.pl0_machine.specs.LocatedValues.{located_value}
 use Rattle.dbg_plan.specs.Reads.{bound_of}
 use Rattle.dbg_plan.proofs.ValuesBound.{Reads, name_reads}
 use Rattle.dbg_plan.proofs.ValuesMet.{CanRead-prop}
@@ -50,7 +50,7 @@ same_ok : (v w : ℤ) → ◌≡◌ {A = Result ℤ RunFault} (Ok v) (Ok w) → 
 same_ok v w e = cc
 
 pub number_is : (c : Configuration) (i : ℕ) (l : Located) (n v : ℤ) → l ≡ at.Number n → Reads c i (bound_of l) v → n ≡ v
-number_is c i l n v is r = same_ok n v (ap (λ (m : Located). bound_value c i (bound_of m)) (sym is) ∙ r.1)
+number_is c i l n v is r = same_ok n v (ap (λ (m : Located). located_value c i (bound_of m)) (sym is) ∙ r.1)
 
 pub variable_up : (c : Configuration) (i : ℕ) (l : Located) (level k : ℕ) (v : ℤ) → l ≡ at.Variable level k
     → Reads c i (bound_of l) v → IsSome (number_up c level k i)
@@ -60,4 +60,5 @@ variable_up c i l level k v is r =
 pub variable_is : (c : Configuration) (i : ℕ) (l : Located) (level k : ℕ) (n v : ℤ) → l ≡ at.Variable level k
     → Reads c i (bound_of l) v → number_up c level k i ≡ Some n → n ≡ v
 variable_is c i l level k n v is r up =
-    same_ok n v (ap (λ o. Ok (or_zero o)) (sym up) ∙ ap (λ (m : Located). bound_value c i (bound_of m)) (sym is) ∙ r.1)
+    same_ok n v
+    (ap (λ o. Ok (or_zero o)) (sym up) ∙ ap (λ (m : Located). located_value c i (bound_of m)) (sym is) ∙ r.1)

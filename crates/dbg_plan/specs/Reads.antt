@@ -3,7 +3,7 @@ use Rattle.std.specs.Prelude.{◌≡◌, ℕ}
 use Rattle.pl0_tree.specs.Plain.{plain_expression}
 use Rattle.pl0_tree.specs.Tree.{Block}
 use Rattle.pl0_meaning.specs.Values.{Configuration, value}
-use Rattle.pl0_machine.specs.LocatedValues.{bound_value, CanRead}
+use Rattle.pl0_machine.specs.LocatedValues.{located_value, CanRead}
 use Rattle.dbg_plan.specs.declared.message.Part.{Part}
 use Rattle.dbg_plan.specs.declared.message.Part.TheVariants as part
 use Rattle.dbg_plan.specs.declared.binding.Located.{Located}
@@ -15,7 +15,7 @@ use Rattle.pl0_machine.specs.declared.located.LocatedExpression.TheVariants.{Num
 abbrev pub ReadsPart : Block → Configuration → ℕ → Part → Type 0
 ReadsPart main c i (part.Text text) = Unit {0}
 ReadsPart main c i (part.Value e) =
-    CanRead c i e.located × (bound_value c i e.located ≡ value main c i (plain_expression e.expression))
+    CanRead c i e.located × (located_value c i e.located ≡ value main c i (plain_expression e.expression))
 
 -- ---- names by their text
 

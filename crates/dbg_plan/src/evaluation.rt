@@ -7,7 +7,7 @@ ghost use Rattle.pl0_meaning.specs.Arithmetic.{IsArithmetic};
 ghost use Rattle.pl0_machine.specs.Machine.{program, frames, depth_of};
 ghost use Rattle.dbg_plan.specs.Debugged.{IsRunning};
 ghost use Rattle.dbg_plan.specs.Values.{answered};
-ghost use Rattle.pl0_machine.specs.LocatedValues.{bound_value, bound_truth, CanRead, CanTest};
+ghost use Rattle.pl0_machine.specs.LocatedValues.{located_value, located_truth, CanRead, CanTest};
 ghost use Rattle.dbg_plan.specs.Counting.{holds_now, IsMetHere};
 
 use crate::binding::{Located, locate};
@@ -49,7 +49,7 @@ fn operand_value(
     operand: &LocatedExpression,
 ) -> Result<i64, EvalFault>
     requires { CanRead (frames machine.now) frame operand.now }
-    ensures { bound_value (frames machine.now) frame operand.now ≡ answered result }
+    ensures { located_value (frames machine.now) frame operand.now ≡ answered result }
 {
     match operand {
         LocatedExpression::Number(number) => Ok(*number),
@@ -58,7 +58,7 @@ fn operand_value(
     }
 }
 
-/// The value of a bound expression in a frame of its block, the left operand first.
+/// The value of a located expression in a frame of its block, the left operand first.
 #[cycle(value)]
 pub fn value_of(
     machine: &Machine,
@@ -66,7 +66,7 @@ pub fn value_of(
     expression: &LocatedExpression,
 ) -> Result<i64, EvalFault>
     requires { CanRead (frames machine.now) frame expression.now }
-    ensures { bound_value (frames machine.now) frame expression.now ≡ answered result }
+    ensures { located_value (frames machine.now) frame expression.now ≡ answered result }
 {
     match expression {
         LocatedExpression::Number(number) => Ok(*number),
@@ -82,7 +82,7 @@ pub fn value_of(
     }
 }
 
-/// Whether a bound condition holds in a frame of its block.
+/// Whether a located condition holds in a frame of its block.
 #[inline]
 fn truth_of(
     machine: &Machine,
@@ -90,7 +90,7 @@ fn truth_of(
     condition: &LocatedCondition,
 ) -> Result<bool, EvalFault>
     requires { CanTest (frames machine.now) frame condition.now }
-    ensures { bound_truth (frames machine.now) frame condition.now ≡ answered result }
+    ensures { located_truth (frames machine.now) frame condition.now ≡ answered result }
 {
     match condition {
         LocatedCondition::Odd(expression) => Ok(is_odd(operand_value(machine, frame, expression)?)),

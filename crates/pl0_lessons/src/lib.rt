@@ -1,9 +1,11 @@
-//! Pages that show how a program is compiled: the table of its names, and its tree.
+//! Pages that show how a program is compiled and run: the table of its names, its tree, and a step's instructions with
+//! their operands.
 //!
 //! Each page is what its definition says: [`name_table`] the table of names (`specs/NameTable`), with the level and
 //! address of each; [`program_tree`] the tree (`specs/ProgramTree`), with the instruction that finds each name that is
 //! used. The address of a procedure is read from the code: the code of a block ends with the first return from its own
-//! statement on (`ends_behind` of `proofs/Ends`).
+//! statement on (`ends_behind` of `proofs/Ends`). [`operate`], [`led`], [`put_instruction`], [`put_first`] and
+//! [`put_onward`] do and show a step as `specs/Interpreter` says.
 #![tactic(auto)]
 
 mod columns;

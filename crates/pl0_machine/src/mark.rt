@@ -9,7 +9,7 @@ ghost use Rattle.pl0_machine.specs.Counting.{counters_of, is_due, any_due, passe
 ghost use Rattle.pl0_machine.specs.LocatedValues.{truth_by, CanTestBy, numbers_there};
 
 use crate::located::{LocatedCondition, truth_of};
-use crate::machine::step_at;
+use crate::machine::begun_step;
 use pl0_meaning::compare;
 use pl0_tree::{Relation, StepNumber};
 use pl0_unit::FRAME_HEAD;
@@ -258,7 +258,7 @@ pub fn arrive_at_step(
     ensures { (n : ℕ) → slice_get begun_steps.now at ≡ Some (Some n)
         → IsCounted (answer_there cells.now base top) (counters_of counters.now n) counts.old result counts.new }
 {
-    let step = step_at(begun_steps, at);
+    let step = begun_step(begun_steps, at);
     match counters.get(step) {
         Some(counters) => arrive_at(counters, counts, cells, base, top),
         None => false,

@@ -1,6 +1,6 @@
 use Rattle.std.proofs.Common.{◌≡◌, ◌-◌, sym, subst}
 use Rattle.pl0_machine.specs.Machine.{program, frames}
-use Rattle.pl0_machine.specs.LocatedValues.{bound_truth, CanTest}
+use Rattle.pl0_machine.specs.LocatedValues.{located_truth, CanTest}
 use Rattle.dbg_plan.specs.Values.{answered}
 use Rattle.dbg_plan.proofs.ValuesMet.{IsTested, tested_here, holds_told}
 use Rattle.dbg_plan.proofs.evaluation.is_met.Goals as goal
@@ -22,5 +22,5 @@ returns-in-Some c =
     let t = tests (goal.at.returns-in-Some c).After-depth-top in
     holds_told c.args.machine.now c.args.breakpoint.now c.in-Some.condition (c.depth-top.result - 1) c.truth_of.result
     c.unwrap_or.result c.depth-top.ensures.there c.in-Some.is t
-    (subst (λ k. bound_truth (frames c.args.machine.now) (c.depth-top.result - 1) k ≡ answered c.truth_of.result)
+    (subst (λ k. located_truth (frames c.args.machine.now) (c.depth-top.result - 1) k ≡ answered c.truth_of.result)
     c.deref.ensures c.truth_of.ensures) c.unwrap_or.ensures

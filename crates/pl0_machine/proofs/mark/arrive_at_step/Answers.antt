@@ -22,11 +22,11 @@ is_below k n e = grind (arith, nat_tests)
 is_past : (k n : ℕ) → false ≡ nat_lt k n → n ≤ k
 is_past k n e = grind (arith, nat_tests)
 
-items : (c : After-deref) → counters_of c.args.counters.now c.step_at-step.result ≡ c.deref.result.now
+items : (c : After-deref) → counters_of c.args.counters.now c.begun_step-step.result ≡ c.deref.result.now
 items c =
-    let there : slice_get c.args.counters.now c.step_at-step.result ≡ Some c.in-Some.counters.now =
-    some_at c.args.counters.now c.step_at-step.result c.in-Some.counters.now
-    (is_below c.step_at-step.result (length c.args.counters.now) c.in-Some.ensures.lookup.0)
+    let there : slice_get c.args.counters.now c.begun_step-step.result ≡ Some c.in-Some.counters.now =
+    some_at c.args.counters.now c.begun_step-step.result c.in-Some.counters.now
+    (is_below c.begun_step-step.result (length c.args.counters.now) c.in-Some.ensures.lookup.0)
     c.in-Some.ensures.lookup.1 in
     ap (λ o. option_map_or (λ (v : Vec Counter Global). v.items) o []) there ∙ sym c.deref.ensures.value
 
@@ -37,22 +37,22 @@ pub arrive_at-requires-clause-fits : goal.arrive_at-requires-clause-fits
 arrive_at-requires-clause-fits c =
     let here = goal.at.arrive_at-requires-clause-fits c in
     subst (λ l. All (MayCount c.args.cells.now c.args.base c.args.top (length c.args.counts.now)) l)
-    (items here.After-deref) (c.requires.fits c.step_at-step.result c.step_at-step.ensures)
+    (items here.After-deref) (c.requires.fits c.begun_step-step.result c.begun_step-step.ensures)
 
 pub returns-in-Some : goal.returns-in-Some
 returns-in-Some c = λ n e.
     let here = goal.at.returns-in-Some c in
-    let same = same_step c.step_at-step.result n (sym c.step_at-step.ensures ∙ e) in
+    let same = same_step c.begun_step-step.result n (sym c.begun_step-step.ensures ∙ e) in
     subst (λ l. IsCounted (answer_there c.args.cells.now c.args.base c.args.top) l c.args.counts.now c.arrive_at.result
     c.arrive_at.new.counts)
     (sym (items here.After-deref) ∙ ap (λ k. counters_of c.args.counters.now k) same) c.arrive_at.ensures
 
 pub returns-in-None : goal.returns-in-None
 returns-in-None c = λ n e.
-    let same = same_step c.step_at-step.result n (sym c.step_at-step.ensures ∙ e) in
-    let there : slice_get c.args.counters.now c.step_at-step.result ≡ None =
-    slice_get_past c.args.counters.now c.step_at-step.result
-    (is_past c.step_at-step.result (length c.args.counters.now) c.in-None.ensures.lookup.0) in
+    let same = same_step c.begun_step-step.result n (sym c.begun_step-step.ensures ∙ e) in
+    let there : slice_get c.args.counters.now c.begun_step-step.result ≡ None =
+    slice_get_past c.args.counters.now c.begun_step-step.result
+    (is_past c.begun_step-step.result (length c.args.counters.now) c.in-None.ensures.lookup.0) in
     let none : counters_of c.args.counters.now n ≡ [] =
     ap (λ k. counters_of c.args.counters.now k) (sym same)
     ∙ ap (λ o. option_map_or (λ (v : Vec Counter Global). v.items) o []) there in
