@@ -71,5 +71,5 @@ pub mod Shown
 pub mod WorkedWords
 -- Worked examples, which no contract cites: what a client is shown of a text with nested procedures, and what each item
 -- of some sessions causes.
-pub mod ShownQ
+pub mod WorkedShown
 pub mod WorkedSessions

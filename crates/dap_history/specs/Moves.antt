@@ -91,7 +91,7 @@ pub record GoesBy (past : History) (asked : Command) (from : ℕ) : Type 0 where
   pub goes : sets_going step ≡ true
   pub last : All (λ (s : Step). sets_going s ≡ false) later
 
--- A command is done where n frames are live, if d were when it was asked: `stepIn` at once, `next` where there are no
+-- A command is done where n frames are alive, if d were when it was asked: `stepIn` at once, `next` where there are no
 -- more, `stepOut` where there are fewer. `continue` and the start of the program never are.
 abbrev pub is_done : Command → ℕ → ℕ → Bool
 is_done (command.Resume resume.StepIn asked) d n = true

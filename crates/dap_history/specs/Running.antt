@@ -58,7 +58,7 @@ enters past l None = record nothing { events = first_logs past l; orders = resum
 
 -- ---- `continue`, `next`, `stepIn`, `stepOut`
 
--- the mode of the run, by the number of live frames where the program stands
+-- the mode of the run, by the number of frames that are alive where the program stands
 abbrev pub mode_of : ResumeKind → ℕ → Mode
 mode_of resume.Continue depth = mode.Continue
 mode_of resume.Next depth = mode.Over depth

@@ -50,7 +50,7 @@ pub record Grants (step : Step) (request : Request) : Type 0 where
   pub body : Body
   pub answer_is : step.answer ≡ Some (Answer request.seq (name_of request.body) (Ok body))
 
--- the mode of the run that a command asks for where this many frames are live, if it asks for a run
+-- the mode of the run that a command asks for where this many frames are alive, if it asks for a run
 abbrev pub mode_by : ℕ → Command → Option Mode
 mode_by depth command.ConfigurationDone = Some mode.Continue
 mode_by depth (command.Resume resume.Continue asked) = Some mode.Continue

@@ -34,12 +34,12 @@ use Rattle.dap_history.specs.Always.{OfHistories}
 
 -- ---- frames
 
--- the live frame with this id, which is its number, counted from 1 at the bottom of the stack
+-- the frame that is alive with this id, which is its number, counted from 1 at the bottom of the stack
 abbrev pub HasId : Configuration → ℕ → Frame → Type 0
 HasId c zero f = ⊥
 HasId c (suc i) f = frame_at c i ≡ Some f
 
--- no live frame has this id
+-- no frame that is alive has this id
 abbrev pub HasNone : Configuration → ℕ → Type 0
 HasNone c id = (f : Frame) → ¬ HasId c id f
 

@@ -38,7 +38,7 @@ use Rattle.dap_history.specs.Reports.{Accepts, report_effect}
 use Rattle.dap_history.specs.Reactions.{Reaction, reply_of}
 use Rattle.dap_history.specs.Emission.{RepliesIn, Causes}
 use Rattle.dap_history.specs.Transitions.{after_step, after_steps}
-use Rattle.dap_history.specs.ShownQ.{main as text_q}
+use Rattle.dap_history.specs.WorkedShown.{main as text_q}
 
 abbrev IsZero : ℕ → Type 0
 IsZero zero = Unit {0}
@@ -335,7 +335,7 @@ module _ (text : List ℕ) (program : Block) (path : List ℕ) (bs : List Breakp
       → (step.answer ≡ None) × (step.effect ≡ only_orders (Quit ∷ []))
   ends_running step is = (is.answer_is, is.effect_is)
 
--- ---- a session that steps through the text of `ShownQ`, with `stopOnEntry`
+-- ---- a session that steps through the text of `WorkedShown`, with `stopOnEntry`
 
 module _ (text path : List ℕ) where
   abbrev on_entry : History
@@ -360,7 +360,7 @@ module _ (text path : List ℕ) where
   abbrev entered : History
   entered = on_entry ++ taken 3 command.ConfigurationDone entering ∷ []
 
-  -- `next` orders run 1, in which one frame may be live
+  -- `next` orders run 1, in which one frame may be alive
   steps : (reply : Reply) → RepliesIn (situation entered) entered
       (command.Resume resume.Next (record { thread_id = 1 })) reply
       → reply ≡ record {
@@ -372,7 +372,7 @@ module _ (text path : List ℕ) where
       }
   steps reply is = replied is is.reacts
 
--- it stops at position 1, where one frame is live
+-- it stops at position 1, where one frame is alive
 steps_once : due text_q [] 0 (mode.Over 1) 1 ≡ Some reason.Step
 steps_once = refl
 
@@ -388,7 +388,7 @@ steps_over : map (due text_q [] 0 (mode.Over 1)) (2 ∷ 3 ∷ 6 ∷ 10 ∷ 14 �
     None ∷ None ∷ None ∷ None ∷ None ∷ None ∷ Some reason.Step ∷ []
 steps_over = refl
 
--- from position 10, where four frames are live, `stepOut` stops at 12
+-- from position 10, where four frames are alive, `stepOut` stops at 12
 steps_out : map (due text_q [] 0 (mode.Out 4)) (11 ∷ 12 ∷ []) ≡ None ∷ Some reason.Step ∷ []
 steps_out = refl
 

@@ -4,7 +4,7 @@ pub mod Questions
 -- Only private contracts cite the others.
 -- what is shown of one frame
 pub mod Showing
--- live frames by their ids
+-- the frames that are alive, by their ids
 pub mod Alive
 -- the variables of a frame
 pub mod Variables

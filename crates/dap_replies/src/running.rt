@@ -165,7 +165,7 @@ fn retreat_mode(kind: RetreatKind) -> Mode
     }
 }
 
-/// Returns the mode of a run that is resumed where this many frames are live.
+/// Returns the mode of a run that is resumed where this many frames are alive.
 fn resume_mode(kind: ResumeKind, depth: usize) -> Mode
     ensures { result ≡ mode_of kind depth }
 {

@@ -15,7 +15,7 @@
 //! The contracts are those of [`mistake_line`], [`fault_line`] and [`warning_lines`]: they return the lines that
 //! `specs/Lines` and `specs/Warnings` define, with the sentences of `specs/Sentences`. What is said beside a token that
 //! can't stand where it does is a hint: a value (`src/hint.rt`) that `src/hints.rt`, `foreign.rt` and `characters.rt` choose
-//! by the tokens around it (`src/scene.rt`). Of it is defined only that it stays in the line.
+//! by the tokens around it (`src/scene.rt`). It is defined only that a hint stays in the line.
 #![tactic(auto)]
 
 mod cases;

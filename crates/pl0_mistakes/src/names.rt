@@ -71,9 +71,12 @@ pub(crate) fn is_procedure_in(bytes: &[u8], name: Token<'_>) -> bool {
     false
 }
 
+/// How many blocks around a place are told apart. A `u128` has one bit more, so that not all are shifted out at once.
+const BLOCKS: u32 = 127;
+
 /// Returns the bits of the blocks around a place that this many procedures enclose.
 fn blocks(procedures: u32) -> u128 {
-    !((u128::MAX << (procedures % 127)) << 1)
+    !((u128::MAX << (procedures % BLOCKS)) << 1)
 }
 
 impl Declared {
@@ -88,7 +91,7 @@ impl Declared {
 
     /// Returns what is declared with the name at a place with these tokens before it, where it declares one.
     fn with(self, past: Past<'_>) -> Declared {
-        let here = 1 << (past.procedures % 127);
+        let here = 1 << (past.procedures % BLOCKS);
         let mut declared = self;
         if past.opener.is("const") {
             declared.constants |= here;

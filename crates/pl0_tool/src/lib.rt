@@ -1,4 +1,4 @@
-//! Running, tracing, checking and listing PL/0 programs from a command line.
+//! Running, tracing, checking, listing and drawing PL/0 programs from a command line.
 //!
 //! The main contract is that of [`execute`], which does what the arguments ask for: it reads each file, does the task
 //! with its text, and writes what is to be told, with how that ended. It cites that of [`perform`], which does a task
@@ -7,8 +7,9 @@
 //! where the output fails ([`run_machine`]), and at the end of each slice none are kept back ([`run_slice`]); of a
 //! fault the newest frames are told. [`trace`] tells positions of a run in order, each with the frames, the step and
 //! the number that the meaning has there, and draws the machine, if it is to, as the meaning's frames lie in its cells,
-//! and tells the step's instructions with their operands; it writes its table as it goes. The table of a trace, and a listing, are as defined. [`run`] is all of the program
-//! `pl0` but its `main`, which hands it the arguments, the files and the streams.
+//! and tells the step's instructions with their operands; it writes its table as it goes. The table of a trace, and a
+//! listing, are as defined. [`run`] is all of the program `pl0` but its `main`, which hands it the arguments, the files
+//! and the streams.
 #![tactic(auto)]
 
 mod answering;

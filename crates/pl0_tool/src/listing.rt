@@ -11,6 +11,15 @@ use pl0_tree::StepNumber;
 use pl0_unit::{Instruction, Operation, Unit};
 use std::alloc::{AllocError, Global};
 
+/// The width of the column of marks.
+const MARK_WIDTH: usize = 10;
+
+/// The width of the column of addresses.
+const ADDRESS_WIDTH: usize = 5;
+
+/// The width of an instruction's text before what its operation is called.
+const TEXT_WIDTH: usize = 10;
+
 /// Returns the text of a program with the code of each line under it. An instruction has a mark `@n` where it begins
 /// step n, its number, its name, level and address, and the name of its operation.
 ///
@@ -131,10 +140,10 @@ fn put_instruction(
     ensures { OnOk result (listed.new.items ≡ listed.old.items ++ instruction_line unit.now address instruction) }
 {
     let mark = mark(alloc, step_at(unit, address))?;
-    put_right(listed, 10, mark.as_bytes())?;
+    put_right(listed, MARK_WIDTH, mark.as_bytes())?;
     listed.push(b' ')?;
     let number = format!(in alloc; "{address}")?;
-    put_right(listed, 5, number.as_bytes())?;
+    put_right(listed, ADDRESS_WIDTH, number.as_bytes())?;
     listed.push(b' ')?;
     put_text(alloc, listed, instruction)?;
     listed.push(b'\n')?;
@@ -158,7 +167,7 @@ fn put_text(alloc: Global, listed: &mut Vec<u8>, instruction: Instruction) -> Re
     let text = instruction.to_string(alloc)?;
     match instruction {
         Instruction::Operate(operation) => {
-            put_left(listed, 10, text.as_bytes())?;
+            put_left(listed, TEXT_WIDTH, text.as_bytes())?;
             listed.extend_from_slice(operation_name(operation).as_bytes())
         }
         _ => listed.extend_from_slice(text.as_bytes()),
