@@ -10,7 +10,7 @@ use Rattle.dbg_plan.specs.Debugged.{Debugged, machine_of}
 use Rattle.dbg_plan.specs.Advances.{considered_at}
 use Rattle.dbg_plan.specs.Running.{IsQuiet, RanQuietly, with_written}
 
--- the marks of a plan; there may be none, where it has no breakpoint
+-- the marks of a plan; none, where there is no plan
 abbrev pub Watches : Option Listed → Option Marks → Type 0
 Watches plan None = listed_of plan ≡ []
 Watches plan (Some marks) = (asked : Listed) × (plan ≡ Some asked) × AreMarksOf asked marks

@@ -8,13 +8,13 @@ use crate::plan::Plan;
 use pl0_machine::{Marks, StepOutcome};
 use std::sync::Arc;
 
-/// Returns the marks of a plan; `None` where there is no plan, or it has no breakpoint.
+/// Returns the marks of a plan; `None` where there is no plan.
 pub fn marks_of(plan: &Option<Arc<Plan>>) -> Option<&Marks>
     ensures { Watches (option_map arc_value plan.now) (option_map (λ marks. marks.now) result) }
 {
     match plan {
-        Some(plan) if !plan.is_empty() => Some(plan.marks()),
-        _ => None,
+        None => None,
+        Some(plan) => Some(plan.marks()),
     }
 }
 
