@@ -29,11 +29,11 @@
 //! table by step. Contracts see the list of breakpoints in the order asked, as data without addresses
 //! (`specs/Breakpoints`, `Plans`), by which [`same_plan`] compares two plans. A second table, by the address of an
 //! instruction, says where steps with breakpoints begin, so that a position at any other step costs one look-up. A
-//! third has for each step the condition of its breakpoint, if it has one breakpoint whose condition compares numbers
-//! and variables of the newest frame or of the main block's: a run evaluates those in its loop. A breakpoint with a
-//! message logs it, and doesn't stop the program; `specs/Messages` says which parts a message has. The hard lemma is
-//! `tally` of `proofs/Tally`: one walk along a step's part of the table takes the counts of the whole list from one
-//! position to the next, and finds the breakpoints that are met.
+//! third has for each step what the machine counts there: of each breakpoint what has to hold for an arrival, and how
+//! many arrivals are passed. A run asks and counts these in its loop. A breakpoint with a message logs it, and doesn't
+//! stop the program; `specs/Messages` says which parts a message has. The hard lemma is `tally` of `proofs/Tally`: one
+//! walk along a step's part of the table takes the counts of the whole list from one position to the next, and finds
+//! the breakpoints that are met.
 #![tactic(auto)]
 
 mod binding;
