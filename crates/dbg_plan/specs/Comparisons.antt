@@ -23,6 +23,6 @@ condition_of depth c = Compare c.relation (expression_of depth c.left) (expressi
 
 -- this is what is asked of the machine for a condition: the comparison that it is, or the condition itself
 abbrev pub Asks : BoundCondition → Question → Type 0
-Asks guard Nothing = ⊥
-Asks guard (AComparison c) = guard.asked ≡ Some c
-Asks guard (ACondition p) = p.value ≡ guard.located.value
+Asks condition Nothing = ⊥
+Asks condition (AComparison c) = condition.asked ≡ Some c
+Asks condition (ACondition p) = p.value ≡ condition.located.value

@@ -63,7 +63,8 @@ accepts None n = true
 accepts (Some (From k)) n = nat_le k n
 accepts (Some (Every k)) n = nat_eq (n % k) 0
 
--- the breakpoint, counted from position t, is met at m
+-- The breakpoint, counted from position t, is met at m. It is read only at positions from t on: before, `%k` would be
+-- met without an arrival that counts.
 abbrev pub is_hit : Block → ℕ → ℕ → Breakpoint → Bool
 is_hit main t m b = arrives_at main b m && accepts b.rule (arrivals main b t (m + 1))
 

@@ -38,7 +38,7 @@ pub mod WorkedReadings
 pub mod Resolving
 -- what a fault says of a text that is no message
 pub mod MessageFaults
--- the conditions that a run evaluates in its loop
+-- what the machine is asked for a condition
 pub mod Comparisons
 -- how a plan's table stands for its breakpoints
 pub mod Table

@@ -59,7 +59,8 @@ has_breakpoint breakpoints (Some step) = list_any (is_of step) breakpoints
 unfoldable pub watched_lines : List Breakpoint → List (Option ℕ) → List Bool
 watched_lines breakpoints lines = map (has_breakpoint breakpoints) lines
 
--- A condition is bound to the names of the block of step n. What the machine is asked for it, if anything, is the same.
+-- A condition is bound to the names of the block of step n. If it is kept as a comparison too, that is the same
+-- condition.
 abbrev pub IsBoundAt : Block → ℕ → Option BoundCondition → Type 0
 IsBoundAt main n None = Unit {0}
 IsBoundAt main n (Some c) =
