@@ -12,7 +12,7 @@ use Rattle.pl0_unit.specs.declared.unit.Unit.{Unit as Compiled}
 use Rattle.pl0_unit.specs.Code.{Coded}
 use Rattle.pl0_code.specs.Laws.{OneCode}
 use Rattle.pl0_machine.specs.Machine.{program_of}
-use Rattle.dbg_plan.specs.Plans.{Listed, AreAtSteps, watched_lines}
+use Rattle.dbg_plan.specs.Plans.{Listed, AreAtSteps, marked_addresses}
 use Rattle.dbg_plan.specs.Counting.{MayBePlanOf}
 use Rattle.dbg_runner.specs.Reported.{text_of}
 
@@ -38,5 +38,5 @@ fits_also one u v (Some plan) same is =
     let program = one_program u v same in record {
       steps = is.steps ∙ ap (λ main. length (steps main)) program;
       bound = subst (λ main. AreAtSteps main plan.breakpoints) program is.bound;
-      watched = is.watched ∙ ap (λ lines. watched_lines plan.breakpoints lines) (one_table one u v program);
+      marked = is.marked ∙ ap (λ l. marked_addresses plan.breakpoints l) (one_table one u v program);
     }

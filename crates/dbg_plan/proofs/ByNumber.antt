@@ -137,8 +137,8 @@ part_is bs ordered read starts s same is stays part =
     (subst (λ l. IsPart l starts s (those_of s l)) same part)
 
 pub listed_is : (a b : ℕ) (xs ys : List Breakpoint) (us vs : List Bool) → a ≡ b → xs ≡ ys → us ≡ vs
-    → ◌≡◌ {A = Listed} (record { steps = a; breakpoints = xs; watched = us })
-    (record { steps = b; breakpoints = ys; watched = vs })
+    → ◌≡◌ {A = Listed} (record { steps = a; breakpoints = xs; marked = us })
+    (record { steps = b; breakpoints = ys; marked = vs })
 listed_is a b xs ys us vs e f g = cc
 
 -- ---- the breakpoint with a number

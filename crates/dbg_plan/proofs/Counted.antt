@@ -20,8 +20,8 @@ use Rattle.dbg_plan.specs.Breakpoints.{plain_breakpoint, plain_breakpoints}
 use Rattle.dbg_plan.specs.Counting.{holds_now, IsMetHere, counted as counted_all, due_at, those_due, any_stops, logged, AreCounts, CountsOn, MayBePlanOf}
 use Rattle.dbg_plan.specs.Due.{arrives_at, arrivals, accepts, is_hit}
 use Rattle.dbg_plan.specs.Logs.{Log}
-use Rattle.dbg_plan.specs.Plans.{Listed, IsPlanOf, IsNumbered, is_of, those_of, has_breakpoint, watched_lines, listed_of, breakpoints_of}
-use Rattle.dbg_plan.specs.Quiet.{Watches}
+use Rattle.dbg_plan.specs.Plans.{Listed, IsPlanOf, IsNumbered, is_of, those_of, has_breakpoint, marked_addresses, listed_of, breakpoints_of}
+use Rattle.dbg_plan.specs.Quiet.{AreMarksIn}
 use Rattle.dbg_plan.specs.Running.{has_hit}
 use Rattle.dbg_plan.specs.Table.{AreCountersOf, AreMarksOf}
 use Rattle.dbg_plan.proofs.Asked.{can_ask, answer_is}
@@ -140,15 +140,15 @@ module _ (laws : FramesAreLinked) (plan : Option Listed) (counts : List ℕ) (ro
         are_met m n next asked.breakpoints here.bound,
       )
 
-  pub has_table : (u : Compiled) (marks : Option Marks) → MayBePlanOf u plan → Watches plan marks
+  pub has_table : (u : Compiled) (marks : Option Marks) → MayBePlanOf u plan → AreMarksIn plan marks
       → IsTable u (length counts) marks
-  unfolding watched_lines
-  has_table u None fits watches = tt
-  has_table u (Some marks) fits watches =
-      let asked = watches.0 in
-      let are = watches.2 in
-      let is = fits_of u plan asked watches.1 fits in (
-        ap length are.marked ∙ ap length is.watched
+  unfolding marked_addresses
+  has_table u None fits in_plan = tt
+  has_table u (Some marks) fits in_plan =
+      let asked = in_plan.0 in
+      let are = in_plan.2 in
+      let is = fits_of u plan asked in_plan.1 fits in (
+        ap length are.marked ∙ ap length is.marked
             ∙ length-map u.begun_steps.items (has_breakpoint asked.breakpoints),
         λ m n same next.
             let there = counters_there u asked marks is are m same n next in
@@ -156,13 +156,13 @@ module _ (laws : FramesAreLinked) (plan : Option Listed) (counts : List ℕ) (ro
             (length counts) (within asked.breakpoints are.numbered n counts room),
       )
 
-  module _ (marks : Marks) (m : Standing) (fits : MayBePlanOf m.unit plan) (watches : Watches plan (Some marks))
+  module _ (marks : Marks) (m : Standing) (fits : MayBePlanOf m.unit plan) (in_plan : AreMarksIn plan (Some marks))
       (due : Bool) (new : List ℕ) (counted : AreCounted (Some marks) m counts due new) where
     abbrev asked : Listed
-    asked = watches.0
+    asked = in_plan.0
 
     is : IsPlanOf m.unit asked
-    is = fits_of m.unit plan asked watches.1 fits
+    is = fits_of m.unit plan asked in_plan.1 fits
 
     abbrev next : BeginsNext m counted.0
     next = counted.1
@@ -176,12 +176,12 @@ module _ (laws : FramesAreLinked) (plan : Option Listed) (counts : List ℕ) (ro
     marked_is : list_any (is_of next.step) asked.breakpoints ≡ counted.2
     marked_is =
         let has_one =
-        there asked.breakpoints m.unit.begun_steps.items asked.watched counted.0 next.step is.watched next.begins in
-        same_Some _ _ (sym has_one ∙ sym (ap (λ l. slice_get l counted.0) watches.2.marked) ∙ counted.3)
+        there asked.breakpoints m.unit.begun_steps.items asked.marked counted.0 next.step is.marked next.begins in
+        same_Some _ _ (sym has_one ∙ sym (ap (λ l. slice_get l counted.0) in_plan.2.marked) ∙ counted.3)
 
     all_alike : AreAlike (answer_in (frames m)) (holds_now m) those cs
     all_alike =
-        let there = counters_there m.unit asked marks is watches.2 m refl next.step next.next in
+        let there = counters_there m.unit asked marks is in_plan.2 m refl next.step next.next in
         alike laws m those cs there.0 there.1
 
     due_among : list_any (λ b. due_at (holds_now m) b counts) those ≡ due
@@ -200,11 +200,11 @@ module _ (laws : FramesAreLinked) (plan : Option Listed) (counts : List ℕ) (ro
     module _ (first : ℕ) (le : first ≤ m.position)
         (are : AreCounts (program m) (listed_of plan) first m.position counts) where
       are_asked : AreCounts (program m) asked.breakpoints first m.position counts
-      are_asked = subst (λ q. AreCounts (program m) (listed_of q) first m.position counts) watches.1 are
+      are_asked = subst (λ q. AreCounts (program m) (listed_of q) first m.position counts) in_plan.1 are
 
       met_where_due : has_hit (plain_breakpoints asked.breakpoints) first m ≡ due
       met_where_due =
-          hits_are m next.step next.next asked.breakpoints watches.2.numbered counts first le are_asked ∙ due_among
+          hits_are m next.step next.next asked.breakpoints in_plan.2.numbered counts first le are_asked ∙ due_among
 
       counts_as : due ≡ false → new ≡ counted_all (holds_now m) those counts
       counts_as undue = by_mark counted.2 marked_is
@@ -212,7 +212,7 @@ module _ (laws : FramesAreLinked) (plan : Option Listed) (counts : List ℕ) (ro
         where
           none : those_due (holds_now m) those counts ≡ []
           none =
-              none_are_due m next.step next.next asked.breakpoints watches.2.numbered counts first le are_asked room
+              none_are_due m next.step next.next asked.breakpoints in_plan.2.numbered counts first le are_asked room
               (met_where_due ∙ undue)
 
           by_mark : (marked : Bool) → list_any (is_of next.step) asked.breakpoints ≡ marked
@@ -259,34 +259,34 @@ pub record IsCountedOn (m : Standing) (plan : Option Listed) (counts new : List 
 
 module _ (laws : FramesAreLinked) (plan : Option Listed) (counts : List ℕ) (room : length counts ≡ 256) (m : Standing)
     (fits : MayBePlanOf m.unit plan) where
-  pub hit_is : (marks : Option Marks) → Watches plan marks → (due : Bool) (new : List ℕ)
+  pub hit_is : (marks : Option Marks) → AreMarksIn plan marks → (due : Bool) (new : List ℕ)
       → AreCounted marks m counts due new → (first : ℕ) → first ≤ m.position
       → AreCounts (program m) (listed_of plan) first m.position counts → has_hit (breakpoints_of plan) first m ≡ due
-  hit_is None watches due new counted first le are =
-      ap (λ bs. has_hit (plain_breakpoints bs) first m) watches ∙ sym counted.0
-  hit_is (Some marks) watches due new counted first le are =
-      ap (λ p. has_hit (breakpoints_of p) first m) watches.1
-      ∙ met_where_due laws plan counts room marks m fits watches due new counted first le are
+  hit_is None in_plan due new counted first le are =
+      ap (λ bs. has_hit (plain_breakpoints bs) first m) in_plan ∙ sym counted.0
+  hit_is (Some marks) in_plan due new counted first le are =
+      ap (λ p. has_hit (breakpoints_of p) first m) in_plan.1
+      ∙ met_where_due laws plan counts room marks m fits in_plan due new counted first le are
 
-  pub counted_on : (marks : Option Marks) → Watches plan marks → (new : List ℕ) → AreCounted marks m counts false new
+  pub counted_on : (marks : Option Marks) → AreMarksIn plan marks → (new : List ℕ) → AreCounted marks m counts false new
       → IsCountedOn m plan counts new
-  counted_on None watches new counted =
+  counted_on None in_plan new counted =
       record {
         hit = false;
         logs = [];
         on = λ first le are.
-            subst (λ bs. CountsOn (program m) bs m.position first false [] new) (sym watches)
+            subst (λ bs. CountsOn (program m) bs m.position first false [] new) (sym in_plan)
             (record { counts = tt; due_is = refl; logs_are = refl });
       }
-  counted_on (Some marks) watches new counted =
-      let asked = watches.0 in
+  counted_on (Some marks) in_plan new counted =
+      let asked = in_plan.0 in
       let next : BeginsNext m counted.0 = counted.1 in
       let those = those_of next.step asked.breakpoints in
       record {
         hit = any_stops (those_due (holds_now m) those counts);
         logs = logged m (those_due (holds_now m) those counts);
         on = λ first le are.
-            goes_on m next.step next.next plan asked watches.1 watches.2.numbered those refl counts room _ _ new refl
-            refl (counts_as laws plan counts room marks m fits watches false new counted first le are refl) first le
+            goes_on m next.step next.next plan asked in_plan.1 in_plan.2.numbered those refl counts room _ _ new refl
+            refl (counts_as laws plan counts room marks m fits in_plan false new counted first le are refl) first le
             are;
       }

@@ -19,7 +19,7 @@ use Rattle.std.specs.Prelude.{Some, map, option_map}
 use Rattle.pl0_tree.specs.Steps.{steps}
 use Rattle.pl0_unit.specs.declared.unit.Unit.{Unit as Compiled}
 use Rattle.dbg_plan.specs.Breakpoints.{Breakpoint as PlainBreakpoint, text_condition, plain_breakpoint, plain_breakpoints}
-use Rattle.dbg_plan.specs.Plans.{Listed, IsRule, AreNumbered, AreAtSteps, IsPlanOf, AreBreakpointsOf, breakpoint_limit, watched_lines}
+use Rattle.dbg_plan.specs.Plans.{Listed, IsRule, AreNumbered, AreAtSteps, IsPlanOf, AreBreakpointsOf, breakpoint_limit, marked_addresses}
 use Rattle.dbg_plan.specs.Resolutions.{AskedLine, plain_line, step_from, ReadsRule, HasConditionAt, HasRule, HasMessageAt, IsResolvedTo, AreResolved}
 use Rattle.dbg_plan.specs.Resolving.{IsBoundConditionOf, ResolvesLine}
 
@@ -91,12 +91,13 @@ one_more main asked i line answers all bs new answer lt old more all_is =
     subst (λ l. Resolved main asked (i + 1) l new) (sym all_is)
     (subst (λ l. Resolved main asked (i + 1) (answers ++ answer ∷ []) l) (sym more.after) now)
 
-pub plan_is : (u : Compiled) (n : ℕ) (bs : List Breakpoint) (lines : List (Option ℕ)) (plan : Listed)
-    → plan ≡ record { steps = n; breakpoints = bs; watched = watched_lines bs lines } → lines ≡ u.begun_steps.items
-    → n ≡ length (steps (program_of u)) → AreAtSteps (program_of u) bs → IsPlanOf u plan
-plan_is u n bs lines plan is beside all placed =
-    let this : IsPlanOf u (record { steps = n; breakpoints = bs; watched = watched_lines bs lines }) =
-    record { steps = all; bound = placed; watched = ap (λ l. watched_lines bs l) beside } in
+pub plan_is : (u : Compiled) (n : ℕ) (bs : List Breakpoint) (begun_steps : List (Option ℕ)) (plan : Listed)
+    → plan ≡ record { steps = n; breakpoints = bs; marked = marked_addresses bs begun_steps }
+    → begun_steps ≡ u.begun_steps.items → n ≡ length (steps (program_of u)) → AreAtSteps (program_of u) bs
+    → IsPlanOf u plan
+plan_is u n bs begun_steps plan is beside all placed =
+    let this : IsPlanOf u (record { steps = n; breakpoints = bs; marked = marked_addresses bs begun_steps }) =
+    record { steps = all; bound = placed; marked = ap (λ l. marked_addresses bs l) beside } in
     subst (λ (p : Listed). IsPlanOf u p) (sym is) this
 
 -- ---- the breakpoints as data

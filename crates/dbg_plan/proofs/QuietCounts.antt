@@ -21,7 +21,7 @@ use Rattle.dbg_plan.specs.Debugged.{Debugged, machine_of, IsNext, IsRunning}
 use Rattle.pl0_machine.specs.Stretches.{ahead, AreCounted, IsUnseen, Stretches, EndsRun, LacksRoom, Adds, RanOn}
 use Rattle.dbg_plan.specs.Advances.{considered_at}
 use Rattle.dbg_plan.specs.Running.{has_hit, IsQuiet, with_written, RanFrom}
-use Rattle.dbg_plan.specs.Quiet.{Watches, EndsAt, RanTo, considered_after}
+use Rattle.dbg_plan.specs.Quiet.{AreMarksIn, EndsAt, RanTo, considered_after}
 use Rattle.dbg_plan.proofs.Counted.{same_length, hit_is, counted_on}
 use Rattle.dbg_plan.proofs.Further.{was_considered, stays_counting}
 use Rattle.dbg_plan.proofs.Quiet.{is_told}
@@ -34,7 +34,7 @@ done_goes : (fault : RunFault) → Done ≡ Fault fault → ⊥
 done_goes fault e = cc
 
 module _ (laws : FramesAreLinked) (d : Inside) (was : IsCounting d) (behind : next_of d ≡ d.machine.position + 1)
-    (limit outer : ℕ) (marks : Option Marks) (watches : Watches (plan_of d) marks) where
+    (limit outer : ℕ) (marks : Option Marks) (in_plan : AreMarksIn (plan_of d) marks) where
   abbrev breakpoints : List Breakpoint
   breakpoints = breakpoints_of (plan_of d)
 
@@ -68,7 +68,7 @@ module _ (laws : FramesAreLinked) (d : Inside) (was : IsCounting d) (behind : ne
     hit_at : (due : Bool) (new : List ℕ) → AreCounted marks next counts due new
         → has_hit breakpoints d.counted_from next ≡ due
     hit_at due new counted =
-        hit_is laws (plan_of d) counts now.room next now.fits marks watches due new counted d.counted_from begun
+        hit_is laws (plan_of d) counts now.room next now.fits marks in_plan due new counted d.counted_from begun
         counts_now
 
     is_quiet : (new : List ℕ) → IsUnseen outer marks m counts new → IsQuiet outer breakpoints d.counted_from m
@@ -76,7 +76,7 @@ module _ (laws : FramesAreLinked) (d : Inside) (was : IsCounting d) (behind : ne
 
     counts_on : (new : List ℕ) → IsUnseen outer marks m counts new → IsCounting (with_machine next new)
     counts_on new u =
-        let on = counted_on laws (plan_of d) counts now.room next now.fits marks watches new u.undue in
+        let on = counted_on laws (plan_of d) counts now.room next now.fits marks in_plan new u.undue in
         stays_counting (with_machine m counts) now (behind_at m counts) next refl (some_alive next u.running) new on.hit
         on.logs on.on (same_length marks next counts false new u.undue ∙ now.room)
 

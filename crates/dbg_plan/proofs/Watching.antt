@@ -13,7 +13,7 @@ use Rattle.std.proofs.lemmas.Option.{slice_get-map}
 use Rattle.pl0_tree.specs.Tree.{Block}
 use Rattle.pl0_tree.specs.Steps.{steps}
 use Rattle.dbg_plan.specs.declared.breakpoint.Breakpoint.{Breakpoint}
-use Rattle.dbg_plan.specs.Plans.{AreAtSteps, has_breakpoint, watched_lines, is_of, those_of}
+use Rattle.dbg_plan.specs.Plans.{AreAtSteps, has_breakpoint, marked_addresses, is_of, those_of}
 use Rattle.dbg_plan.specs.Table.{IsPart, has_part}
 
 -- ---- a step has a breakpoint where its part of the table is not empty
@@ -79,15 +79,15 @@ module _ (ordered bs : List Breakpoint) (starts : List ℕ) (n : ℕ) (long : le
         ∙ none_below (slice_index starts s) ∙ sym (none_there n s bs le below)
   ]
 
-  lines_tell : (lines : List (Option ℕ)) → map (has_part starts) lines ≡ map (has_breakpoint bs) lines
-  lines_tell [] = refl
-  lines_tell (line ∷ lines) =
-      ap (λ v. v ∷ map (has_part starts) lines) (starts_tell line)
-      ∙ ap (λ l. has_breakpoint bs line ∷ l) (lines_tell lines)
+  steps_tell : (begun_steps : List (Option ℕ)) → map (has_part starts) begun_steps ≡ map (has_breakpoint bs) begun_steps
+  steps_tell [] = refl
+  steps_tell (step ∷ begun_steps) =
+      ap (λ v. v ∷ map (has_part starts) begun_steps) (starts_tell step)
+      ∙ ap (λ l. has_breakpoint bs step ∷ l) (steps_tell begun_steps)
 
-  pub watched_is : (lines : List (Option ℕ)) → map (has_part starts) lines ≡ watched_lines bs lines
-  unfolding watched_lines
-  watched_is lines = lines_tell lines
+  pub marked_is : (begun_steps : List (Option ℕ)) → map (has_part starts) begun_steps ≡ marked_addresses bs begun_steps
+  unfolding marked_addresses
+  marked_is begun_steps = steps_tell begun_steps
 
 -- each breakpoint of a program stands at one of its steps
 pub are_within : (main : Block) (n : ℕ) (bs : List Breakpoint) → n ≡ length (steps main) → AreAtSteps main bs
@@ -100,10 +100,10 @@ are_within main n (b ∷ bs) e at =
 -- ---- what is known where the machine stands
 
 -- the table has an entry at an address that begins a step
-pub there : (bs : List Breakpoint) (lines : List (Option ℕ)) (watched : List Bool) (a s : ℕ)
-    → watched ≡ watched_lines bs lines → slice_get lines a ≡ Some (Some s)
-    → slice_get watched a ≡ Some (list_any (is_of s) bs)
-unfolding watched_lines
-there bs lines watched a s is at =
-    ap (λ l. slice_get l a) is ∙ slice_get-map (has_breakpoint bs) lines a
+pub there : (bs : List Breakpoint) (begun_steps : List (Option ℕ)) (marked : List Bool) (a s : ℕ)
+    → marked ≡ marked_addresses bs begun_steps → slice_get begun_steps a ≡ Some (Some s)
+    → slice_get marked a ≡ Some (list_any (is_of s) bs)
+unfolding marked_addresses
+there bs begun_steps marked a s is at =
+    ap (λ l. slice_get l a) is ∙ slice_get-map (has_breakpoint bs) begun_steps a
     ∙ ap (λ o. option_map (has_breakpoint bs) o) at

@@ -23,7 +23,7 @@ use Rattle.dbg_plan.specs.Comparisons.{condition_of}
 pub record Listed : Type 0 where
   pub steps : ℕ
   pub breakpoints : List Breakpoint
-  pub watched : List Bool
+  pub marked : List Bool
 
 -- the most lines that an editor may ask for at once
 abbrev pub breakpoint_limit : ℕ
@@ -55,9 +55,9 @@ abbrev pub has_breakpoint : List Breakpoint → Option ℕ → Bool
 has_breakpoint breakpoints None = false
 has_breakpoint breakpoints (Some step) = list_any (is_of step) breakpoints
 
--- the same for each line
-unfoldable pub watched_lines : List Breakpoint → List (Option ℕ) → List Bool
-watched_lines breakpoints lines = map (has_breakpoint breakpoints) lines
+-- the same for each address
+unfoldable pub marked_addresses : List Breakpoint → List (Option ℕ) → List Bool
+marked_addresses breakpoints begun_steps = map (has_breakpoint breakpoints) begun_steps
 
 -- A condition is bound to the names of the block of step n. If it is kept as a comparison too, that is the same
 -- condition.
@@ -79,12 +79,12 @@ AreAtSteps main (b ∷ bs) =
     (b.step < length (steps main)) × IsBoundAt main b.step b.condition × IsMessageBoundAt main b.step b.message
     × AreAtSteps main bs
 
--- The plan was made for a program, beside whose instructions stand these steps. What `bound` and `watched` say is the
+-- The plan was made for a program, beside whose instructions stand these steps. What `bound` and `marked` say is the
 -- code's own business, and no promise rests on it: `resolve` gives this of a plan, and `set_plan` asks for it.
-pub record IsPlanFor (main : Block) (lines : List (Option ℕ)) (plan : Listed) : Type 0 where
+pub record IsPlanFor (main : Block) (begun_steps : List (Option ℕ)) (plan : Listed) : Type 0 where
   pub steps : plan.steps ≡ length (steps main)
   pub bound : AreAtSteps main plan.breakpoints
-  pub watched : plan.watched ≡ watched_lines plan.breakpoints lines
+  pub marked : plan.marked ≡ marked_addresses plan.breakpoints begun_steps
 
 abbrev pub IsPlanOf : Compiled → Listed → Type 0
 IsPlanOf unit plan = IsPlanFor (program_of unit) unit.begun_steps.items plan

@@ -11,9 +11,9 @@ use Rattle.dbg_plan.specs.Advances.{considered_at}
 use Rattle.dbg_plan.specs.Running.{IsQuiet, RanQuietly, with_written}
 
 -- the marks of a plan; none, where there is no plan
-abbrev pub Watches : Option Listed → Option Marks → Type 0
-Watches plan None = listed_of plan ≡ []
-Watches plan (Some marks) = (asked : Listed) × (plan ≡ Some asked) × AreMarksOf asked marks
+abbrev pub AreMarksIn : Option Listed → Option Marks → Type 0
+AreMarksIn plan None = listed_of plan ≡ []
+AreMarksIn plan (Some marks) = (asked : Listed) × (plan ≡ Some asked) × AreMarksOf asked marks
 
 -- whether the position is considered where a run stands
 abbrev pub considered_after : Option StepOutcome → Bool

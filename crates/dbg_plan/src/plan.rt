@@ -10,7 +10,7 @@ ghost use Rattle.dbg_plan.specs.Plans.{breakpoints_of};
 use crate::breakpoint::Breakpoint;
 use crate::message::Part;
 use crate::same::same_breakpoints;
-use crate::table::{counters_of, starts_of, watched_of};
+use crate::table::{counters_of, marked_of, starts_of};
 use pl0_machine::Marks;
 use pl0_tree::StepNumber;
 use std::alloc::{AllocError, Global};
@@ -46,15 +46,15 @@ impl Plan {
     ghost use Rattle.std.specs.Prelude.{Decides};
     ghost use Rattle.dbg_plan.specs.Breakpoints.{plain_breakpoints};
     ghost use Rattle.dbg_plan.specs.Messages.{plain_parts};
-    ghost use Rattle.dbg_plan.specs.Plans.{those_of, watched_lines, parts_at, IsNumbered};
+    ghost use Rattle.dbg_plan.specs.Plans.{those_of, marked_addresses, parts_at, IsNumbered};
     ghost use Rattle.dbg_plan.specs.Table.{AreMarksOf};
 
-    /// Returns the plan of these breakpoints, for a program of `steps` steps. `lines` says for each address of its code
-    /// which step begins there.
+    /// Returns the plan of these breakpoints, for a program of `steps` steps. `begun_steps` says for each address of its
+    /// code which step begins there.
     pub(crate) fn new(
         alloc: Global,
         steps: usize,
-        lines: &[Option<StepNumber>],
+        begun_steps: &[Option<StepNumber>],
         breakpoints: Vec<Breakpoint>,
     ) -> Result<Plan, AllocError>
         requires numbered { IsNumbered breakpoints.items }
@@ -64,22 +64,18 @@ impl Plan {
             ≡ record {
               steps = steps;
               breakpoints = breakpoints.items;
-              watched = watched_lines breakpoints.items
-                  lines.now;
+              marked = marked_addresses breakpoints.items begun_steps.now;
             }) }
     {
         let mut ordered = breakpoints;
         ordered.sort_by_key(|breakpoint| breakpoint.step)?;
         let starts = starts_of(alloc, &ordered, steps)?;
-        let watched = watched_of(alloc, lines, &starts)?;
+        let marked = marked_of(alloc, begun_steps, &starts)?;
         let counters = counters_of(alloc, &ordered, &starts, steps)?;
         Ok(Plan {
             ordered,
             starts,
-            marks: Marks {
-                marked: watched,
-                counters,
-            },
+            marks: Marks { marked, counters },
         })
     }
 
@@ -101,8 +97,8 @@ impl Plan {
     /// Whether the step that begins at an address of the code has a breakpoint.
     #[inline(always)]
     pub(crate) fn has_breakpoint(&self, address: usize) -> bool
-        requires { address < length self.now.watched }
-        ensures watched { slice_get self.now.watched address ≡ Some result }
+        requires { address < length self.now.marked }
+        ensures marked { slice_get self.now.marked address ≡ Some result }
         ensures numbered { IsNumbered self.now.breakpoints }
     {
         self.marks.marked[address]

@@ -2,7 +2,7 @@
 
 ghost use Rattle.std.specs.Prelude.{◌≡◌, option_map};
 ghost use Rattle.std.specs.Arc.{arc_value};
-ghost use Rattle.dbg_plan.specs.Quiet.{Watches, considered_after};
+ghost use Rattle.dbg_plan.specs.Quiet.{AreMarksIn, considered_after};
 
 use crate::plan::Plan;
 use pl0_machine::{Marks, StepOutcome};
@@ -10,7 +10,7 @@ use std::sync::Arc;
 
 /// Returns the marks of a plan; `None` where there is no plan.
 pub fn marks_of(plan: &Option<Arc<Plan>>) -> Option<&Marks>
-    ensures { Watches (option_map arc_value plan.now) (option_map (λ marks. marks.now) result) }
+    ensures { AreMarksIn (option_map arc_value plan.now) (option_map (λ marks. marks.now) result) }
 {
     match plan {
         None => None,

@@ -74,24 +74,24 @@ pub fn counters_of(
     Ok(counters)
 }
 
-/// Returns for each address whether the step that begins there has a breakpoint. `lines` says which step that is.
+/// Returns for each address whether the step that begins there has a breakpoint. `begun_steps` says which step that is.
 ///
 /// # Errors
 ///
 /// Out of memory.
-pub fn watched_of(
+pub fn marked_of(
     alloc: Global,
-    lines: &[Option<StepNumber>],
+    begun_steps: &[Option<StepNumber>],
     starts: &[usize],
 ) -> Result<Vec<bool>, AllocError>
     requires { 0 < length starts.now }
-    ensures { IfOk result (λ watched. watched.items ≡ map (has_part starts.now) lines.now) }
+    ensures { IfOk result (λ marked. marked.items ≡ map (has_part starts.now) begun_steps.now) }
 {
-    let mut watched = Vec::with_capacity(alloc, lines.len())?;
-    for line in lines {
-        watched.push(is_started(starts, *line))?;
+    let mut marked = Vec::with_capacity(alloc, begun_steps.len())?;
+    for step in begun_steps {
+        marked.push(is_started(starts, *step))?;
     }
-    Ok(watched)
+    Ok(marked)
 }
 
 /// Whether a step has a breakpoint, if there is a step. A step without an entry in `starts` has none.

@@ -5,7 +5,7 @@ use Rattle.dbg_plan.specs.declared.breakpoint.Breakpoint.{Breakpoint}
 use Rattle.dbg_plan.specs.Plans.{IsNumbered, those_of}
 use Rattle.dbg_plan.specs.Table.{by_number, AreCounters, IsPart, has_part}
 use Rattle.dbg_plan.proofs.ByNumber.{stays_in_order, by_number_is, part_is, listed_is}
-use Rattle.dbg_plan.proofs.Watching.{watched_is}
+use Rattle.dbg_plan.proofs.Watching.{marked_is}
 use Rattle.dbg_plan.proofs.plan.Plan.new.Goals as goal
 
 pub starts_of-requires-clause-ordered : goal.starts_of-requires-clause-ordered
@@ -38,8 +38,8 @@ invariant_of-result c =
           c.in_ok-counters.ensures);
     }
 
-pub watched_of-requires : goal.watched_of-requires
-watched_of-requires c = omega (arith, ap length c.deref-2.ensures.value, c.in_ok-starts.ensures.long)
+pub marked_of-requires : goal.marked_of-requires
+marked_of-requires c = omega (arith, ap length c.deref-2.ensures.value, c.in_ok-starts.ensures.long)
 
 pub returns : goal.returns
 returns c =
@@ -51,6 +51,6 @@ returns c =
     λ s lt. subst (λ l. IsPart l starts s (those_of s l)) c.deref.ensures.value (c.in_ok-starts.ensures.parts s lt) in
     listed_is _ _ _ _ _ _ (omega (arith, long))
     (by_number_is bs ordered c.requires.numbered.numbers c.in_ok-sort_by_key.ensures.permutation)
-    (c.in_ok-watched.ensures ∙ ap (λ l. map (has_part l) c.args.lines.now) c.deref-2.ensures.value
-    ∙ watched_is ordered bs starts c.args.steps long c.in_ok-sort_by_key.ensures.permutation c.requires.within parts
-    c.args.lines.now)
+    (c.in_ok-marked.ensures ∙ ap (λ l. map (has_part l) c.args.begun_steps.now) c.deref-2.ensures.value
+    ∙ marked_is ordered bs starts c.args.steps long c.in_ok-sort_by_key.ensures.permutation c.requires.within parts
+    c.args.begun_steps.now)
