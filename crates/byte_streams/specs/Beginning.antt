@@ -2,7 +2,7 @@
 use Rattle.std.specs.Prelude.{◌≡◌, ◌<◌, ℕ, true, List, length, take}
 use Rattle.byte_streams.specs.Streams.{Supply, IsReadOf}
 
--- The most bytes of a beginning: one more than a program's text may have, so that a longer one is noticed.
+-- The most bytes of a beginning: one more than a text of PL/0 may have, so that a longer one is noticed.
 abbrev pub beginning_limit : ℕ
 beginning_limit = 65537
 

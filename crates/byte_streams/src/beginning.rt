@@ -8,7 +8,7 @@ use crate::streams::{IoFault, Source};
 use std::alloc::Global;
 use std::sync::Wait;
 
-/// The most bytes that [`read_beginning`] returns: one more than a program's text may have, so that a longer one is noticed.
+/// The most bytes that [`read_beginning`] returns: one more than a text of PL/0 may have, so that a longer one is noticed.
 pub const BEGINNING_LIMIT: usize = 65_537;
 
 /// How many bytes are read at once.

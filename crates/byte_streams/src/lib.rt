@@ -35,7 +35,7 @@
 //! its writes took, in order, and each read or write that fails is counted. [`Reading`] and [`Writing`] are a source and a
 //! sink over std's `Read` and `Write`; where those tell their bytes, as streams in memory do, these are the same.
 //! [`write_all`] and [`say`] write all bytes, or a prefix of them where the sink fails. [`read_beginning`] reads as much of
-//! a source as a program's text may have, and one byte more, and [`read_all`] all of it. [`collect_arguments`] returns what
+//! a source as a text of PL/0 may have, and one byte more, and [`read_all`] all of it. [`collect_arguments`] returns what
 //! `env::args` gave as a list, and [`borrow_texts`] the same as borrowed texts.
 #![tactic(auto)]
 
