@@ -72,6 +72,8 @@ pub trait Sink {
         ensures kept { IfOk result (λ n. 0 < n → (output self.new).failures ≡ (output self.old).failures) }
         ensures nothing { result ≡ Ok 0 → 0 < length bytes.now
             → (output self.old).failures < (output self.new).failures }
+        ensures empty { IfOk result (λ n. length bytes.now ≡ 0
+            → (output self.new).failures ≡ (output self.old).failures) }
         ensures failed { result ≡ Err Failed → (output self.old).failures < (output self.new).failures }
         ensures interrupted { result ≡ Err Interrupted → (output self.new).failures ≡ (output self.old).failures };
 }

@@ -189,6 +189,9 @@ impl<R: Abort> Sink for Output<'_, R> {
         if self.is_interrupted {
             return Err(IoFault::Interrupted);
         }
+        if bytes.is_empty() {
+            return Ok(0);
+        }
         let count = self.count(bytes.len()).min(bytes.len());
         if count == 0 || self.bytes.extend_from_slice(&bytes[..count]).is_err() {
             self.progress.note_failed_write();
