@@ -1,6 +1,6 @@
 -- States worked examples: where breakpoints and modes stop a program of six states, and what its runs tell. Each was
 -- computed from the definitions.
-use Rattle.std.specs.Prelude.{◌≡◌, ℕ, ◌+◌, ◌%◌, Bool, true, false, nat_eq, nat_le, if◌then◌else◌, List, [], ◌∷◌, map, get_or, codes, Option, None, Some}
+use Rattle.std.specs.Prelude.{◌≡◌, ℕ, ◌+◌, ◌%◌, Bool, true, false, ◌&&◌, nat_eq, nat_le, if◌then◌else◌, List, [], ◌∷◌, map, get_or, codes, Option, None, Some}
 use Rattle.std.specs.Str.{bytes_eq}
 use Rattle.debuggee.specs.declared.breakpoint.Rule.{Rule}
 use Rattle.debuggee.specs.declared.breakpoint.Rule.TheVariants.{From, Exactly, Every}
@@ -27,13 +27,14 @@ step_of n =
 abbrev pub takes : Meaning ℕ
 takes n step m = (step ≡ step_of n) × (m ≡ (if nat_le n 4 then n + 1 else n))
 
--- It isn't to stop in state 0. The even states are at place 0, and the odd ones at 1. The one name is `n`, the number
--- of the state, and a condition `n` holds from 3 on.
+-- It isn't to stop in state 0. The even states are at place 0, and the odd ones at 1. The one name is `n`, in the
+-- newest frame, the number of the state, and a condition `n` holds from 3 on.
 abbrev pub see : Sight ℕ
 see = record {
   place_of = λ n. if nat_eq n 0 then None else Some (n % 2);
   depth_of = λ n. get_or (1 ∷ 2 ∷ 3 ∷ 2 ∷ 1 ∷ 1 ∷ []) n 0;
-  value_of = λ n frame name. if bytes_eq name (codes "n") then Value (digit n) (nat_le 3 n) else NoValue (codes "?");
+  value_of = λ n frame name.
+      if nat_eq frame 0 && bytes_eq name (codes "n") then Value (digit n) (nat_le 3 n) else NoValue (codes "?");
 }
 
 abbrev pub states : List ℕ
@@ -94,9 +95,10 @@ ModesAsk =
 
 abbrev pub BreakpointsComeFirst : Type 0
 BreakpointsComeFirst =
-    map (λ b. due see In (b ∷ at_place 0 None None 0 ∷ []) 3)
-    (at_place 1 None None 0 ∷ saying (at_place 1 None None 0) ∷ [])
-    ≡ Some AtBreakpoint ∷ Some AtStep ∷ []
+    map (λ breakpoints. due see In breakpoints 3)
+    ((at_place 1 None None 0 ∷ at_place 0 None None 0 ∷ []) ∷ (at_place 0 None None 0 ∷ at_place 1 None None 0 ∷ [])
+    ∷ (saying (at_place 1 None None 0) ∷ at_place 0 None None 0 ∷ []) ∷ [])
+    ≡ Some AtBreakpoint ∷ Some AtBreakpoint ∷ Some AtStep ∷ []
 
 -- ---- messages
 

@@ -1,8 +1,8 @@
 //! A program under a debugger, of any language: what the language gives, and a run that stops where it is first due.
 //!
 //! [`run`] promises (`Runs` in `specs/Runs.antt`), of each language and by the language's own steps: it takes one step at
-//! least, and halts at the first state in which a breakpoint stops the program (its condition holds, and its rule
-//! accepts how often it did) or that the mode asks for; or at the program's end; or at its fault. What the steps print and
+//! least, and halts at the first state in which a breakpoint stops the program (its condition holds or has no value, and its
+//! rule accepts the arrival) or that the mode asks for; or at the program's end; or at its fault. What the steps print and
 //! the messages of breakpoints say is told in order, all of it, and nothing else. `run_laws` joins the slices of a run.
 //!
 //! What the steps mean is the language's to say: its ghost member `takes` has no default. A language whose `takes` allows

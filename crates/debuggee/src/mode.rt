@@ -9,7 +9,7 @@ ghost use Rattle.debuggee.specs.Due.{asks};
 pub enum Mode {
     /// No state.
     Continue,
-    /// Each state.
+    /// Each state that has a place.
     In,
     /// Each state where at most this many frames are alive.
     Over(usize),

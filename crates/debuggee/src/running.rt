@@ -13,7 +13,7 @@ use crate::marks::{MARKS, marks_of};
 use crate::mode::Mode;
 use std::alloc::{AllocError, Global};
 
-/// How many steps a slice takes at most. Once it has looked at breakpoints as often, it takes one step more. It keeps short
+/// How many steps a slice takes at most. Once it has looked at that many breakpoints, it takes one step more. It keeps short
 /// what a request waits for, also where each look evaluates a condition.
 const SLICE: usize = 1000;
 
