@@ -2,6 +2,7 @@
 use Rattle.std.specs.Prelude.{ℕ, true, false, List, map, codes, string_bytes}
 use Rattle.serde_json.specs.Data.{Data, boolean, number, unsigned, string, array, object, no_members, item, no_items, member}
 use Rattle.serde_json.specs.View.{items_of}
+use Rattle.dap_bodies.specs.Events.{thread}
 use Rattle.dap_bodies.specs.declared.showing.StackFrame.{StackFrame}
 use Rattle.dap_bodies.specs.declared.showing.Scope.{Scope}
 use Rattle.dap_bodies.specs.declared.showing.Variable.{Variable}
@@ -111,7 +112,7 @@ exception_info id description =
 -- the body for `threads`: the one thread, and its name
 abbrev pub threads : List ℕ → Data
 threads name =
-    object (member (codes "threads") (array (item (object (member (codes "id") (number (unsigned 1))
+    object (member (codes "threads") (array (item (object (member (codes "id") (number (unsigned thread))
     (member (codes "name") (string name) no_members))) no_items)) no_members)
 
 -- ---- breakpoints

@@ -3,6 +3,10 @@ use Rattle.std.specs.Prelude.{ℕ, true, List, codes, Option, None, Some}
 use Rattle.serde_json.specs.Data.{Data, boolean, number, unsigned, string, object, Members, no_members, member}
 use Rattle.dap_server.specs.Messages.{PlainEvent}
 
+-- the number of the one thread
+abbrev pub thread : ℕ
+thread = 1
+
 -- breakpoints can be set, and the debuggee started
 abbrev pub initialized : PlainEvent
 initialized = record { name = codes "initialized"; body = None }
@@ -18,8 +22,9 @@ output category text = record {
 
 -- the text, if there is one, and then the thread
 abbrev pub stop_end : Option (List ℕ) → Members
-stop_end None = member (codes "threadId") (number (unsigned 1)) no_members
-stop_end (Some text) = member (codes "text") (string text) (member (codes "threadId") (number (unsigned 1)) no_members)
+stop_end None = member (codes "threadId") (number (unsigned thread)) no_members
+stop_end (Some text) =
+    member (codes "text") (string text) (member (codes "threadId") (number (unsigned thread)) no_members)
 
 -- the body of a stop: its reason, and perhaps a text that says more
 abbrev pub stop_body : List ℕ → Option (List ℕ) → Data
