@@ -35,6 +35,13 @@ IsRule text (Some (From n)) = (text ≡ decimal n) × IsCount n
 IsRule text (Some (Exactly n)) = (text ≡ codes "=" ++ decimal n) × IsCount n
 IsRule text (Some (Every n)) = (text ≡ codes "%" ++ decimal n) × IsCount n
 
+-- the codes of `{` and `}`
+abbrev pub open_brace : ℕ
+open_brace = 123
+
+abbrev pub close_brace : ℕ
+close_brace = 125
+
 -- the byte doesn't stand in the text
 abbrev pub Lacks : ℕ → List ℕ → Type 0
 Lacks byte text = All (λ b. b ≢ byte) text
@@ -42,14 +49,14 @@ Lacks byte text = All (λ b. b ≢ byte) text
 -- the text has no `{`, or one after which no `}` comes
 abbrev pub IsUnclosed : List ℕ → Type 0
 IsUnclosed text =
-    Lacks 123 text
-    ⊎ ((before : List ℕ) × (after : List ℕ) × (text ≡ before ++ (codes "{" ++ after)) × Lacks 123 before
-    × Lacks 125 after)
+    Lacks open_brace text
+    ⊎ ((before : List ℕ) × (after : List ℕ) × (text ≡ before ++ (codes "{" ++ after)) × Lacks open_brace before
+    × Lacks close_brace after)
 
 -- the text has an expression in braces: the first `{`, what is before it, and the next `}`
 abbrev pub HasExpression : List ℕ → List ℕ → List ℕ → List ℕ → Type 0
 HasExpression text before inner rest =
-    (text ≡ before ++ (codes "{" ++ (inner ++ (codes "}" ++ rest)))) × Lacks 123 before × Lacks 125 inner
+    (text ≡ before ++ (codes "{" ++ (inner ++ (codes "}" ++ rest)))) × Lacks open_brace before × Lacks close_brace inner
 
 -- A message is read from the left. Where no expression is left, the rest stands for itself, and ends its line. Else
 -- what is before the first `{` stands for itself, then comes an expression, up to the next `}`, and what follows is

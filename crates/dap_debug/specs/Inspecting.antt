@@ -41,7 +41,7 @@ ShowFrames frame_of path program index (shown ∷ others) =
 abbrev pub first_frame : Option Data → ℕ → ℕ
 first_frame arguments many = min (unwrap_or (whole_at (codes "startFrame") arguments) 0) many
 
--- of so many frames this many are asked for; where no number is given, or 0, all
+-- how many of `many` frames are asked for; where no number is given, or 0, all
 abbrev pub frame_count : Option Data → ℕ → ℕ
 frame_count arguments many =
     if nat_eq (unwrap_or (whole_at (codes "levels") arguments) 0) 0 then many
@@ -59,7 +59,7 @@ pub record ShowsStack {S : Type 0} (sees : Sight S) (frame_of : S → ℕ → Pl
 
 -- ---- scopes and variables
 
--- of a frame so many scopes are shown at most, and of so many frames
+-- the most scopes of a frame that are shown, and the most frames whose scopes are
 abbrev pub scope_limit : ℕ
 scope_limit = 16
 

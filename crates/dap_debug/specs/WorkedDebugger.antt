@@ -1,15 +1,16 @@
--- Worked examples: commands, modes, what is told of a run, hit conditions, identifiers and references, computed.
+-- Worked examples: commands, modes, what is told of a run, hit conditions, messages, identifiers and references,
+-- computed.
 use Rattle.std.specs.Prelude.{◌≡◌, ℕ, List, [], ◌∷◌, ◌++◌, codes, map, Option, None, Some}
 use Rattle.serde_json.specs.Written.{compact_text}
 use Rattle.dap_server.specs.Messages.{PlainEvent, events_from}
-use Rattle.debuggee.specs.Plain.{AtBreakpoint, AtStep, AtEnd, AtFault, Printed, Logged}
+use Rattle.debuggee.specs.Plain.{AtBreakpoint, AtStep, AtEnd, AtFault, Printed, Logged, Text, Expression}
 use Rattle.debuggee.specs.declared.breakpoint.Rule.{Rule}
 use Rattle.debuggee.specs.declared.breakpoint.Rule.TheVariants.{From, Exactly, Every}
 use Rattle.debuggee.specs.declared.mode.Mode.TheVariants as mode
 use Rattle.dap_debug.specs.declared.command.Command.TheVariants as command
 use Rattle.dap_debug.specs.declared.command.Question.TheVariants as question
 use Rattle.dap_debug.specs.declared.command.Resume.TheVariants as resume
-use Rattle.dap_debug.specs.Breakpoints.{IsRule}
+use Rattle.dap_debug.specs.Breakpoints.{AreParts, IsMessage, IsRule}
 use Rattle.dap_debug.specs.Commands.{command_of}
 use Rattle.dap_debug.specs.Inspecting.{frame_of_reference, frame_with, index_of_reference, shown_frame, shown_scope}
 use Rattle.dap_debug.specs.Running.{mode_of}
@@ -37,7 +38,7 @@ ModesFollow =
 abbrev pub texts : List PlainEvent → List (List ℕ)
 texts events = map compact_text (events_from 1 events)
 
--- of two texts that were printed, and one that a breakpoint says
+-- two texts that were printed, and one that a breakpoint says
 abbrev pub TextsAreTold : Type 0
 TextsAreTold =
     texts (told_of (Printed (codes "1") ∷ (Printed (codes "2") ∷ (Logged (codes "n") ∷ []))) None)
@@ -67,6 +68,13 @@ RulesAreRead =
     IsRule [] None × IsRule (codes "3") (Some (From 3)) × IsRule (codes "=3") (Some (Exactly 3))
     × IsRule (codes "%3") (Some (Every 3)) × ((rule : Option Rule) → ¬ IsRule (codes "03") rule)
 
+-- the first `{` has the next `}`, and the second has none; an empty text is no message
+abbrev pub MessagesAreRead : Type 0
+MessagesAreRead =
+    AreParts (codes "a{n}{m")
+    (Text (codes "a") ∷ (Expression (codes "n") ∷ (Text (codes "{m") ∷ (Text (codes "\n") ∷ []))))
+    × IsMessage [] None
+
 -- the newest frame has the identifier 1, and its first scope the reference 1; those of the next scope, and of the next
 -- frame, follow
 abbrev pub ShownAreNumbered : Type 0
@@ -75,7 +83,7 @@ ShownAreNumbered =
     × ((shown_scope 0 0 (record { name = []; variables = [] })).reference ≡ 1)
     × ((shown_scope 1 2 (record { name = []; variables = [] })).reference ≡ 19)
 
--- of two frames
+-- two frames are alive
 abbrev pub NumbersAreFound : Type 0
 NumbersAreFound =
     (map (frame_with 2) (0 ∷ 1 ∷ 2 ∷ 3 ∷ []) ≡ None ∷ Some 0 ∷ Some 1 ∷ None ∷ [])

@@ -17,34 +17,30 @@ pub fn member<'v>(arguments: Option<&'v Value>, key: &str) -> Option<&'v Value>
 pub fn text<'v>(arguments: Option<&'v Value>, key: &str) -> Option<&'v str>
     ensures { option_map (λ s. s.now) result ≡ text_at key.now (option_map (λ v. view v.now) arguments.entry) }
 {
-    arguments?.get(key)?.as_str()
+    member(arguments, key)?.as_str()
 }
 
 /// Returns the whole number at a key; `None` where there is none.
 pub fn whole(arguments: Option<&Value>, key: &str) -> Option<u64>
     ensures { result ≡ whole_at key.now (option_map (λ v. view v.now) arguments.entry) }
 {
-    arguments?.get(key)?.as_u64()
+    member(arguments, key)?.as_u64()
 }
 
 /// Returns the truth value at a key; `false` where there is none.
 pub fn truth(arguments: Option<&Value>, key: &str) -> bool
     ensures { result ≡ truth_at key.now (option_map (λ v. view v.now) arguments.entry) }
 {
-    match arguments {
-        Some(arguments) => arguments.get(key).and_then(Value::as_bool).unwrap_or(false),
-        None => false,
-    }
+    member(arguments, key)
+        .and_then(Value::as_bool)
+        .unwrap_or(false)
 }
 
 /// Returns the list at a key; an empty one where there is none.
 pub fn list<'v>(arguments: Option<&'v Value>, key: &str) -> &'v [Value]
     ensures { items_view result.now ≡ list_at key.now (option_map (λ v. view v.now) arguments.entry) }
 {
-    let Some(arguments) = arguments else {
-        return &[];
-    };
-    match arguments.get(key).and_then(Value::as_array) {
+    match member(arguments, key).and_then(Value::as_array) {
         Some(items) => items.as_slice(),
         None => &[],
     }

@@ -213,7 +213,7 @@ fn all_scopes(
     scopes: Vec<Scope>,
 ) -> Result<Vec<dap_bodies::Scope>, AllocError>
     requires near { frame < frame_limit }
-    requires few { length scopes.items ≤ 16 }
+    requires few { length scopes.items ≤ scope_limit }
     ensures { IfOk result (λ shown. map plain_shown_scope shown.items ≡
         shown_scopes frame 0 (map plain_scope scopes.items)) }
 {
@@ -229,7 +229,7 @@ fn all_scopes(
 /// Shows a scope.
 fn scope(frame: usize, index: usize, scope: Scope) -> dap_bodies::Scope
     requires near { frame < frame_limit }
-    requires few { index < 16 }
+    requires few { index < scope_limit }
     ensures { plain_shown_scope result ≡ shown_scope frame index (plain_scope scope) }
 {
     dap_bodies::Scope {

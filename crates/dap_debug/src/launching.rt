@@ -29,7 +29,7 @@ pub enum Unread {
     Folder,
     /// It must not be read.
     Forbidden,
-    /// For a reason that isn't known.
+    /// For another reason, as where it is no regular file or a read failed.
     Failed,
 }
 

@@ -3,7 +3,7 @@
 ghost use Rattle.dap_debug.specs.Laws.{WorkIsBalanced, RepliesAreBalanced, TextsAreKept, FramesAreFound, ScopesAreFound};
 ghost use Rattle.dap_debug.specs.Replies.{known_of};
 ghost use Rattle.dap_debug.specs.Sums.{EachEndsOnce};
-ghost use Rattle.dap_debug.specs.WorkedDebugger.{CommandsAreNamed, ModesFollow, TextsAreTold, HaltsAreTold, RulesAreRead, ShownAreNumbered, NumbersAreFound};
+ghost use Rattle.dap_debug.specs.WorkedDebugger.{CommandsAreNamed, ModesFollow, TextsAreTold, HaltsAreTold, RulesAreRead, ShownAreNumbered, NumbersAreFound, MessagesAreRead};
 ghost use Rattle.dap_debug.specs.WorkedRequests.{BreakpointIsSet, ExpressionsAreEvaluated, FramesAreAsked, ProgramIsLoaded};
 
 use crate::language::Language;
@@ -32,14 +32,15 @@ pub fn shown_laws()
     ensures scopes { ScopesAreFound }
 {}
 
-/// Examples of commands, modes, what is told of a run, hit conditions, identifiers and references, computed. It does
-/// nothing: its contract is the examples.
+/// Examples of commands, modes, what is told of a run, hit conditions, messages, identifiers and references, computed. It
+/// does nothing: its contract is the examples.
 pub fn worked_debugger()
     ensures commands { CommandsAreNamed }
     ensures modes { ModesFollow }
     ensures texts { TextsAreTold }
     ensures halts { HaltsAreTold }
     ensures rules { RulesAreRead }
+    ensures messages { MessagesAreRead }
     ensures numbered { ShownAreNumbered }
     ensures found { NumbersAreFound }
 {}

@@ -1,6 +1,8 @@
-use Rattle.std.proofs.Common.{refl, ◌∷◌, [], arith}
+use Rattle.std.proofs.Common.{◌≢◌, refl, inr, ◌∷◌, [], codes, arith}
 use Rattle.std.specs.Fmt.{digits}
 use Rattle.json.specs.Print.{escape_byte}
+use Rattle.std.proofs.lemmas.List.Elements.{All-cons, All-nil}
+use Rattle.dap_debug.specs.Breakpoints.{Lacks}
 use Rattle.dap_debug.proofs.Texts.{zero_in_front}
 use Rattle.dap_debug.proofs.laws.worked_debugger.Goals as goal
 
@@ -33,3 +35,16 @@ returns-clause-numbered c = (refl, refl, refl)
 
 pub returns-clause-found : goal.returns-clause-found
 returns-clause-found c = (refl, refl, refl)
+
+pub returns-clause-messages : goal.returns-clause-messages
+returns-clause-messages c =
+    ((codes "{m", (refl, before, inner), (refl, refl, inr ([], codes "m", refl, All-nil (λ b. b ≢ 123), last))), refl)
+  where
+    before : Lacks 123 (codes "a")
+    before = All-cons (λ b. b ≢ 123) 97 [] (λ is. absurd (omega (arith, is))) (All-nil (λ b. b ≢ 123))
+
+    inner : Lacks 125 (codes "n")
+    inner = All-cons (λ b. b ≢ 125) 110 [] (λ is. absurd (omega (arith, is))) (All-nil (λ b. b ≢ 125))
+
+    last : Lacks 125 (codes "m")
+    last = All-cons (λ b. b ≢ 125) 109 [] (λ is. absurd (omega (arith, is))) (All-nil (λ b. b ≢ 125))
