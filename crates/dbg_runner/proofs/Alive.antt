@@ -3,7 +3,6 @@ use Rattle.dbg_runner.proofs.Common.{[], add-one, ap, arith, at, Block, Bool, ca
 use Rattle.std.specs.Option.{option_map_or}
 use Rattle.pl0_meaning.specs.declared.RunFault.TheVariants.{StepLimit}
 use Rattle.pl0_meaning.specs.Values.{Configuration}
-use Rattle.pl0_meaning.specs.Laws.{PositionsAreBounded}
 
 -- nothing is alive after the end
 over : (b : Bool) → frames_of (led_to (if b then Faults StepLimit else Stuck)) ≡ []
@@ -22,14 +21,6 @@ runs_before main m zero le h = let e : m ≡ zero = omega (arith, le) in subst (
 runs_before main m (suc n) le h =
     ⊎_elim (λ (is : m ≡ suc n). subst (λ k. RunsAt main k) (sym is) h)
     (λ ne. runs_before main m n (omega (arith, le, ne)) (alive_before main n (at main n) h)) (cases_eq m (suc n))
-
--- a frame is alive up to the last position at most
-pub runs_bounded : PositionsAreBounded → (main : Block) (n : ℕ) → RunsAt main n → n ≤ last_position
-runs_bounded bounded main n h = by_frames (at main n) refl h
-  where
-    by_frames : (o : Option Configuration) → at main n ≡ o → 0 < length (frames_of o) → n ≤ last_position
-    by_frames None is h = absurd (omega (arith, h))
-    by_frames (Some c) is h = bounded main n c is
 
 -- the run doesn't end where it goes on
 pub not_over : (main : Block) (n : ℕ) → RunsAt main n → ¬ (at main n ≡ Some [])

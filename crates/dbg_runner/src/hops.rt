@@ -9,7 +9,6 @@ ghost use Rattle.dbg_runner.specs.Hops.{Hopped, last_due_up_to, standing, gone_b
 
 use crate::outputs::Outputs;
 use dbg_plan::{Advance, Debuggee, Mode};
-use pl0_meaning::meaning_laws;
 
 /// Goes back to the position `to`, or to one before it, and considers where the debuggee stands then. Returns whether a
 /// breakpoint is due there, with counts from there.
@@ -39,7 +38,6 @@ fn hop(debuggee: &mut Debuggee, outputs: &mut Outputs, limit: u64) -> bool
     ensures hopped { Hopped limit debuggee.old result debuggee.new }
     ensures room { outputs.new ≡ outputs.old }
 {
-    meaning_laws();
     let advance = outputs.run(debuggee, limit, 0, Mode::Continue);
     outputs.clear();
     match advance {

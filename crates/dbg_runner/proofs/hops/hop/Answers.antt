@@ -1,12 +1,7 @@
 use Rattle.dbg_plan.specs.declared.mode.Mode.TheVariants.{Continue}
-use Rattle.dbg_runner.proofs.Common.{Advance, ap, arith, debugged_program, length, RanFrom, Some, subst}
+use Rattle.dbg_runner.proofs.Common.{Advance, ap, arith, length, RanFrom, Some, subst}
 use Rattle.dbg_runner.proofs.Hopping.{hops_to_limit, hops, never_over, never_faults}
-use Rattle.dbg_runner.proofs.Alive.{runs_bounded}
 use Rattle.dbg_runner.proofs.hops.hop.Goals as goal
-
-pub run-advance-requires-clause-bounded : goal.run-advance-requires-clause-bounded
-run-advance-requires-clause-bounded c =
-    runs_bounded c.meaning_laws.ensures.bounded (debugged_program c.args.debuggee.now) c.args.limit c.requires.runs
 
 pub run-advance-requires-clause-room : goal.run-advance-requires-clause-room
 run-advance-requires-clause-room c =
