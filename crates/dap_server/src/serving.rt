@@ -102,11 +102,7 @@ pub(crate) fn answer_all<R: Responder, O: Sink>(
         };
         let outcome = answer(rt, alloc, decoder.content(front), responder, next, output);
         decoder.pass(front);
-        let client = match outcome {
-            Ok(client) => client,
-            Err(fault) => return Err(fault),
-        };
-        match client {
+        match outcome? {
             Client::Stays => {}
             Client::Left => return Ok(Client::Left),
         }
@@ -176,10 +172,7 @@ fn answer_value<R: Responder, O: Sink>(
         return Ok(Client::Stays);
     };
     let reply = responder.respond(alloc, command, value.get("arguments"))?;
-    let bytes = match frames_of(alloc, reply, seq, command, next) {
-        Ok(bytes) => bytes,
-        Err(fault) => return Err(fault),
-    };
+    let bytes = frames_of(alloc, reply, seq, command, next)?;
     match write_all(rt, output, bytes.as_slice()) {
         Ok(()) => Ok(client_after(command)),
         Err(WriteFailed) => Err(ServeFault::Output),

@@ -105,10 +105,7 @@ fn tell<O: Sink>(
     ensures failed { IfErr result (λ fault. HasFailed fault (O.output output.old).failures
         (O.output output.new).failures) }
 {
-    let frames = match frames_of_events(alloc, events, next) {
-        Ok(frames) => frames,
-        Err(fault) => return Err(fault),
-    };
+    let frames = frames_of_events(alloc, events, next)?;
     match write_all(rt, output, frames.as_slice()) {
         Ok(()) => Ok(()),
         Err(WriteFailed) => Err(ServeFault::Output),

@@ -4,9 +4,9 @@ use Rattle.dap_server.specs.Messages.{plain_event}
 use Rattle.dap_server.proofs.Adding.{events_from-length}
 use Rattle.dap_server.proofs.working.tell.Goals as goal
 
-pub returns-in-Ok-write_all-clause-ok : goal.returns-in-Ok-write_all-clause-ok
-returns-in-Ok-write_all-clause-ok g c =
-    let made = c.in-Ok.ensures.ok in
+pub returns-in-Ok-clause-ok : goal.returns-in-Ok-clause-ok
+returns-in-Ok-clause-ok g c =
+    let made = c.in_ok-frames.ensures.ok in
     let events = map plain_event c.args.events.items in
     record {
       texts = made.texts;
@@ -14,5 +14,5 @@ returns-in-Ok-write_all-clause-ok g c =
       numbered = made.numbered ∙ ap (λ k. c.args.next.now + k) (events_from-length c.args.next.now events);
       written =
           subst (Appends (g.O.Sink.output c.args.output.now).written (g.O.Sink.output c.write_all.new.output).written)
-          (c.as_slice.ensures.value ∙ made.bytes_are) c.in-Ok-write_all.ensures.written;
+          (c.as_slice.ensures.value ∙ made.bytes_are) c.in-Ok.ensures.written;
     }
