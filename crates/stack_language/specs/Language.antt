@@ -30,9 +30,13 @@ plain_state s = record {
   variables = s.variables;
 }
 
+-- how many variables there are, `a` to `z`
+abbrev pub variable_count : ℕ
+variable_count = 26
+
 -- the state before the first line
 abbrev pub IsInitial : PlainState → Type 0
-IsInitial s = s ≡ record { line = 0; numbers = []; returns = []; variables = replicate 26 (pos 0) }
+IsInitial s = s ≡ record { line = 0; numbers = []; returns = []; variables = replicate variable_count (pos 0) }
 
 -- the value of a variable, of which `a` is 0
 abbrev pub value_of : ℕ → PlainState → ℤ
@@ -109,9 +113,9 @@ calculates operator s (right ∷ []) = fails TooFew s
 calculates operator s (right ∷ left ∷ below) = made s below (result_of operator left right)
 
 -- the newest call returns; outside of a call the program ends
-abbrev pub goes_back : PlainState → List ℕ → Done
-goes_back s [] = record { outcome = Ended; state = s }
-goes_back s (line ∷ older) = jumps line (record s { returns = older })
+abbrev pub returns_from_call : PlainState → List ℕ → Done
+returns_from_call s [] = record { outcome = Ended; state = s }
+returns_from_call s (line ∷ older) = jumps line (record s { returns = older })
 
 abbrev pub done : Instruction → PlainState → Done
 done Nothing s = goes_on Went s
@@ -125,7 +129,7 @@ done (JumpZero line) s = takes_one s s.numbers (λ top t. if int_eq top (pos 0) 
 done (Call line) s =
     if nat_lt (length s.returns) most then jumps line (record s { returns = (s.line + 1) ∷ s.returns })
     else fails TooMany s
-done Return s = goes_back s s.returns
+done Return s = returns_from_call s s.returns
 
 -- ---- steps
 

@@ -12,8 +12,8 @@ use Rattle.debuggee.specs.Plain.{PlainEvaluated, Value, NoValue}
 use Rattle.stack_language.specs.declared.machine.Machine.{Machine}
 use Rattle.stack_language.specs.declared.program.Instruction.{Instruction}
 use Rattle.stack_language.specs.declared.program.Instruction.TheVariants as instruction
-use Rattle.stack_language.specs.Text.{AreRead, IsFirstMistake, variable_named}
-use Rattle.stack_language.specs.Language.{PlainState, IsInitial, plain_state, value_of}
+use Rattle.stack_language.specs.Text.{AreRead, IsFirstMistake, first_letter, variable_named}
+use Rattle.stack_language.specs.Language.{PlainState, IsInitial, plain_state, value_of, variable_count}
 
 -- whether an instruction does something: a line that is empty, or a comment, has one that doesn't
 abbrev pub does_something : Instruction → Bool
@@ -73,7 +73,8 @@ sees = record {
 
 -- ---- what a client is shown
 
--- A program is what the lines of its text are, before its first step; a mistake is told of the first line that is none.
+-- A program is what the lines of its text are, before its first step; a mistake is told of the first line that is no
+-- instruction.
 abbrev pub reads_as : List ℕ → Result Machine (List ℕ) → Type 0
 reads_as text (Ok m) = AreRead (lines text) m.program.items × IsInitial (plain_state m.state)
 reads_as text (Err mistake) =
@@ -100,12 +101,12 @@ frame_of m index frame =
     }
 
 abbrev pub variable_of : PlainState → ℕ → PlainVariable
-variable_of s variable = record { name = (97 + variable) ∷ []; value = signed_decimal (value_of variable s) }
+variable_of s variable = record { name = (first_letter + variable) ∷ []; value = signed_decimal (value_of variable s) }
 
 -- each frame has one scope, with all variables
 abbrev pub variables_of : Machine → ℕ → List PlainScope → Type 0
 variables_of m frame scopes =
     scopes ≡ record {
       name = codes "variables";
-      variables = map (variable_of (plain_state m.state)) (range_with_len 0 26);
+      variables = map (variable_of (plain_state m.state)) (range_with_len 0 variable_count);
     } ∷ []

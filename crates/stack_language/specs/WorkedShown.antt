@@ -1,10 +1,10 @@
 -- States worked examples: what a debugger sees of a state, and what a client is shown. Each was computed from the
 -- definitions.
-use Rattle.std.specs.Prelude.{◌≡◌, ℕ, pos, negsuc, true, false, List, [], ◌∷◌, map, codes, None, Some}
-use Rattle.debuggee.specs.Plain.{Value}
-use Rattle.dap_debug.specs.Shown.{PlainFrame, PlainVariable}
+use Rattle.std.specs.Prelude.{◌≡◌, ℕ, pos, negsuc, true, false, List, [], ◌∷◌, length, map, replicate, codes, None, Some}
+use Rattle.debuggee.specs.Plain.{Value, NoValue}
+use Rattle.dap_debug.specs.Shown.{PlainFrame, PlainScope, PlainVariable}
 use Rattle.stack_language.specs.declared.machine.Machine.{Machine}
-use Rattle.stack_language.specs.Shown.{evaluated, first_place, frame_of, has_instruction, sees, variable_of}
+use Rattle.stack_language.specs.Shown.{evaluated, first_place, frame_of, has_instruction, sees, variable_of, variables_of}
 use Rattle.stack_language.specs.Text.{variable_named}
 use Rattle.stack_language.specs.WorkedSteps.{program, state}
 
@@ -20,6 +20,14 @@ ValuesHold =
     map evaluated (pos 0 ∷ pos 5 ∷ negsuc 6 ∷ [])
     ≡ Value (codes "0") false ∷ Value (codes "5") true ∷ Value (codes "-7") true ∷ []
 
+-- a name means the same in each frame
+abbrev pub ExpressionsAreSeen : Type 0
+ExpressionsAreSeen =
+    (m : Machine) → m.state.variables ≡ pos 5 ∷ negsuc 6 ∷ replicate 24 (pos 0)
+    → (map (sees.value_of m 0) (codes "b" ∷ codes "z" ∷ codes "B" ∷ [])
+    ≡ Value (codes "-7") true ∷ Value (codes "0") false ∷ NoValue (codes "no variable has this name") ∷ [])
+    × (sees.value_of m 1 (codes "b") ≡ Value (codes "-7") true)
+
 abbrev pub variable : List ℕ → List ℕ → PlainVariable
 variable name value = record { name = name; value = value }
 
@@ -28,12 +36,26 @@ VariablesAreShown =
     map (variable_of (state 0 [] [] (pos 5 ∷ negsuc 6 ∷ []))) (0 ∷ 1 ∷ 2 ∷ [])
     ≡ variable (codes "a") (codes "5") ∷ variable (codes "b") (codes "-7") ∷ variable (codes "c") (codes "0") ∷ []
 
+-- a frame has one scope, with all variables
+abbrev pub ScopesAreShown : Type 0
+ScopesAreShown =
+    (m : Machine) (scopes : List PlainScope) → variables_of m 0 scopes
+    → (map (λ scope. scope.name) scopes ≡ codes "variables" ∷ [])
+    × (map (λ scope. length scope.variables) scopes ≡ 26 ∷ [])
+
 -- a program stops at each line but an empty one
 abbrev pub LinesAreSeen : Type 0
 LinesAreSeen =
     (m : Machine) → m.program.items ≡ program
     → map (has_instruction m) (0 ∷ 1 ∷ 2 ∷ 3 ∷ 4 ∷ 5 ∷ 6 ∷ [])
     ≡ true ∷ true ∷ true ∷ false ∷ true ∷ true ∷ false ∷ []
+
+-- where an instruction comes next, an empty line, and none, behind the last line
+abbrev pub PlacesAreSeen : Type 0
+PlacesAreSeen =
+    (m : Machine) → m.program.items ≡ program
+    → (m.state.line ≡ 2 → sees.place_of m ≡ Some 2) × (m.state.line ≡ 3 → sees.place_of m ≡ None)
+    × (m.state.line ≡ 6 → sees.place_of m ≡ None)
 
 -- A breakpoint that is asked for at an empty line is set at the next one; behind the last line none is set. The client
 -- counts lines from 1.

@@ -1,9 +1,9 @@
 -- States worked examples: which instruction a line is. Each was computed from the definitions.
 use Rattle.std.specs.Prelude.{◌≡◌, negsuc, [], ◌∷◌, map, codes, None, Some}
 use Rattle.stack_language.specs.declared.parsing.Operand.{Operand}
-use Rattle.stack_language.specs.declared.program.Instruction.TheVariants.{Push, Load, Store, Calculate, Print, Jump, JumpZero, Call, Return}
+use Rattle.stack_language.specs.declared.program.Instruction.TheVariants.{Nothing, Push, Load, Store, Calculate, Print, Jump, JumpZero, Call, Return}
 use Rattle.stack_language.specs.declared.program.Operator.TheVariants.{Add, Sub, Mul, Div}
-use Rattle.stack_language.specs.Text.{IsFirstMistake, IsNumber, IsTarget, with_operand, without_operand}
+use Rattle.stack_language.specs.Text.{AreRead, IsFirstMistake, IsLine, IsNumber, IsTarget, with_operand, without_operand}
 
 -- names without an operand; `push` has one, and no name has a capital
 abbrev pub NamesMeanAlone : Type 0
@@ -30,6 +30,12 @@ abbrev pub OperandsAreRead : Type 0
 OperandsAreRead =
     IsNumber (codes "-5") (Some (negsuc 4)) × IsNumber (codes "5x") None × IsTarget (codes "3") (Some 2)
     × IsTarget (codes "0") None
+
+-- a comment, an instruction with an operand between blanks, and one without; no instruction has two operands
+abbrev pub InstructionsAreRead : Type 0
+InstructionsAreRead =
+    AreRead (codes "; a" ∷ codes " push -5 " ∷ codes "add" ∷ []) (Nothing ∷ Push (negsuc 4) ∷ Calculate Add ∷ [])
+    × IsLine (codes "push 1 2") None
 
 -- a blank line, a comment, an instruction, and the first mistake
 abbrev pub LinesAreRead : Type 0

@@ -1,8 +1,8 @@
 //! Worked examples of the language.
 
 ghost use Rattle.stack_language.specs.WorkedSteps.{LinesFollow, NumbersAreCalculated, NumbersAreMissing, NumbersMove, QuotientsAreRounded, ResultsOverflow, RoomIsLimited, StepsFollow, StepsTell, ZeroJumps};
-ghost use Rattle.stack_language.specs.WorkedText.{LinesAreRead, NamesMeanAlone, NamesMeanWithOperand, OperandsAreRead};
-ghost use Rattle.stack_language.specs.WorkedShown.{FramesAreShown, LinesAreSeen, NamesMean, PlacesAreFound, ValuesHold, VariablesAreShown};
+ghost use Rattle.stack_language.specs.WorkedText.{InstructionsAreRead, LinesAreRead, NamesMeanAlone, NamesMeanWithOperand, OperandsAreRead};
+ghost use Rattle.stack_language.specs.WorkedShown.{ExpressionsAreSeen, FramesAreShown, LinesAreSeen, NamesMean, PlacesAreFound, PlacesAreSeen, ScopesAreShown, ValuesHold, VariablesAreShown};
 
 /// What each instruction does, which fail, and the steps of a program, computed from the definitions. A wrong definition
 /// doesn't meet them. It does nothing: its contract is the examples.
@@ -24,8 +24,11 @@ pub fn worked_steps()
 pub fn worked_views()
     ensures names { NamesMean }
     ensures values { ValuesHold }
+    ensures expressions { ExpressionsAreSeen }
     ensures variables { VariablesAreShown }
+    ensures scopes { ScopesAreShown }
     ensures lines { LinesAreSeen }
+    ensures seen { PlacesAreSeen }
     ensures places { PlacesAreFound }
     ensures frames { FramesAreShown }
 {}
@@ -36,5 +39,6 @@ pub fn worked_texts()
     ensures alone { NamesMeanAlone }
     ensures operated { NamesMeanWithOperand }
     ensures operands { OperandsAreRead }
+    ensures instructions { InstructionsAreRead }
     ensures lines { LinesAreRead }
 {}

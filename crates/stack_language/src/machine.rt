@@ -17,7 +17,7 @@ pub struct Machine {
 
 impl Machine {
     /// Returns a machine before the first line.
-    pub fn new(alloc: Global, program: Vec<Instruction>) -> Machine
+    pub(crate) fn new(alloc: Global, program: Vec<Instruction>) -> Machine
         ensures initial { IsInitial (plain_state result.state) }
         ensures program { result.program ≡ program }
     {
@@ -28,7 +28,7 @@ impl Machine {
     }
 
     /// Returns the state.
-    pub fn state(&self) -> &State
+    pub(crate) fn state(&self) -> &State
         ensures { result.now ≡ self.now.state }
     {
         &self.state
@@ -39,7 +39,7 @@ impl Machine {
     /// # Errors
     ///
     /// An allocation failed.
-    pub fn take_step(&mut self) -> Result<Outcome, AllocError>
+    pub(crate) fn take_step(&mut self) -> Result<Outcome, AllocError>
         ensures { IfOk result (λ outcome. Steps self.old outcome self.new) }
     {
         let Some(instruction) = self.program.get(self.state.line).copied() else {
@@ -56,7 +56,7 @@ impl Machine {
             Instruction::Jump(line) => Ok(state.jump(line)),
             Instruction::JumpZero(line) => Ok(state.jump_if_zero(line)),
             Instruction::Call(line) => state.call(line),
-            Instruction::Return => Ok(state.go_back()),
+            Instruction::Return => Ok(state.return_from_call()),
         }
     }
 

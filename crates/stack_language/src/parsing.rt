@@ -8,7 +8,7 @@ ghost use Rattle.stack_language.specs.Text.{IsLine, IsNumber, IsOperand, IsParse
 use crate::program::{Instruction, Operator};
 use std::alloc::{AllocError, Global};
 
-/// A program, or the first line that is none of it, counted from 1.
+/// A program, or the first line that is no instruction, counted from 1.
 #[derive(Drop)]
 pub enum Parsed {
     Program(Vec<Instruction>),

@@ -9,7 +9,9 @@
 //! | `add`, `sub`, `mul`, `div` | takes two numbers, and puts what they make |
 //! | `print` | takes a number, and prints it |
 //! | `jump L`, `jzero L` | goes on at a line, always or where the number that it takes is 0 |
-//! | `call L`, `ret` | goes on at a line, and comes back; `ret` outside of a call ends the program, as its last line does |
+//! | `call L`, `ret` | goes on at a line, and comes back |
+//!
+//! `ret` outside of a call ends the program, and so does going on at a line behind the last one.
 
 /// How many variables there are, `a` to `z`.
 pub const VARIABLES: usize = 26;
@@ -31,7 +33,7 @@ pub enum Instruction {
     Return,
 }
 
-/// What two numbers are taken by.
+/// How two numbers are made into one.
 #[derive(Clone, Copy)]
 pub enum Operator {
     Add,

@@ -200,7 +200,7 @@ impl State {
     }
 
     /// Returns from the newest call. Outside of a call the program ends.
-    pub fn go_back(&mut self) -> Outcome
+    pub fn return_from_call(&mut self) -> Outcome
         ensures { Does Return self.old result self.new }
     {
         match self.returns.pop() {

@@ -1,10 +1,10 @@
-use Rattle.std.specs.Prelude.{refl, ◌<◌, length, List, ℕ, [], ◌∷◌, codes, pos, None, Some}
+use Rattle.std.specs.Prelude.{refl, ◌<◌, length, List, ℕ, [], ◌∷◌, codes, pos, negsuc, None, Some}
 use Rattle.std.specs.Char.{is_whitespace}
 use Rattle.std.specs.Str.{NoCharPasses}
 use Rattle.std.proofs.Common.{rules}
 use Rattle.stack_language.specs.declared.program.Instruction.TheVariants.{Nothing, Jump}
 use Rattle.stack_language.specs.Text.{HasWord, IsBlank, IsOperand}
-use Rattle.stack_language.specs.Text.IsLine.{Blank, Comment, Alone, Operated}
+use Rattle.stack_language.specs.Text.IsLine.{Blank, Comment, Alone, Operated, TooLong}
 use Rattle.stack_language.proofs.laws.worked_texts.Goals as goal
 
 pub returns-clause-alone : goal.returns-clause-alone
@@ -22,6 +22,65 @@ only word some within = ([], search rules, some, blank, within, ([], search rule
 three : IsOperand (codes "3") record { number = Some (pos 3); variable = None; line = Some 2 }
 three = record { number_is = search rules; variable_is = refl; line_is = search rules }
 
+space : IsBlank (codes " ")
+unfolding lib.Utf8.encode
+space = (codes " ", refl, (refl, tt))
+
+minus_five : IsOperand (codes "-5") record { number = Some (negsuc 4); variable = None; line = None }
+minus_five = record { number_is = search rules; variable_is = refl; line_is = search rules }
+
+pub returns-clause-instructions : goal.returns-clause-instructions
+unfolding lib.Utf8.encode
+returns-clause-instructions c = (
+  (
+    Comment _ _ comment refl,
+    (
+      Operated (codes "push") _ _ _ _ push (search rules) operand space minus_five,
+      (Alone (codes "add") _ add (search rules) blank, tt),
+    ),
+  ),
+  TooLong (codes "push") _ _ _ _ _ long (search rules) one two,
+)
+  where
+    four : NoCharPasses is_whitespace (codes "push")
+    four = (codes "push", refl, (refl, (refl, (refl, (refl, tt)))))
+
+    comment : HasWord (codes "; a") (codes ";") (codes " a")
+    comment =
+        ([], refl, search rules, blank, (codes ";", refl, (refl, tt)), (codes "a", λ _. (32, refl, refl, search rules)))
+
+    push : HasWord (codes " push -5 ") (codes "push") (codes " -5 ")
+    push = (codes " ", refl, search rules, space, four, (codes "-5 ", λ _. (32, refl, refl, search rules)))
+
+    operand : HasWord (codes " -5 ") (codes "-5") (codes " ")
+    operand = (
+      codes " ",
+      refl,
+      search rules,
+      space,
+      (codes "-5", refl, (refl, (refl, tt))),
+      ([], λ _. (32, refl, refl, search rules)),
+    )
+
+    add : HasWord (codes "add") (codes "add") []
+    add = only _ (search rules) (codes "add", refl, (refl, (refl, (refl, tt))))
+
+    long : HasWord (codes "push 1 2") (codes "push") (codes " 1 2")
+    long = ([], refl, search rules, blank, four, (codes "1 2", λ _. (32, refl, refl, search rules)))
+
+    one : HasWord (codes " 1 2") (codes "1") (codes " 2")
+    one = (
+      codes " ",
+      refl,
+      search rules,
+      space,
+      (codes "1", refl, (refl, tt)),
+      (codes "2", λ _. (32, refl, refl, search rules)),
+    )
+
+    two : HasWord (codes " 2") (codes "2") []
+    two = (codes " ", refl, search rules, space, (codes "2", refl, (refl, tt)), ([], search rules))
+
 pub returns-clause-lines : goal.returns-clause-lines
 unfolding lib.Utf8.encode
 returns-clause-lines c = (
@@ -35,9 +94,6 @@ returns-clause-lines c = (
   refl,
 )
   where
-    space : IsBlank (codes " ")
-    space = (codes " ", refl, (refl, tt))
-
     comment : HasWord (codes ";a") (codes ";a") []
     comment = only _ (search rules) (codes ";a", refl, (refl, (refl, tt)))
 

@@ -11,12 +11,23 @@ pub returns-clause-values : goal.returns-clause-values
 unfolding digits
 returns-clause-values c = refl
 
+pub returns-clause-expressions : goal.returns-clause-expressions
+unfolding digits
+returns-clause-expressions c m variables = rw variables (refl, refl)
+
 pub returns-clause-variables : goal.returns-clause-variables
 unfolding digits
 returns-clause-variables c = refl
 
+pub returns-clause-scopes : goal.returns-clause-scopes
+returns-clause-scopes c m scopes are = rw are (refl, refl)
+
 pub returns-clause-lines : goal.returns-clause-lines
 returns-clause-lines c m program = rw program refl
+
+pub returns-clause-seen : goal.returns-clause-seen
+returns-clause-seen c m program =
+    (λ at. rw (program, at) refl, λ at. rw (program, at) refl, λ at. rw (program, at) refl)
 
 pub returns-clause-places : goal.returns-clause-places
 returns-clause-places c m program = (
