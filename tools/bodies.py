@@ -8,6 +8,7 @@ from typing import NamedTuple
 from edits import Edit
 
 FUNCTION = re.compile(r"( *)(?:pub(?:\([^)]*\))? )?(?:const )?fn (\w+)")
+IMPL = re.compile(r"impl(?:<.*>)? (?:.* for )?(\w+)")
 
 
 class Change(NamedTuple):
@@ -20,17 +21,19 @@ class Change(NamedTuple):
 
 
 class Function(NamedTuple):
-    """A function, by its file and its name."""
+    """A function, by its file, the type whose `impl` stands last before it, if one does, and its name."""
 
     file: str
+    type: str
     name: str
 
     def is_named_by(self, path: str, crate: str) -> bool:
         """Whether the prover calls the function so, or a closure in it. A method bears the name of its type, which may
-        stand in a module around that of the file."""
+        stand in another module."""
         module = [part for part in pathlib.PurePath(self.file).with_suffix("").parts[1:] if part not in ("lib", "main")]
         around = ["::".join([crate, *module[:depth]]) for depth in range(len(module) + 1)]
-        name = rf"(?:{'|'.join(around)})::(?:[^:]+::)?(?:{self.name}|fn::{self.name}::.*)"
+        of_type = rf"|{crate}::(?:[a-z]\w*::)*{self.type}::" if self.type else ""
+        name = rf"(?:(?:{'|'.join(around)})::(?:[^:]+::)?{of_type})(?:{self.name}|fn::{self.name}::.*)"
         return re.fullmatch(name, path) is not None
 
 
@@ -95,11 +98,13 @@ def bodies_of(lines: list[str]) -> list[tuple[str, int, int]]:
 
 def function_at(change: Change, crate: pathlib.Path) -> Function | None:
     """The function in whose body a change stands, if its name is the only one of its file."""
-    bodies = bodies_of((crate / change.file).read_text(encoding="utf-8").splitlines())
+    source = (crate / change.file).read_text(encoding="utf-8").splitlines()
+    bodies = bodies_of(source)
     around = [name for name, start, end in bodies if start < change.line < end]
     if len(around) != 1 or sum(name == around[0] for name, _, _ in bodies) != 1:
         return None
-    return Function(change.file, around[0])
+    types = [head[1] for head in map(IMPL.match, source[:change.line]) if head]
+    return Function(change.file, types[-1] if types else "", around[0])
 
 
 def edit_of_bodies(edit: Edit, crate: pathlib.Path) -> BodyEdit | None:
