@@ -36,7 +36,7 @@ A debug adapter for PL/0, the program `pl0`, and files for editors.
 This is what `make install` does. `~/.local/bin` has to be in your `PATH`, which `echo $PATH` shows: Debian puts it there
 when you log in next, now that the folder exists. `docs/EDITORS.md` says what to do in each editor; what it calls
 `out/pl0.vsix` is `editors/pl0.vsix` here, and `editors/listen.py` is `bin/pl0dap-listen`. `docs/PL0.md` describes the
-language, and `docs/TEACHING.md` has lessons, of which 2 and 5 need the repository too. Where a link leads to no file here,
+language, and `docs/TEACHING.md` has lessons, of which 1, 2 and 5 need the repository too. Where a link leads to no file here,
 it leads to a page of the repository. The programs need glibc {glibc} or later, `pl0dap-listen` Python 3.8 or later.
 
 To remove it:

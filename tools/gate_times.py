@@ -3,9 +3,9 @@
 
 usage: gate_times.py CRATE..
 
-Prints a row of docs/GATE.md for each crate: processor seconds, user and system, of its proof from nothing, of its proof
-with its tests from nothing and the run of these, of its must-fail edits and their number, of building and running a
-program, and of all together. Each is measured with one job on a copy of the crate, over what is kept of the crates
+Prints a row for each crate: processor seconds, user and system, of its proof from nothing, of its proof with its tests
+from nothing and the run of these, of its must-fail edits and their number, of building and running a program, and of
+all together. Each is measured with one job on a copy of the crate, over what is kept of the crates
 below, which are proved first where they are not. The first edit costs a proof of its own. The gate builds a program by
 a second compiler too, which is not measured. The status is 1 where a part fails, or where a crate takes over 10 minutes
 without its edits.
