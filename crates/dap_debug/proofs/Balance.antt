@@ -229,19 +229,19 @@ sets first_place (Some a) p arguments stood stands reply at is =
 no_events : (reply says : PlainReply) → reply ≡ says → says.events ≡ [] → reply.events ≡ []
 no_events reply says is none = ap (λ (r : PlainReply). r.events) is ∙ none
 
-scopes_quiet : {S : Type 0} (variables_of : S → ℕ → List PlainScope → Type 0) (frame : Option ℕ) (a : S)
-    (reply : PlainReply) → ShowsScopes variables_of frame a reply → reply.events ≡ []
-scopes_quiet variables_of None a reply is = no_events reply _ is.1 refl
-scopes_quiet variables_of (Some frame) a reply is = no_events reply _ is.2 refl
+scopes_quiet : {S : Type 0} (scopes_of : S → ℕ → List PlainScope → Type 0) (frame : Option ℕ) (a : S)
+    (reply : PlainReply) → ShowsScopes scopes_of frame a reply → reply.events ≡ []
+scopes_quiet scopes_of None a reply is = no_events reply _ is.1 refl
+scopes_quiet scopes_of (Some frame) a reply is = no_events reply _ is.2 refl
 
 scope_quiet : (scope : Option PlainScope) (reply : PlainReply) → ShowsScope scope reply → reply.events ≡ []
 scope_quiet None reply is = no_events reply _ is.1 refl
 scope_quiet (Some scope) reply is = no_events reply _ is refl
 
-variables_quiet : {S : Type 0} (variables_of : S → ℕ → List PlainScope → Type 0) (frame : Option ℕ) (index : ℕ) (a : S)
-    (reply : PlainReply) → ShowsVariables variables_of frame index a reply → reply.events ≡ []
-variables_quiet variables_of None index a reply is = no_events reply _ is.1 refl
-variables_quiet variables_of (Some frame) index a reply is = scope_quiet (slice_get is.0 index) reply is.2
+variables_quiet : {S : Type 0} (scopes_of : S → ℕ → List PlainScope → Type 0) (frame : Option ℕ) (index : ℕ) (a : S)
+    (reply : PlainReply) → ShowsVariables scopes_of frame index a reply → reply.events ≡ []
+variables_quiet scopes_of None index a reply is = no_events reply _ is.1 refl
+variables_quiet scopes_of (Some frame) index a reply is = scope_quiet (slice_get is.0 index) reply is.2
 
 value_quiet : (evaluated : PlainEvaluated) (reply : PlainReply) → reply ≡ reply_of evaluated → reply.events ≡ []
 value_quiet (Value text holds) reply is = no_events reply _ is refl
@@ -254,30 +254,30 @@ evaluate_quiet sees (Some expression) None a reply is = no_events reply _ is.1 r
 evaluate_quiet sees None frame a reply is = no_events reply _ is.1 refl
 
 shows_quiet : {S : Type 0} (sees : Sight S) (frame_of : S → ℕ → PlainFrame → Type 0)
-    (variables_of : S → ℕ → List PlainScope → Type 0) (asked : Question) (arguments : Option Data) (path : List ℕ)
-    (a : S) (reply : PlainReply) → Shows sees frame_of variables_of asked arguments path a reply → reply.events ≡ []
-shows_quiet sees frame_of variables_of question.StackTrace arguments path a reply is =
+    (scopes_of : S → ℕ → List PlainScope → Type 0) (asked : Question) (arguments : Option Data) (path : List ℕ)
+    (a : S) (reply : PlainReply) → Shows sees frame_of scopes_of asked arguments path a reply → reply.events ≡ []
+shows_quiet sees frame_of scopes_of question.StackTrace arguments path a reply is =
     no_events reply _ is.reply_is refl
-shows_quiet sees frame_of variables_of question.Scopes arguments path a reply is =
-    scopes_quiet variables_of (frame_asked (min (sees.depth_of a) frame_limit) arguments) a reply is
-shows_quiet sees frame_of variables_of question.Variables arguments path a reply is =
-    variables_quiet variables_of (frame_of_reference (sees.depth_of a) (reference_asked arguments))
+shows_quiet sees frame_of scopes_of question.Scopes arguments path a reply is =
+    scopes_quiet scopes_of (frame_asked (min (sees.depth_of a) frame_limit) arguments) a reply is
+shows_quiet sees frame_of scopes_of question.Variables arguments path a reply is =
+    variables_quiet scopes_of (frame_of_reference (sees.depth_of a) (reference_asked arguments))
     (index_of_reference (reference_asked arguments)) a reply is
-shows_quiet sees frame_of variables_of question.Evaluate arguments path a reply is =
+shows_quiet sees frame_of scopes_of question.Evaluate arguments path a reply is =
     evaluate_quiet sees (text_at (codes "expression") arguments) (frame_to_evaluate (sees.depth_of a) arguments) a reply
     is
 
 inspects_quiet : {S : Type 0} (sees : Sight S) (frame_of : S → ℕ → PlainFrame → Type 0)
-    (variables_of : S → ℕ → List PlainScope → Type 0) (p : Phase S) (asked : Question) (arguments : Option Data)
-    (path : List ℕ) (reply : PlainReply) → ShowsFrom sees frame_of variables_of p asked arguments path reply
+    (scopes_of : S → ℕ → List PlainScope → Type 0) (p : Phase S) (asked : Question) (arguments : Option Data)
+    (path : List ℕ) (reply : PlainReply) → ShowsFrom sees frame_of scopes_of p asked arguments path reply
     → reply.events ≡ []
-inspects_quiet sees frame_of variables_of (phase.Stopped a) asked arguments path reply is =
-    shows_quiet sees frame_of variables_of asked arguments path a reply is
-inspects_quiet sees frame_of variables_of (phase.Running a how) asked arguments path reply is =
+inspects_quiet sees frame_of scopes_of (phase.Stopped a) asked arguments path reply is =
+    shows_quiet sees frame_of scopes_of asked arguments path a reply is
+inspects_quiet sees frame_of scopes_of (phase.Running a how) asked arguments path reply is =
     no_events reply _ is.1 refl
-inspects_quiet sees frame_of variables_of (phase.Configuring a stop_on_entry) asked arguments path reply is =
+inspects_quiet sees frame_of scopes_of (phase.Configuring a stop_on_entry) asked arguments path reply is =
     no_events reply _ is.1 refl
-inspects_quiet sees frame_of variables_of phase.NoProgram asked arguments path reply is = no_events reply _ is.1 refl
+inspects_quiet sees frame_of scopes_of phase.NoProgram asked arguments path reply is = no_events reply _ is.1 refl
 
 explains_quiet : {S : Type 0} (p : Phase S) (fault : Option (List ℕ)) (reply : PlainReply)
     → ExplainsFrom p fault reply → reply.events ≡ []
@@ -312,7 +312,7 @@ replies_balanced known command.Terminate arguments stood stands reply is =
     let all = ends_of stood.phase in
     omega (arith, told, owes, all)
 replies_balanced known (command.Inspect asked) arguments stood stands reply is =
-    let none = inspects_quiet known.sees known.frame_of known.variables_of stood.phase asked arguments stood.path reply
+    let none = inspects_quiet known.sees known.frame_of known.scopes_of stood.phase asked arguments stood.path reply
     is.0 in
     let so = still stood stands reply.events stood.phase none is.1 refl in
     omega (arith, so)

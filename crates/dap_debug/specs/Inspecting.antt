@@ -88,9 +88,9 @@ scopes_reply frame all = success (Some (scopes (shown_scopes frame 0 (take scope
 
 -- the scopes of a frame are shown; where it isn't alive, or too far down, that is refused
 abbrev pub ShowsScopes : {S : Type 0} → (S → ℕ → List PlainScope → Type 0) → Option ℕ → S → PlainReply → Type 0
-ShowsScopes variables_of None program reply = Refuses reply
-ShowsScopes variables_of (Some frame) program reply =
-    (all : List PlainScope) × variables_of program frame all × (reply ≡ scopes_reply frame all)
+ShowsScopes scopes_of None program reply = Refuses reply
+ShowsScopes scopes_of (Some frame) program reply =
+    (all : List PlainScope) × scopes_of program frame all × (reply ≡ scopes_reply frame all)
 
 -- what is shown of a variable
 abbrev pub shown_variable : PlainVariable → ShownVariable
@@ -108,9 +108,9 @@ reference_asked arguments = unwrap_or (whole_at (codes "variablesReference") arg
 -- The variables of the scope with the reference that is asked for are shown.
 abbrev pub ShowsVariables : {S : Type 0} → (S → ℕ → List PlainScope → Type 0) → Option ℕ → ℕ → S → PlainReply
     → Type 0
-ShowsVariables variables_of None index program reply = Refuses reply
-ShowsVariables variables_of (Some frame) index program reply =
-    (all : List PlainScope) × variables_of program frame all × ShowsScope (slice_get all index) reply
+ShowsVariables scopes_of None index program reply = Refuses reply
+ShowsVariables scopes_of (Some frame) index program reply =
+    (all : List PlainScope) × scopes_of program frame all × ShowsScope (slice_get all index) reply
 
 -- the frame and the index of the scope with a reference
 abbrev pub frame_of_reference : ℕ → ℕ → Option ℕ
@@ -153,25 +153,25 @@ Explains stood reply = ExplainsFrom stood.phase stood.fault reply
 -- what is shown of a program that is stopped
 abbrev pub Shows : {S : Type 0} → Sight S → (S → ℕ → PlainFrame → Type 0) → (S → ℕ → List PlainScope → Type 0)
     → Question → Option Data → List ℕ → S → PlainReply → Type 0
-Shows sees frame_of variables_of question.StackTrace arguments path program reply =
+Shows sees frame_of scopes_of question.StackTrace arguments path program reply =
     ShowsStack sees frame_of path arguments program reply
-Shows sees frame_of variables_of question.Scopes arguments path program reply =
-    ShowsScopes variables_of (frame_asked (min (sees.depth_of program) frame_limit) arguments) program reply
-Shows sees frame_of variables_of question.Variables arguments path program reply =
-    ShowsVariables variables_of (frame_of_reference (sees.depth_of program) (reference_asked arguments))
+Shows sees frame_of scopes_of question.Scopes arguments path program reply =
+    ShowsScopes scopes_of (frame_asked (min (sees.depth_of program) frame_limit) arguments) program reply
+Shows sees frame_of scopes_of question.Variables arguments path program reply =
+    ShowsVariables scopes_of (frame_of_reference (sees.depth_of program) (reference_asked arguments))
     (index_of_reference (reference_asked arguments)) program reply
-Shows sees frame_of variables_of question.Evaluate arguments path program reply =
+Shows sees frame_of scopes_of question.Evaluate arguments path program reply =
     Evaluates sees (text_at (codes "expression") arguments) (frame_to_evaluate (sees.depth_of program) arguments)
     program reply
 
 -- a question is answered where the program is stopped, and refused elsewhere
 abbrev pub ShowsFrom : {S : Type 0} → Sight S → (S → ℕ → PlainFrame → Type 0) → (S → ℕ → List PlainScope → Type 0)
     → Phase S → Question → Option Data → List ℕ → PlainReply → Type 0
-ShowsFrom sees frame_of variables_of (phase.Stopped program) asked arguments path reply =
-    Shows sees frame_of variables_of asked arguments path program reply
-ShowsFrom sees frame_of variables_of _ asked arguments path reply = Refuses reply
+ShowsFrom sees frame_of scopes_of (phase.Stopped program) asked arguments path reply =
+    Shows sees frame_of scopes_of asked arguments path program reply
+ShowsFrom sees frame_of scopes_of _ asked arguments path reply = Refuses reply
 
 abbrev pub Inspects : {S : Type 0} → Sight S → (S → ℕ → PlainFrame → Type 0) → (S → ℕ → List PlainScope → Type 0)
     → Question → Option Data → Standing S → PlainReply → Type 0
-Inspects sees frame_of variables_of asked arguments stood reply =
-    ShowsFrom sees frame_of variables_of stood.phase asked arguments stood.path reply
+Inspects sees frame_of scopes_of asked arguments stood reply =
+    ShowsFrom sees frame_of scopes_of stood.phase asked arguments stood.path reply

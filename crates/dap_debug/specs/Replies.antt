@@ -22,18 +22,18 @@ pub record Known (S : Type 0) : Type 1 where
   pub reads_as : List ℕ → Result S (List ℕ) → Type 0
   pub first_place : S → ℕ → Option Location → Type 0
   pub frame_of : S → ℕ → PlainFrame → Type 0
-  pub variables_of : S → ℕ → List PlainScope → Type 0
+  pub scopes_of : S → ℕ → List PlainScope → Type 0
 
 abbrev pub known_of : {S : Type 0} → Meaning S → Sight S → (List ℕ → Result S (List ℕ) → Type 0)
     → (S → ℕ → Option Location → Type 0) → (S → ℕ → PlainFrame → Type 0) → (S → ℕ → List PlainScope → Type 0)
     → Known S
-known_of takes sees reads_as first_place frame_of variables_of = record {
+known_of takes sees reads_as first_place frame_of scopes_of = record {
   takes = takes;
   sees = sees;
   reads_as = reads_as;
   first_place = first_place;
   frame_of = frame_of;
-  variables_of = variables_of;
+  scopes_of = scopes_of;
 }
 
 -- what the adapter can do
@@ -63,7 +63,7 @@ RepliesTo known (command.Resume how) arguments stood reply stands =
 RepliesTo known command.Pause arguments stood reply stands = Pauses stood reply stands
 RepliesTo known command.Terminate arguments stood reply stands = Terminates stood reply stands
 RepliesTo known (command.Inspect asked) arguments stood reply stands =
-    Inspects known.sees known.frame_of known.variables_of asked arguments stood reply × (stands ≡ stood)
+    Inspects known.sees known.frame_of known.scopes_of asked arguments stood reply × (stands ≡ stood)
 RepliesTo known command.ExceptionInfo arguments stood reply stands = Explains stood reply × (stands ≡ stood)
 RepliesTo known command.Disconnect arguments stood reply stands = IsQuiet (success None []) stood reply stands
 RepliesTo known command.Unsupported arguments stood reply stands =

@@ -37,7 +37,7 @@ impl<L: Language> State<L> {
         question: Question,
         arguments: Option<&Value>,
     ) -> Result<Reply, AllocError>
-        ensures { IfOk result (λ reply. Inspects L.sees L.frame_of L.variables_of question
+        ensures { IfOk result (λ reply. Inspects L.sees L.frame_of L.scopes_of question
             (option_map (λ v. view v.now) arguments.entry) (standing self.now) (plain_reply reply)) }
     {
         match &self.phase {
@@ -74,7 +74,7 @@ fn show<L: Language>(
     arguments: Option<&Value>,
     path: &str,
 ) -> Result<Reply, AllocError>
-    ensures { IfOk result (λ reply. Shows L.sees L.frame_of L.variables_of question
+    ensures { IfOk result (λ reply. Shows L.sees L.frame_of L.scopes_of question
         (option_map (λ v. view v.now) arguments.entry) path.now program.now (plain_reply reply)) }
 {
     match question {
@@ -175,7 +175,7 @@ fn frame_asked(many: usize, arguments: Option<&Value>) -> Option<usize>
 fn scopes<L: Language>(alloc: Global, program: &L, frame: usize) -> Result<Reply, AllocError>
     requires alive { frame < L.sees.depth_of program.now }
     requires near { frame < frame_limit }
-    ensures { IfOk result (λ reply. ShowsScopes L.variables_of (Some frame) program.now (plain_reply reply)) }
+    ensures { IfOk result (λ reply. ShowsScopes L.scopes_of (Some frame) program.now (plain_reply reply)) }
 {
     let scopes = program.scopes(alloc, frame)?;
     reply_with_scopes(alloc, frame, scopes)
@@ -244,7 +244,7 @@ fn variables<L: Language>(
     program: &L,
     arguments: Option<&Value>,
 ) -> Result<Reply, AllocError>
-    ensures { IfOk result (λ reply. ShowsVariables L.variables_of
+    ensures { IfOk result (λ reply. ShowsVariables L.scopes_of
         (frame_of_reference (L.sees.depth_of program.now)
         (reference_asked (option_map (λ v. view v.now) arguments.entry)))
         (index_of_reference (reference_asked (option_map (λ v. view v.now) arguments.entry))) program.now

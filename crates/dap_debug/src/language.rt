@@ -53,7 +53,7 @@ pub trait Language: Debuggee + Drop {
     ghost frame_of: { Self → ℕ → PlainFrame → Type 0 } = { λ _ _ _. Unit {0} };
 
     /// Which scopes a frame has, with which variables. A language that leaves it out promises nothing of that.
-    ghost variables_of: { Self → ℕ → List PlainScope → Type 0 } = { λ _ _ _. Unit {0} };
+    ghost scopes_of: { Self → ℕ → List PlainScope → Type 0 } = { λ _ _ _. Unit {0} };
 
     /// Reads a program. It stands before its first step. An `Err` in the value is the mistake, as the user is told.
     ///
@@ -84,5 +84,5 @@ pub trait Language: Debuggee + Drop {
     /// An allocation failed.
     fn scopes(&self, alloc: Global, frame: usize) -> Result<Vec<Scope>, AllocError>
         requires { frame < Self.sees.depth_of self.now }
-        ensures { IfOk result (λ scopes. variables_of self.now frame (map plain_scope scopes.items)) };
+        ensures { IfOk result (λ scopes. scopes_of self.now frame (map plain_scope scopes.items)) };
 }

@@ -14,14 +14,14 @@ use dap_server::Polled;
 /// each byte that is printed or said is told, in order. It does nothing: its contract is the laws.
 pub fn debug_laws<L: Language>()
     ensures work { WorkIsBalanced L.takes L.sees }
-    ensures replies { RepliesAreBalanced (known_of L.takes L.sees L.reads_as L.first_place L.frame_of L.variables_of) }
+    ensures replies { RepliesAreBalanced (known_of L.takes L.sees L.reads_as L.first_place L.frame_of L.scopes_of) }
     ensures texts { TextsAreKept }
 {}
 
 /// The same of a whole conversation: the ends that its events tell are those that its requests ask for, but for one that is
 /// still to be told while the program runs. It does nothing: its contract is the law.
 pub fn conversation_laws<L: Language, I: Polled>()
-    ensures { EachEndsOnce (known_of L.takes L.sees L.reads_as L.first_place L.frame_of L.variables_of) I.gives
+    ensures { EachEndsOnce (known_of L.takes L.sees L.reads_as L.first_place L.frame_of L.scopes_of) I.gives
         I.polls }
 {}
 

@@ -41,7 +41,7 @@ where
     R: Threads + Wait + Files + Clock + Copy + Send + Drop + 'static,
     I: Read + Send + Drop + 'static,
     O: Sink,
-    ensures { DebuggedByReader (known_of L.takes L.sees L.reads_as L.first_place L.frame_of L.variables_of)
+    ensures { DebuggedByReader (known_of L.takes L.sees L.reads_as L.first_place L.frame_of L.scopes_of)
         (I.remaining input) (O.output output.old) (O.output output.new) result }
 {
     let mut inbox = match start_reader(rt, alloc, input) {
@@ -70,7 +70,7 @@ where
     R: Wait + Files + Clock,
     I: Polled,
     O: Sink,
-    ensures served { Debugged (known_of L.takes L.sees L.reads_as L.first_place L.frame_of L.variables_of)
+    ensures served { Debugged (known_of L.takes L.sees L.reads_as L.first_place L.frame_of L.scopes_of)
         I.gives I.polls inbox.old inbox.new (O.output output.old).written (O.output output.new).written result }
     ensures failures { OutputFailures result (O.output output.old).failures (O.output output.new).failures }
 {

@@ -32,7 +32,7 @@ impl<R: Wait + Files + Clock, L: Language> Responder for Session<'_, R, L> {
     ghost use Rattle.dap_debug.specs.Replies.{RepliesTo, known_of};
 
     ghost replies = { λ before command arguments reply after. RepliesTo
-        (known_of L.takes L.sees L.reads_as L.first_place L.frame_of L.variables_of) (command_of command)
+        (known_of L.takes L.sees L.reads_as L.first_place L.frame_of L.scopes_of) (command_of command)
         arguments (standing before.state) reply (standing after.state) };
 
     fn respond(
@@ -82,7 +82,7 @@ impl<'a, R: Wait + Files + Clock, L: Language> Session<'a, R, L> {
         arguments: Option<&Value>,
     ) -> Result<Reply, AllocError>
         ensures { IfOk result (λ reply. RepliesTo
-            (known_of L.takes L.sees L.reads_as L.first_place L.frame_of L.variables_of) command
+            (known_of L.takes L.sees L.reads_as L.first_place L.frame_of L.scopes_of) command
             (option_map (λ v. view v.now) arguments.entry) (standing self.old.state) (plain_reply reply)
             (standing self.new.state)) }
     {

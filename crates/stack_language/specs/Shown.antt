@@ -104,8 +104,8 @@ abbrev pub variable_of : PlainState → ℕ → PlainVariable
 variable_of s variable = record { name = (first_letter + variable) ∷ []; value = signed_decimal (value_of variable s) }
 
 -- each frame has one scope, with all variables
-abbrev pub variables_of : Machine → ℕ → List PlainScope → Type 0
-variables_of m frame scopes =
+abbrev pub scopes_of : Machine → ℕ → List PlainScope → Type 0
+scopes_of m frame scopes =
     scopes ≡ record {
       name = codes "variables";
       variables = map (variable_of (plain_state m.state)) (range_with_len 0 variable_count);

@@ -4,7 +4,7 @@ use Rattle.std.specs.Prelude.{◌≡◌, ℕ, pos, negsuc, true, false, List, []
 use Rattle.debuggee.specs.Plain.{Value, NoValue}
 use Rattle.dap_debug.specs.Shown.{PlainFrame, PlainScope, PlainVariable}
 use Rattle.stack_language.specs.declared.machine.Machine.{Machine}
-use Rattle.stack_language.specs.Shown.{evaluated, first_place, frame_of, has_instruction, sees, variable_of, variables_of}
+use Rattle.stack_language.specs.Shown.{evaluated, first_place, frame_of, has_instruction, sees, variable_of, scopes_of}
 use Rattle.stack_language.specs.Text.{variable_named}
 use Rattle.stack_language.specs.WorkedSteps.{program, state}
 
@@ -39,7 +39,7 @@ VariablesAreShown =
 -- a frame has one scope, with all variables
 abbrev pub ScopesAreShown : Type 0
 ScopesAreShown =
-    (m : Machine) (scopes : List PlainScope) → variables_of m 0 scopes
+    (m : Machine) (scopes : List PlainScope) → scopes_of m 0 scopes
     → (map (λ scope. scope.name) scopes ≡ codes "variables" ∷ [])
     × (map (λ scope. length scope.variables) scopes ≡ 26 ∷ [])
 

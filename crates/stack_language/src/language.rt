@@ -57,7 +57,7 @@ impl Debuggee for Machine {
 }
 
 impl Language for Machine {
-    ghost use Rattle.stack_language.specs.Shown.{first_place, frame_of, reads_as, variables_of};
+    ghost use Rattle.stack_language.specs.Shown.{first_place, frame_of, reads_as, scopes_of};
 
     ghost reads_as = { reads_as };
 
@@ -65,7 +65,7 @@ impl Language for Machine {
 
     ghost frame_of = { frame_of };
 
-    ghost variables_of = { variables_of };
+    ghost scopes_of = { scopes_of };
 
     fn load(alloc: Global, text: &str) -> Result<Result<Machine, String>, AllocError> {
         match parse(alloc, text)? {
