@@ -308,7 +308,10 @@ def unset(why: str) -> dict:
 
 def set_one(world: World, asked: dict) -> tuple[dict, Breakpoint | None]:
     """What is told of a breakpoint, and where it is set, if it is."""
-    line = max((whole_at(asked, "line") or 0) - 1, 0)
+    asked_line = whole_at(asked, "line")
+    if asked_line is None:
+        return unset("`line` is missing"), None
+    line = max(asked_line - 1, 0)
     place = next((at for at in range(line, len(world.program)) if world.program[at] is not None), None)
     if place is None:
         return unset("no place is at this line or after it"), None

@@ -74,9 +74,9 @@ IsMessage text (Some parts) = (text ≢ []) × AreParts text parts
 
 -- ---- one breakpoint
 
--- the line that a breakpoint is asked for; 0 where there is none
-abbrev pub line_of : Data → ℕ
-line_of asked = unwrap_or (whole_at (codes "line") (Some asked)) 0
+-- the line that a breakpoint is asked for
+abbrev pub line_of : Data → Option ℕ
+line_of asked = whole_at (codes "line") (Some asked)
 
 -- the breakpoint is set at this place with the condition, the rule and the message that are asked for, and no arrival
 pub record IsBreakpoint (asked : Data) (place : ℕ) (set : PlainBreakpoint) : Type 0 where
@@ -97,11 +97,16 @@ IsAnswered asked (Some location) answer None =
 IsAnswered asked (Some location) answer (Some set) =
     (answer ≡ SetAt location.line) × IsBreakpoint asked location.place set
 
--- the same, where the first place is as the language says
+-- the first place for a line, as the language says; without a line there is none
+abbrev pub IsFirst : {S : Type 0} → (S → ℕ → Option Location → Type 0) → S → Option ℕ → Option Location → Type 0
+IsFirst first_place program None first = first ≡ None
+IsFirst first_place program (Some line) first = first_place program line first
+
+-- what is answered to a breakpoint, and what is set for it
 abbrev pub IsSet : {S : Type 0} → (S → ℕ → Option Location → Type 0) → S → Data → ShownBreakpoint
     → Option PlainBreakpoint → Type 0
 IsSet first_place program asked answer set =
-    (first : Option Location) × first_place program (line_of asked) first × IsAnswered asked first answer set
+    (first : Option Location) × IsFirst first_place program (line_of asked) first × IsAnswered asked first answer set
 
 -- each is answered, in order, and what is set is just those that are
 abbrev pub AreSet : {S : Type 0} → (S → ℕ → Option Location → Type 0) → S → Items → List ShownBreakpoint

@@ -1,14 +1,14 @@
 -- Worked examples: what requests ask for by the names of their arguments, computed.
 use Rattle.std.specs.Prelude.{◌≡◌, ℕ, ◌+◌, true, List, [], ◌∷◌, ◌++◌, map, codes, decimal, Option, None, Some}
 use Rattle.serde_json.specs.Data.{Data, boolean, number, unsigned, string, array, object, no_members, member, no_items, item}
-use Rattle.dap_bodies.specs.Bodies.{SetAt, evaluated}
+use Rattle.dap_bodies.specs.Bodies.{Refused, SetAt, evaluated}
 use Rattle.dap_bodies.specs.Events.{initialized}
 use Rattle.debuggee.specs.Due.{Sight}
 use Rattle.debuggee.specs.Plain.{Text, Expression, PlainBreakpoint, Value}
 use Rattle.debuggee.specs.declared.breakpoint.Rule.TheVariants.{Exactly}
 use Rattle.dap_debug.specs.declared.command.Question.TheVariants as question
 use Rattle.dap_debug.specs.declared.state.Phase.TheVariants as phase
-use Rattle.dap_debug.specs.Breakpoints.{SetsIn, answers_reply}
+use Rattle.dap_debug.specs.Breakpoints.{IsSet, SetsIn, answers_reply}
 use Rattle.dap_debug.specs.Inspecting.{Shows, first_frame, frame_asked, frame_count, reference_asked}
 use Rattle.dap_debug.specs.Loading.{IsLoaded}
 use Rattle.dap_debug.specs.Running.{success}
@@ -77,3 +77,9 @@ abbrev pub BreakpointIsSet : Type 0
 BreakpointIsSet =
     SetsIn (λ program line first. first ≡ Some (record { place = 7; line = line + 1 })) arguments (tt {0}) (codes "b")
     [] (answers_reply (SetAt 4 ∷ [])) (placed ∷ [])
+
+-- without a line that is a number none is set, though each line has a first place
+abbrev pub LineIsAsked : Type 0
+LineIsAsked =
+    IsSet (λ program line first. first ≡ Some (record { place = 7; line = line })) (tt {0})
+    (object (member (codes "line") (string (codes "3")) no_members)) (Refused (codes "no")) None

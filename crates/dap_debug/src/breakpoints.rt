@@ -9,7 +9,7 @@ ghost use Rattle.dap_server.specs.Messages.{plain_reply};
 ghost use Rattle.debuggee.specs.Plain.{Text, Expression, plain_breakpoint, plain_part};
 ghost use Rattle.dap_debug.specs.Arguments.{list_at};
 ghost use Rattle.dap_debug.specs.Standings.{standing};
-ghost use Rattle.dap_debug.specs.Breakpoints.{AreParts, AreSet, AreUnset, HasExpression, IsAnswered, IsBreakpoint, IsCount, IsMessage, IsUnclosed, IsRule, IsSet, Sets, SetsIn, answers_reply, line_of, source_asked, text_of, unless_empty};
+ghost use Rattle.dap_debug.specs.Breakpoints.{AreParts, AreSet, AreUnset, HasExpression, IsAnswered, IsBreakpoint, IsCount, IsMessage, IsUnclosed, IsRule, IsSet, Sets, SetsIn, answers_reply, source_asked, text_of, unless_empty};
 
 use crate::arguments::{list, member, text, whole};
 use crate::language::{Language, Location};
@@ -148,8 +148,10 @@ fn set_one<L: Language>(alloc: Global, program: &L, asked: &Value) -> Result<Ans
     ensures { IfOk result (λ set. IsSet L.first_place program.now (view asked.now) (plain_shown_breakpoint set.answer)
         (option_map plain_breakpoint set.breakpoint)) }
 {
-    let first = program.place_for(line_of(asked));
-    set_at(alloc, asked, first)
+    match whole(Some(asked), "line") {
+        Some(line) => set_at(alloc, asked, program.place_for(line)),
+        None => refuse(alloc, "`line` is missing"),
+    }
 }
 
 /// Sets a breakpoint where the first place for its line is this one.
@@ -220,13 +222,6 @@ fn refused(alloc: Global, why: &str) -> Result<dap_bodies::Breakpoint, AllocErro
     Ok(dap_bodies::Breakpoint::Refused(String::from_str(alloc, why)?))
 }
 
-/// Returns the line that a breakpoint is asked for; 0 where there is none.
-fn line_of(asked: &Value) -> u64
-    ensures { result ≡ line_of (view asked.now) }
-{
-    whole(Some(asked), "line").unwrap_or(0)
-}
-
 /// Returns a text of a breakpoint that is asked for; an absent one is empty.
 fn text_of<'v>(asked: &'v Value, key: &str) -> &'v str
     ensures { result.now ≡ text_of key.now (view asked.now) }
@@ -253,22 +248,14 @@ fn rule_of(text: &str) -> Option<Option<Rule>>
     if text.is_empty() {
         return Some(None);
     }
-    match text.strip_prefix('%') {
-        Some(divisor) => match number(divisor) {
-            Some(divisor) => Some(Some(Rule::Every(divisor))),
-            None => None,
-        },
-        None => match text.strip_prefix('=') {
-            Some(only) => match number(only) {
-                Some(only) => Some(Some(Rule::Exactly(only))),
-                None => None,
-            },
-            None => match number(text) {
-                Some(least) => Some(Some(Rule::From(least))),
-                None => None,
-            },
-        },
-    }
+    let rule = if let Some(divisor) = text.strip_prefix('%') {
+        Rule::Every(number(divisor)?)
+    } else if let Some(only) = text.strip_prefix('=') {
+        Rule::Exactly(number(only)?)
+    } else {
+        Rule::From(number(text)?)
+    };
+    Some(Some(rule))
 }
 
 /// Returns the number, but 0, that a text is in decimal, without a sign or a leading zero.

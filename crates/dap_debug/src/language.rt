@@ -63,8 +63,7 @@ pub trait Language: Debuggee + Drop {
     fn load(alloc: Global, text: &str) -> Result<Result<Self, String>, AllocError>
         ensures { IfOk result (λ loaded. reads_as text.now (plain_loaded loaded)) };
 
-    /// Returns the first place at or after a line, which is counted from 1, and 0 where the client gives none; `None` where
-    /// there is none.
+    /// Returns the first place at or after a line, which is counted from 1; `None` where there is none.
     fn place_for(&self, line: u64) -> Option<Location>
         ensures { first_place self.now line result };
 

@@ -4,7 +4,7 @@ ghost use Rattle.dap_debug.specs.Laws.{WorkIsBalanced, RepliesAreBalanced, Texts
 ghost use Rattle.dap_debug.specs.Replies.{known_of};
 ghost use Rattle.dap_debug.specs.Sums.{EachEndsOnce};
 ghost use Rattle.dap_debug.specs.WorkedDebugger.{CommandsAreNamed, ModesFollow, TextsAreTold, HaltsAreTold, RulesAreRead, ShownAreNumbered, NumbersAreFound, MessagesAreRead};
-ghost use Rattle.dap_debug.specs.WorkedRequests.{BreakpointIsSet, ExpressionsAreEvaluated, FramesAreAsked, ProgramIsLoaded};
+ghost use Rattle.dap_debug.specs.WorkedRequests.{BreakpointIsSet, ExpressionsAreEvaluated, FramesAreAsked, LineIsAsked, ProgramIsLoaded};
 
 use crate::language::Language;
 use dap_server::Polled;
@@ -52,4 +52,5 @@ pub fn worked_requests()
     ensures expressions { ExpressionsAreEvaluated }
     ensures program { ProgramIsLoaded }
     ensures breakpoint { BreakpointIsSet }
+    ensures line { LineIsAsked }
 {}

@@ -1,5 +1,5 @@
 use Rattle.std.proofs.Common.{◌≢◌, refl, inl, [], ◌∷◌, codes, arith}
-use Rattle.std.specs.Prelude.{Some}
+use Rattle.std.specs.Prelude.{None, Some}
 use Rattle.std.specs.Fmt.{digits}
 use Rattle.std.proofs.lemmas.List.Elements.{All-cons, All-nil}
 use Rattle.dap_bodies.specs.Bodies.{SetAt}
@@ -43,3 +43,6 @@ returns-clause-breakpoint c =
       message = (not_nil 110 (123 ∷ 107 ∷ 125 ∷ []), parts);
       none_yet = refl;
     }
+
+pub returns-clause-line : goal.returns-clause-line
+returns-clause-line c = (None, refl, (codes "no", refl))
