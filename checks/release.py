@@ -6,13 +6,13 @@ usage: release.py [CHECK]
 Each check is a target of the Makefile. They are run one after the other, and all of them also where one fails. The
 tests come first, and have all cores, so that in a fresh clone their minutes are those of a beginner. Where there are
 four cores, two of them are then for what is run in clones, the tests once more and the merge gate, and the others for
-what stands before these: so the programs' minutes are those of two cores. The soak, which takes an hour, and the random
-sessions, which take one core, are run beside those that stand before them. The benchmarks come last, alone. It says
-which commit, which kit and which computer, and refuses a tree that differs from its commit; the transcripts and
-pictures that `make editors` writes and the record of `make plants` aren't looked at. With CHECK it goes on from that
-check, and keeps what was found of those before it, which must be of the same commit and kit. A check that the Makefile
-doesn't have counts as not run. What each one printed is in out/release/. The status is 0 where every check passed, 1
-where one failed, and 2 where none did, but one was not run or not whole.
+what stands before these: so the programs' minutes are those of two cores. The soak, which takes an hour, the random
+sessions, which take one core, and the plants are run beside those that stand before them. The benchmarks come last,
+alone. It says which commit, which kit and which computer, and refuses a tree that differs from its commit; the
+transcripts and pictures that `make editors` writes and the record of `make plants` aren't looked at. With CHECK it goes
+on from that check, and keeps what was found of those before it, which must be of the same commit and kit. A check that
+the Makefile doesn't have counts as not run. What each one printed is in out/release/. The status is 0 where every check
+passed, 1 where one failed, and 2 where none did, but one was not run or not whole.
 """
 from __future__ import annotations
 
@@ -76,7 +76,7 @@ CHECKS = [
     Check("refusals", "each allocation, thread, read and write refused or hindered, all programs", is_long=True),
     Check("soak", "sessions that leave nothing over, for an hour", ("SOAK=3600",), is_long=True, beside="pages"),
     Check("streams", "streams cut at each byte, clients that leave, threads hindered", is_long=True),
-    Check("plants", "planted bugs, whole", ("JOBS=2",), is_long=True),
+    Check("plants", "planted bugs, whole", ("JOBS=2",), is_long=True, beside="pages"),
     Check("test-again", "all tests in a fresh clone, on two cores", target="test", beside="build", in_clone=True),
     Check("gate-times", "the merge gate from nothing, within its budget", ("BESIDE=1",), is_long=True, beside="build",
           in_clone=True),
