@@ -168,7 +168,7 @@ async function main() {
   const tasks = offered["tasks pl0"].provideTasks();
   assert.deepStrictEqual(
     tasks.map((task) => task.execution.words.join(" ")),
-    ["pl0 run ${file}", "pl0 trace ${file}", "pl0 check ${file}", "pl0dap --check ${file}"],
+    ["pl0 run ${file}", "pl0 trace ${file}", "pl0 check ${file}", "pl0 list ${file}", "pl0 tree ${file}"],
   );
   assert.deepStrictEqual(
     tasks.map((task) => task.definition.command),

@@ -5,14 +5,8 @@
 const { execFile } = require("child_process");
 const vscode = require("vscode");
 
-/** What the extension can do with a program: the name of the task, and the command that it runs. */
-const TASKS = {
-  run: ["pl0", "run"],
-  trace: ["pl0", "trace"],
-  check: ["pl0", "check"],
-  list: ["pl0", "list"],
-  tree: ["pl0", "tree"],
-};
+/** What the extension can do with a program: each task has the name of the command of `pl0` that it runs. */
+const TASKS = ["run", "trace", "check", "list", "tree"];
 
 /** What is debugged where no launch.json says it. */
 const LAUNCH = { type: "pl0", request: "launch", name: "PL/0", program: "${file}" };
@@ -81,16 +75,15 @@ const adapters = {
 };
 
 function taskOf(definition, scope = vscode.TaskScope.Workspace) {
-  const [program, ...words] = TASKS[definition.command];
-  const execution = new vscode.ProcessExecution(pathOf(program), [...words, definition.file || "${file}"]);
+  const execution = new vscode.ProcessExecution(pathOf("pl0"), [definition.command, definition.file || "${file}"]);
   return new vscode.Task(definition, scope, definition.command, "pl0", execution, ["$pl0"]);
 }
 
 const execute = (command, file) => vscode.tasks.executeTask(taskOf({ type: "pl0", command, file }));
 
 const tasks = {
-  provideTasks: () => Object.keys(TASKS).map((command) => taskOf({ type: "pl0", command })),
-  resolveTask: ({ definition, scope }) => (TASKS[definition.command] ? taskOf(definition, scope) : undefined),
+  provideTasks: () => TASKS.map((command) => taskOf({ type: "pl0", command })),
+  resolveTask: ({ definition, scope }) => (TASKS.includes(definition.command) ? taskOf(definition, scope) : undefined),
 };
 
 /** Saves the program of the editor, and does something with it in the terminal. */
