@@ -147,7 +147,7 @@ fn command_line<'a>(alloc: Global) -> Result<Command<'a>, AllocError>
         .about("Draw the tree of a program, with the level and address of each name")
         .arg(one_file(alloc))?;
     Command::new(alloc, "pl0")
-        .version("1.1.0")
+        .version("1.2.0")
         .about(
             "Runs, traces, checks, lists and draws programs in PL/0, the language of Wirth's compiler book",
         )
