@@ -57,7 +57,12 @@ SESSION_ENDS = {
 }
 # Where `trace` tells a part of a run, it says where that goes on: a drawing of positions 9 to 11 does.
 GOES_ON = "pl0: the run goes on at position 12"
-LISTING_ENDS = {"allocation": ALLOCATION_ENDS, "read": [(1, "pl0dap: cannot read")], "write": WRITE_ENDS}
+
+
+def listing_ends(file: str) -> dict[str, list[tuple[int, str]]]:
+    """How `--check FILE` may end in which something was refused."""
+    unread = f"{file}: error: the file can't be read pl0dap: cannot read"
+    return {"allocation": ALLOCATION_ENDS, "read": [(1, unread)], "write": WRITE_ENDS}
 
 
 def pl0_ends(file: str, said: str) -> dict[str, list[tuple[int, str]]]:
@@ -198,7 +203,7 @@ def runs(program: str) -> dict[str, Run]:
         "a debug session that logs and goes back": fed_session(program, feeding.BACK_SESSION),
         "a debug session with a fault": fed_session(program, feeding.OVERFLOW_SESSION),
         "a debug session with pauses": fed_session(program, feeding.ENDLESS_SESSION, is_endless=True),
-        "a listing": Run([program, "--check", procedures], by_bytes(listing("procedures")), LISTING_ENDS),
+        "a listing": Run([program, "--check", procedures], by_bytes(listing("procedures")), listing_ends(procedures)),
     }
 
 
