@@ -24,6 +24,7 @@ import session
 TURNS = 50_000_000
 BACK = 20
 LOGS = 100_000
+LOGGING_RUNS = 5
 RECORDED = (1_000, 4_000, 16_000)
 
 LOOP = """var x;
@@ -109,7 +110,8 @@ def go_back(program: str, folder: str) -> None:
     print(f"forward again, over checkpoints that are there: {again:.3f} s")
 
 
-def log(program: str, folder: str) -> None:
+def logging_run(program: str, folder: str) -> tuple[float, int]:
+    """The seconds from the start of a run to its end, and how many logs it wrote."""
     client = client_of(program, folder, LOGS, {"line": LOG_LINE, "logMessage": "x is {x}"})
     begin = time.perf_counter()
     client.put(client.framed("configurationDone", {}))
@@ -118,7 +120,12 @@ def log(program: str, folder: str) -> None:
         logged += message.get("body", {}).get("output", "").count("x is ")
     taken = time.perf_counter() - begin
     client.end()
-    print(f"{logged:,} logs in {taken:.3f} s: {logged / taken:,.0f} a second")
+    return taken, logged
+
+
+def log(program: str, folder: str) -> None:
+    taken, logged = min(logging_run(program, folder) for _ in range(LOGGING_RUNS))
+    print(f"{logged:,} logs in {taken:.3f} s at best: {logged / taken:,.0f} a second")
 
 
 def record(folder: str, turns: int) -> None:

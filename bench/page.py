@@ -245,7 +245,7 @@ def back(log: Log) -> str:
     return (f"The way forward, with checkpoints kept, takes {forward:.3f} s and {memory:,.0f} KiB at most; "
             f"`stepBack` from there {best / 1000:.1f} ms at best,\n"
             f"{median / 1000:.1f} in the median and {worst / 1000:.1f} at worst; `reverseContinue` to the start "
-            f"{start:.3f} s. 100,000 logs take {logged:.3f} s. gdb\n"
+            f"{start:.3f} s. 100,000 logs take {logged:.3f} s at best. gdb\n"
             f"records 16,000 turns in {turns[1]:.3f} s, with {turns[3]:.0f} bytes an instruction, "
             f"and its `reverse-step` takes {turns[4]:.2f} ms at best.")
 
