@@ -64,18 +64,32 @@ program = record {
   subs = [];
 }
 
+-- its commands
+abbrev pub run_command : Shape
+run_command = command_with (codes "run") (one_file ∷ [])
+
+abbrev pub trace_command : Shape
+trace_command =
+    command_with (codes "trace") (one_file ∷ number_option (codes "from") 0 usize_max
+    ∷ number_option (codes "steps") 1 most_steps ∷ machine_flag ∷ instructions_flag ∷ [])
+
+abbrev pub check_command : Shape
+check_command = command_with (codes "check") (files ∷ [])
+
+abbrev pub list_command : Shape
+list_command = command_with (codes "list") (one_file ∷ names_flag ∷ [])
+
+abbrev pub tree_command : Shape
+tree_command = command_with (codes "tree") (one_file ∷ [])
+
+-- a command, below which there is none
+abbrev pub alone : Shape → App
+alone command = record { top = command; subs = [] }
+
 abbrev pub command_line : App
 command_line =
-    with_subcommand
-    (with_subcommand
-    (with_subcommand
-    (with_subcommand
-    (with_subcommand program (command_with (codes "run") (one_file ∷ [])))
-    (command_with (codes "trace") (one_file ∷ number_option (codes "from") 0 (usize_max)
-    ∷ number_option (codes "steps") 1 most_steps ∷ machine_flag ∷ instructions_flag ∷ [])))
-    (command_with (codes "check") (files ∷ [])))
-    (command_with (codes "list") (one_file ∷ names_flag ∷ [])))
-    (command_with (codes "tree") (one_file ∷ []))
+    with_subcommand (with_subcommand (with_subcommand (with_subcommand (with_subcommand program
+    run_command) trace_command) check_command) list_command) tree_command
 
 -- ---- what is asked for
 

@@ -3,7 +3,8 @@
 ghost use Rattle.std.specs.Prelude.{◌≡◌, IfOk, map, false, [], codes, unwrap_or};
 ghost use Rattle.clap.specs.Lexer.{usize_max};
 ghost use Rattle.clap.specs.Words.{all_of, app_of, found_of, one_of, rows_of, rule_of};
-ghost use Rattle.pl0_tool.specs.Arguments.{IsNumber, IsParsed, IsTask, command_line};
+ghost use Rattle.pl0_tool.specs.Arguments.{IsNumber, IsParsed, IsTask, alone, command_line, program};
+ghost use Rattle.pl0_tool.specs.Arguments.{check_command, list_command, run_command, trace_command, tree_command};
 ghost use Rattle.pl0_tool.specs.Arguments.{files, instructions_flag, machine_flag, most_steps, names_flag, number_option, one_file};
 
 use crate::tracing::View;
@@ -124,28 +125,18 @@ fn number(given: &ArgMatches<'_>, name: &str, default: u64) -> u64
 fn command_line<'a>(alloc: Global) -> Result<Command<'a>, AllocError>
     ensures { IfOk result (λ command. app_of command ≡ command_line) }
 {
-    let run = Command::new(alloc, "run")
-        .about("Run a program: each number that it writes is a line")
-        .arg(one_file(alloc))?;
-    let trace = Command::new(alloc, "trace")
-        .about(
-            "Tell a run step by step: place, source, what is written, and the frames before the step",
-        )
-        .arg(one_file(alloc))?
-        .arg(from(alloc))?
-        .arg(steps(alloc))?
-        .arg(machine(alloc))?
-        .arg(instructions(alloc))?;
-    let check = Command::new(alloc, "check")
-        .about("Tell the first mistake of each text, as FILE:LINE:COLUMN: error: ..")
-        .arg(files(alloc))?;
-    let list = Command::new(alloc, "list")
-        .about("List the machine's code under each line of a program, or its names")
-        .arg(one_file(alloc))?
-        .arg(names(alloc))?;
-    let tree = Command::new(alloc, "tree")
-        .about("Draw the tree of a program, with the level and address of each name")
-        .arg(one_file(alloc))?;
+    program(alloc)
+        .subcommand(run_command(alloc)?)?
+        .subcommand(trace_command(alloc)?)?
+        .subcommand(check_command(alloc)?)?
+        .subcommand(list_command(alloc)?)?
+        .subcommand(tree_command(alloc)?)
+}
+
+/// Returns the program, without its commands.
+fn program<'a>(alloc: Global) -> Command<'a>
+    ensures { app_of result ≡ program }
+{
     Command::new(alloc, "pl0")
         .version("1.2.0")
         .about(
@@ -153,11 +144,58 @@ fn command_line<'a>(alloc: Global) -> Result<Command<'a>, AllocError>
         )
         .after_help(STATUSES)
         .subcommand_required(true)
-        .subcommand(run)?
-        .subcommand(trace)?
-        .subcommand(check)?
-        .subcommand(list)?
-        .subcommand(tree)
+}
+
+/// Returns the command that runs a program.
+fn run_command<'a>(alloc: Global) -> Result<Command<'a>, AllocError>
+    ensures { IfOk result (λ command. app_of command ≡ alone run_command) }
+{
+    Command::new(alloc, "run")
+        .about("Run a program: each number that it writes is a line")
+        .arg(one_file(alloc))
+}
+
+/// Returns the command that traces a program.
+fn trace_command<'a>(alloc: Global) -> Result<Command<'a>, AllocError>
+    ensures { IfOk result (λ command. app_of command ≡ alone trace_command) }
+{
+    Command::new(alloc, "trace")
+        .about(
+            "Tell a run step by step: place, source, what is written, and the frames before the step",
+        )
+        .arg(one_file(alloc))?
+        .arg(from(alloc))?
+        .arg(steps(alloc))?
+        .arg(machine(alloc))?
+        .arg(instructions(alloc))
+}
+
+/// Returns the command that checks texts.
+fn check_command<'a>(alloc: Global) -> Result<Command<'a>, AllocError>
+    ensures { IfOk result (λ command. app_of command ≡ alone check_command) }
+{
+    Command::new(alloc, "check")
+        .about("Tell the first mistake of each text, as FILE:LINE:COLUMN: error: ..")
+        .arg(files(alloc))
+}
+
+/// Returns the command that lists a program's code, or its names.
+fn list_command<'a>(alloc: Global) -> Result<Command<'a>, AllocError>
+    ensures { IfOk result (λ command. app_of command ≡ alone list_command) }
+{
+    Command::new(alloc, "list")
+        .about("List the machine's code under each line of a program, or its names")
+        .arg(one_file(alloc))?
+        .arg(names(alloc))
+}
+
+/// Returns the command that draws a program's tree.
+fn tree_command<'a>(alloc: Global) -> Result<Command<'a>, AllocError>
+    ensures { IfOk result (λ command. app_of command ≡ alone tree_command) }
+{
+    Command::new(alloc, "tree")
+        .about("Draw the tree of a program, with the level and address of each name")
+        .arg(one_file(alloc))
 }
 
 /// Returns the argument for the file that a command is for.

@@ -48,7 +48,10 @@ pub fn perform<O: Sink>(
         (O.output output.old) (O.output output.new)) }
 {
     match load(alloc, text) {
-        Ok(unit) => perform_program(rt, alloc, task, file, unit, output, room),
+        Ok(unit) => {
+            let unit = Arc::new(alloc, unit)?;
+            perform_program(rt, alloc, task, file, unit, output, room)
+        }
         Err(SyntaxFault::NoMemory) => Err(AllocError),
         Err(SyntaxFault::InText { kind, place }) => {
             let line = mistake_line(alloc, file, text, kind, place)?;
@@ -63,14 +66,14 @@ fn perform_program<O: Sink>(
     alloc: Global,
     task: Task,
     file: &str,
-    unit: Unit,
+    unit: Arc<Unit>,
     output: &mut O,
     room: usize,
 ) -> Result<Report, AllocError>
     ensures { MatchResult result
-        (λ report. ProgramTells task file.now unit report
+        (λ report. ProgramTells task file.now unit.value report
         (O.output output.old) (O.output output.new))
-        (λ _. ProgramWrites task unit
+        (λ _. ProgramWrites task unit.value
         (O.output output.old) (O.output output.new)) }
 {
     match task {
@@ -131,17 +134,17 @@ fn run_program<O: Sink>(
     rt: &impl Wait,
     alloc: Global,
     file: &str,
-    unit: Unit,
+    unit: Arc<Unit>,
     output: &mut O,
     room: usize,
 ) -> Result<Report, AllocError>
     ensures { MatchResult result
-        (λ report. RunTells file.now (start_of unit) report
+        (λ report. RunTells file.now (start_of unit.value) report
         (O.output output.old) (O.output output.new))
-        (λ _. StartWrites unit
+        (λ _. StartWrites unit.value
         (O.output output.old) (O.output output.new)) }
 {
-    let mut machine = first_machine(alloc, unit)?;
+    let mut machine = Machine::new(alloc, unit)?;
     run_whole(rt, alloc, file, &mut machine, output, room)
 }
 
@@ -150,7 +153,7 @@ fn trace_program<O: Sink>(
     rt: &impl Wait,
     alloc: Global,
     file: &str,
-    unit: Unit,
+    unit: Arc<Unit>,
     from: u64,
     steps: usize,
     view: View,
@@ -158,12 +161,12 @@ fn trace_program<O: Sink>(
     room: usize,
 ) -> Result<Report, AllocError>
     ensures { MatchResult result
-        (λ report. TraceTells view file.now (start_of unit) from steps report
+        (λ report. TraceTells view file.now (start_of unit.value) from steps report
         (O.output output.old) (O.output output.new))
-        (λ _. StartTraces view unit from steps
+        (λ _. StartTraces view unit.value from steps
         (O.output output.old) (O.output output.new)) }
 {
-    let mut machine = first_machine(alloc, unit)?;
+    let mut machine = Machine::new(alloc, unit)?;
     let mut page = Vec::new(alloc);
     put_head(&mut page, view)?;
     let end = trace(
@@ -178,15 +181,6 @@ fn trace_program<O: Sink>(
         room,
     )?;
     trace_report(alloc, file, &machine, end, page)
-}
-
-/// Returns a machine before the first step of a program.
-fn first_machine(alloc: Global, unit: Unit) -> Result<Machine, AllocError>
-    ensures standing { IfOk result (λ machine. machine ≡ start_of unit) }
-    ensures alive { IfOk result (λ machine. 0 < depth_of machine) }
-{
-    let machine = Machine::new(alloc, Arc::new(alloc, unit)?)?;
-    Ok(machine)
 }
 
 /// Runs a machine to the end of its program.

@@ -1,25 +1,35 @@
+use Rattle.std.proofs.Common.{IfOk, [], subst}
+use Rattle.pl0_unit.specs.declared.unit.Unit.{Unit as Compiled}
+use Rattle.pl0_mistakes.specs.Warnings.{warning_lines}
+use Rattle.pl0_tool.specs.declared.report.Ending.TheVariants.{Success}
+use Rattle.pl0_tool.specs.Commands.{IsReport, ListTells, TreeTells}
 use Rattle.pl0_tool.proofs.CommandTells.{checked_program, drawn_program, listed_program, run_program, traced_program}
 use Rattle.pl0_tool.proofs.commands.perform_program.Goals as goal
 
 pub returns-in-Check : goal.returns-in-Check
 returns-in-Check g c =
-    checked_program c.args.task c.args.file.now c.args.unit c.check_program.result _ c.in-Check.is
-    c.check_program.ensures
+    checked_program c.args.task c.args.file.now c.args.unit.value c.check_program.result _ c.in-Check.is
+    (subst (λ (unit : Compiled). IfOk c.check_program.result
+    (IsReport [] (warning_lines c.args.file.now unit.tree.text.items) Success)) c.deref.ensures c.check_program.ensures)
 
 pub returns-in-List : goal.returns-in-List
 returns-in-List g c =
-    listed_program c.args.task c.in-List.names c.args.file.now c.args.unit c.list_program.result _ c.in-List.is
-    c.list_program.ensures
+    listed_program c.args.task c.in-List.names c.args.file.now c.args.unit.value c.list_program.result _ c.in-List.is
+    (subst (λ (unit : Compiled). IfOk c.list_program.result (ListTells c.in-List.names unit)) c.deref-in-List.ensures
+    c.list_program.ensures)
 
 pub returns-in-Tree : goal.returns-in-Tree
 returns-in-Tree g c =
-    drawn_program c.args.task c.args.file.now c.args.unit c.draw_tree.result _ c.in-Tree.is c.draw_tree.ensures
+    drawn_program c.args.task c.args.file.now c.args.unit.value c.draw_tree.result _ c.in-Tree.is
+    (subst (λ (unit : Compiled). IfOk c.draw_tree.result (TreeTells unit)) c.deref-in-Tree.ensures
+    c.draw_tree.ensures)
 
 pub returns-in-Run : goal.returns-in-Run
 returns-in-Run g c =
-    run_program c.args.task c.args.file.now c.args.unit c.run_program.result _ _ c.in-Run.is c.run_program.ensures
+    run_program c.args.task c.args.file.now c.args.unit.value c.run_program.result _ _ c.in-Run.is
+    c.run_program.ensures
 
 pub returns-in-Trace : goal.returns-in-Trace
 returns-in-Trace g c =
-    traced_program c.args.task c.in-Trace.from c.in-Trace.steps c.in-Trace.view c.args.file.now c.args.unit
+    traced_program c.args.task c.in-Trace.from c.in-Trace.steps c.in-Trace.view c.args.file.now c.args.unit.value
     c.trace_program.result _ _ c.in-Trace.is c.trace_program.ensures
