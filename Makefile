@@ -142,11 +142,11 @@ plants:
 	@$(NEEDS_KIT)
 	python3 tools/plants.py --jobs $(JOBS) $(CRATE)
 
-# What CRATE costs the gate, in processor seconds, or the gate from nothing where none is named, and whether it is within its
-# budget: BESIDE=1 says that the other cores are busy too.
+# What each crate costs the gate from nothing, in processor seconds, and whether that is within its budget: BESIDE=1 says that the
+# other cores are busy too. With CRATE only what the gate of this crate proves, which is what this computer hasn't proved yet.
 gate-times:
 	@$(NEEDS_KIT)
-	python3 tools/$(if $(CRATE),gate_times.py $(CRATE),gate_watch.py $(if $(BESIDE),--beside))
+	python3 tools/gate_watch.py $(if $(BESIDE),--beside) $(if $(CRATE),rt ci $(CRATE))
 
 # The model of the four threads, explored in every interleaving, with Debian's spin and gcc: status 2 where one is missing.
 threads:

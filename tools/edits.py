@@ -6,7 +6,8 @@ usage: edits.py
 Those of the gate are the files of must-fail/. All others are plants, the blocks of plants.txt: a line `plant: NAME`, and
 then what a file of must-fail/ has, lines `file: F`, and after each pairs of lines `old: TEXT` and `new: TEXT`. Each old
 text has to stand exactly once in F, after the pairs before it. Prints what is wrong, also where a crate has more than
-four edits in must-fail/, two plants of one name, or a folder plants/, and ends with status 1 where anything is.
+four edits in must-fail/, two plants of one name, or a folder plants/, or where docs/GATE.md counts otherwise, and ends
+with status 1 where anything is.
 """
 from __future__ import annotations
 
@@ -77,6 +78,13 @@ def wrong_plants(name: str) -> Iterator[str]:
     yield from (f"{name}: two plants are called {one}" for one in sorted(set(names)) if names.count(one) > 1)
 
 
+def miscounted(in_gate: int, plants: int) -> list[str]:
+    """How many edits there are, where docs/GATE.md says otherwise."""
+    page = (TOP / "docs" / "GATE.md").read_text(encoding="utf-8")
+    counts = [f"{in_gate} together", f"{plants:,}, are plants"]
+    return [f"GATE.md doesn't have: {count}" for count in counts if count not in page]
+
+
 def main() -> int:
     wrong, in_gate, plants = [], 0, 0
     for name in crate_lines():
@@ -86,6 +94,7 @@ def main() -> int:
             wrong.append(f"{name}: {len(gate)} edits in must-fail/")
         wrong += wrong_plants(name)
         wrong += [one for edit in [*gate, *plants_of(name)] for one in wrong_in(edit, crate_folder(name))]
+    wrong += miscounted(in_gate, plants)
     print("\n".join(wrong) or f"each edit can be applied: {in_gate} of the gate, {plants} plants")
     return 1 if wrong else 0
 
