@@ -25,7 +25,7 @@ use pl0_unit::Unit;
 use std::alloc::Global;
 use std::io::Write;
 use std::rt::Files;
-use std::sync::Wait;
+use std::sync::{Arc, Wait};
 use std::{env, fs, io};
 
 const USAGE: &str =
@@ -101,7 +101,8 @@ fn line_of_run<R: Wait + AllocGlobal>(
 }
 
 /// The code of a text.
-fn compiled(alloc: Global, text: &[u8]) -> Result<Unit> {
+fn compiled(alloc: Global, text: &[u8]) -> Result<Arc<Unit>> {
     let tree = parse(alloc, text).map_err(|fault| anyhow!("no tree: {fault:?}"))?;
-    compile(alloc, tree).map_err(|fault| anyhow!("no code: {fault:?}"))
+    let unit = compile(alloc, tree).map_err(|fault| anyhow!("no code: {fault:?}"))?;
+    Arc::new(alloc, unit).context("no share of the code")
 }
