@@ -25,7 +25,7 @@ use pl0_unit::Unit;
 use std::alloc::Global;
 use std::io::Write;
 use std::rt::Files;
-use std::sync::{Arc, Wait};
+use std::sync::Wait;
 use std::{env, fs, io};
 
 const USAGE: &str =
@@ -101,8 +101,7 @@ fn line_of_run<R: Wait + AllocGlobal>(
 }
 
 /// The code of a text.
-fn compiled(alloc: Global, text: &[u8]) -> Result<Arc<Unit>> {
+fn compiled(alloc: Global, text: &[u8]) -> Result<Unit> {
     let tree = parse(alloc, text).map_err(|fault| anyhow!("no tree: {fault:?}"))?;
-    let unit = compile(alloc, tree).map_err(|fault| anyhow!("no code: {fault:?}"))?;
-    Arc::new(alloc, unit).context("no share of the code")
+    compile(alloc, tree).map_err(|fault| anyhow!("no code: {fault:?}"))
 }
