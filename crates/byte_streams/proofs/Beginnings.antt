@@ -1,7 +1,7 @@
 -- What was read so far is all that there was.
 use Rattle.std.proofs.Common.{◌≡◌, ◌<◌, ◌≤◌, ℕ, true, List, [], sym, subst, append-nil, take, length}
 use Rattle.std.proofs.lemmas.List.{take_all}
-use Rattle.byte_streams.specs.Beginning.{BeginsWith, beginning_limit}
+use Rattle.byte_streams.specs.Beginning.{BeginsWith}
 use Rattle.byte_streams.specs.Streams.{Supply, Appends, IsOfWhole, IsReadOf}
 use Rattle.byte_streams.proofs.Appending.{appends_both}
 
@@ -16,12 +16,13 @@ reads_none bytes old mid later n room before got none of_whole = record {
 }
 
 -- all bytes, where a read gave none
-pub begins_whole : (bytes : List ℕ) (old mid later : Supply) (n : ℕ) (room : List ℕ) → Appends old.read mid.read bytes
+pub begins_whole : (limit : ℕ) (bytes : List ℕ) (old mid later : Supply) (n : ℕ) (room : List ℕ)
+    → Appends old.read mid.read bytes
     → Appends mid.read later.read (take n room) × (n ≡ 0 → 0 < length room → later.ended ≡ true) → n ≡ 0
-    → 0 < length room → length bytes ≤ beginning_limit → ∥ IsOfWhole later ∥₁ → BeginsWith bytes old later
-begins_whole bytes old mid later n room before got none some short of_whole = record {
+    → 0 < length room → length bytes ≤ limit → ∥ IsOfWhole later ∥₁ → BeginsWith limit bytes old later
+begins_whole limit bytes old mid later n room before got none some short of_whole = record {
   read = bytes;
   consumed = reads_none bytes old mid later n room before got.0 none of_whole;
-  bytes_are = sym (take_all beginning_limit bytes short);
+  bytes_are = sym (take_all limit bytes short);
   all = λ less. got.1 none some;
 }

@@ -3,3 +3,5 @@
 pub mod Streams
 -- What the beginning of an input is.
 pub mod Beginning
+-- What is read of files that are opened by their names.
+pub mod Files

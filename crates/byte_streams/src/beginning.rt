@@ -1,15 +1,12 @@
 //! Reading the first bytes of a source.
 
 ghost use Rattle.std.specs.Prelude.{◌≡◌, ◌<◌, ◌≤◌, length, Err, IfOk, OnOk};
-ghost use Rattle.byte_streams.specs.Beginning.{BeginsWith, beginning_limit};
+ghost use Rattle.byte_streams.specs.Beginning.{BeginsWith};
 ghost use Rattle.byte_streams.specs.declared.beginning.ReadFault.TheVariants.{CannotRead, NoMemory};
 
 use crate::streams::{IoFault, Source};
 use std::alloc::Global;
 use std::sync::Wait;
-
-/// The most bytes that [`read_beginning`] returns: one more than a text of PL/0 may have, so that a longer one is noticed.
-pub const BEGINNING_LIMIT: usize = 65_537;
 
 /// How many bytes are read at once.
 pub(crate) const ROOM: usize = 4096;
@@ -23,8 +20,8 @@ pub enum ReadFault {
     NoMemory,
 }
 
-/// Returns the first [`BEGINNING_LIMIT`] bytes of a source, or all up to its end where it has fewer. An interrupted read is
-/// tried again. After an error some bytes were read and are lost.
+/// Returns the first `limit` bytes of a source, or all up to its end where it has fewer. An interrupted read is tried again.
+/// More may be read than is returned; after an error what was read is lost.
 ///
 /// # Errors
 ///
@@ -33,9 +30,10 @@ pub fn read_beginning<R: Wait, S: Source>(
     rt: &R,
     alloc: Global,
     source: &mut S,
+    limit: usize,
 ) -> Result<Vec<u8>, ReadFault>
-    ensures bytes { IfOk result (λ bytes. BeginsWith bytes.items (S.supply source.old) (S.supply source.new)) }
-    ensures short { IfOk result (λ bytes. length bytes.items ≤ beginning_limit) }
+    ensures bytes { IfOk result (λ bytes. BeginsWith limit bytes.items (S.supply source.old) (S.supply source.new)) }
+    ensures short { IfOk result (λ bytes. length bytes.items ≤ limit) }
     ensures ok { OnOk result ((S.supply source.new).failures ≡ (S.supply source.old).failures) }
     ensures cannot_read { result ≡ Err CannotRead → (S.supply source.old).failures < (S.supply source.new).failures }
     ensures no_memory { result ≡ Err NoMemory → (S.supply source.new).failures ≡ (S.supply source.old).failures }
@@ -43,8 +41,8 @@ pub fn read_beginning<R: Wait, S: Source>(
     let mut bytes = Vec::new(alloc);
     let mut room = [0; ROOM];
     for _ in rt.forever() {
-        if bytes.len() >= BEGINNING_LIMIT {
-            bytes.truncate(BEGINNING_LIMIT);
+        if bytes.len() >= limit {
+            bytes.truncate(limit);
             return Ok(bytes);
         }
         match source.read(&mut room) {

@@ -35,21 +35,24 @@
 //! its writes took, in order, and each read or write that fails is counted. [`Reading`] and [`Writing`] are a source and a
 //! sink over std's `Read` and `Write`; where those tell their bytes, as streams in memory do, these are the same.
 //! [`write_all`] and [`say`] write all bytes, or a prefix of them where the sink fails. [`read_beginning`] reads as much of
-//! a source as a text of PL/0 may have, and one byte more, and [`read_all`] all of it. [`collect_arguments`] returns what
-//! `env::args` gave as a list, and [`borrow_texts`] the same as borrowed texts.
+//! a source as a limit says, and [`read_all`] all of it. [`read_file`] opens a file by its name, reads as much of it, and
+//! closes it: with any [`Opener`], of which [`SystemFiles`] is the system's.
+//! [`collect_arguments`] returns what `env::args` gave as a list, and [`borrow_texts`] the same as borrowed texts.
 #![tactic(auto)]
 
 mod arguments;
 mod beginning;
 mod byte_log;
 mod counting;
+mod files;
 mod streams;
 mod whole;
 mod writing;
 
 pub use arguments::{borrow_texts, collect_arguments};
-pub use beginning::{BEGINNING_LIMIT, ReadFault, read_beginning};
+pub use beginning::{ReadFault, read_beginning};
 pub use byte_log::ByteLog;
-pub use streams::{IoFault, Reading, Sink, Source, Writing};
+pub use files::{FileFault, FileKinds, Opener, SystemFiles, read_file, read_text};
+pub use streams::{GuardedSource, IoFault, Reading, Sink, Source, Writing};
 pub use whole::read_all;
 pub use writing::{WriteFailed, say, write_all};

@@ -52,6 +52,51 @@ pub trait Source {
     ghost of_whole: { (s : Self) → ∥ IsOfWhole (supply s) ∥₁ };
 }
 
+/// A source that may be read only at some times. Each [`Source`] is one that may be read at any time. A function over this
+/// trait reads only where its contract says that it may: so it can't read again while what it has isn't handed on.
+pub trait GuardedSource {
+    ghost use Rattle.std.specs.Prelude.{◌≡◌, ◌<◌, ◌≤◌, ◌⊎◌, length, Err, IfOk, OnOk, OnErr};
+    ghost use Rattle.byte_streams.specs.Streams.{Supply, ReadGives, IsOfWhole};
+    ghost use Rattle.byte_streams.specs.declared.streams.IoFault.TheVariants.{Failed, Interrupted};
+
+    /// As [`Source`] says.
+    ghost supply: { Self → Supply };
+
+    /// When it may be read.
+    ghost may_read: { Self → Type 0 };
+
+    /// Reads as [`Source::read`] does.
+    ///
+    /// # Errors
+    ///
+    /// `Failed` and `Interrupted`: no byte was read.
+    fn read(&mut self, room: &mut [u8]) -> Result<usize, IoFault>
+        requires { may_read self.old }
+        ensures within { IfOk result (λ n. n ≤ length room.old) }
+        ensures bytes { ReadGives (supply self.old) (supply self.new) result room.new }
+        ensures goes_on { IfOk result (λ n. (0 < n) ⊎ (length room.old ≡ 0)
+            → (supply self.new).ended ≡ (supply self.old).ended) }
+        ensures stays { OnErr result ((supply self.new).ended ≡ (supply self.old).ended) }
+        ensures kept { OnOk result ((supply self.new).failures ≡ (supply self.old).failures) }
+        ensures failed { result ≡ Err Failed → (supply self.old).failures < (supply self.new).failures }
+        ensures interrupted { result ≡ Err Interrupted → (supply self.new).failures ≡ (supply self.old).failures };
+
+    /// As [`Source`] says.
+    ghost of_whole: { (s : Self) → ∥ IsOfWhole (supply s) ∥₁ };
+}
+
+impl<S: Source> GuardedSource for S {
+    ghost supply = { S.supply };
+
+    ghost may_read = { λ _. Unit {0} };
+
+    ghost of_whole = { S.of_whole };
+
+    fn read(&mut self, room: &mut [u8]) -> Result<usize, IoFault> {
+        Source::read(self, room)
+    }
+}
+
 /// Where bytes go.
 pub trait Sink {
     ghost use Rattle.std.specs.Prelude.{◌≡◌, ◌<◌, ◌≤◌, length, Ok, Err, IfOk};
