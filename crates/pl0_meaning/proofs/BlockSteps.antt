@@ -1,11 +1,12 @@
 -- The steps of a block, and of a statement in it, are among those of the program.
-use Rattle.std.proofs.Common.{◌≡◌, ℕ, zero, suc, ◌+◌, List, [], ◌∷◌, ◌++◌, slice_get, Option, Some, None, refl, subst, arith}
+use Rattle.std.proofs.Common.{◌≡◌, ℕ, zero, suc, ◌+◌, List, [], ◌∷◌, ◌++◌, slice_get, Option, Some, None, refl, arith}
 use Rattle.std.specs.Prelude.{option_map, option_and_then}
 use Rattle.std.proofs.lemmas.Option.{same_Some}
 use Rattle.pl0_tree.specs.declared.step.StepKind.TheVariants as kind
 use Rattle.pl0_tree.specs.Tree.{Block, ABlock, Procedures, NoMore, AProcedure, procedure_list, body, end}
 use Rattle.pl0_tree.specs.Scope.{Path, block_at, procedure_at}
 use Rattle.pl0_tree.specs.Steps.{StepAt, lone_step, statement_steps, block_steps, procedures_steps, steps}
+use Rattle.std.proofs.lemmas.Grind.{common_steps}
 
 -- a step is one of these
 abbrev pub IsAmong : List StepAt → StepAt → Type 0
@@ -38,29 +39,25 @@ procedure_among : (all : List StepAt) (ps : Procedures) (i k : ℕ) (q : Path) (
     → AreAmong all (block_steps b ((i + k) ∷ q))
 procedure_among all NoMore i k q b e a = cc
 procedure_among all (AProcedure x c more) i zero q b e a =
-    let same : c ≡ b = same_Some c b e in
-    let here : i ≡ i + 0 = omega arith in
-    subst (λ j. AreAmong all (block_steps b (j ∷ q))) here
-    (subst (λ d. AreAmong all (block_steps d (i ∷ q))) same
-    (among_left all (block_steps c (i ∷ q)) (procedures_steps more (i + 1) q) a))
+    grind (arith, common_steps, same_Some, among_left) steps 1500000
 procedure_among all (AProcedure x c more) i (suc k) q b e a =
-    let there : (i + 1) + k ≡ i + suc k = omega arith in
-    subst (λ j. AreAmong all (block_steps b (j ∷ q))) there
-    (procedure_among all more (i + 1) k q b e
-    (among_right all (block_steps c (i ∷ q)) (procedures_steps more (i + 1) q) a))
+    grind (
+      arith,
+      common_steps,
+      procedure_among all more (i + 1) k q b e (among_right all (block_steps c (i ∷ q))
+          (procedures_steps more (i + 1) q) a),
+      among_right,
+    ) steps 1500000
 
 inner_among : (all : List StepAt) (outer b : Block) (k : ℕ) (q : Path) → procedure_at k outer ≡ Some b
     → AreAmong all (block_steps outer q) → AreAmong all (block_steps b (k ∷ q))
 inner_among all (ABlock cs xs ps s p) b k q e a =
     let here : 0 + k ≡ k = omega arith in
-    subst (λ j. AreAmong all (block_steps b (j ∷ q))) here
-    (procedure_among all ps 0 k q b e
-    (among_left all (procedures_steps ps 0 q) (statement_steps s q ++ lone_step q kind.Return p) a))
+    rw (← here) (procedure_among all ps 0 k q b e (among_left all _ _ a))
 
 block_among : (main : Block) (q : Path) (b : Block) → block_at main q ≡ Some b
     → AreAmong (steps main) (block_steps b q)
-block_among main [] b e =
-    subst (λ c. AreAmong (steps main) (block_steps c [])) (same_Some main b e) (among_themselves (steps main))
+block_among main [] b e = grind (arith, common_steps, steps, same_Some, among_themselves) steps 1500000
 block_among main (k ∷ q) b e = within (block_at main q) (block_among main q) e
   where
     within : (o : Option Block) → ((c : Block) → o ≡ Some c → AreAmong (steps main) (block_steps c q))
@@ -70,15 +67,13 @@ block_among main (k ∷ q) b e = within (block_at main q) (block_among main q) e
 
 own_steps : (all : List StepAt) (b : Block) (q : Path) → AreAmong all (block_steps b q)
     → AreAmong all (statement_steps (body b) q ++ lone_step q kind.Return (end b))
-own_steps all (ABlock cs xs ps s p) q a =
-    among_right all (procedures_steps ps 0 q) (statement_steps s q ++ lone_step q kind.Return p) a
+own_steps all (ABlock cs xs ps s p) q a = grind (arith, common_steps, among_right) steps 1500000
 
 -- the steps of a block's statement
 pub body_among : (main : Block) (q : Path) (b : Block) → block_at main q ≡ Some b
     → AreAmong (steps main) (statement_steps (body b) q)
 body_among main q b e =
-    among_left (steps main) (statement_steps (body b) q) (lone_step q kind.Return (end b))
-    (own_steps (steps main) b q (block_among main q b e))
+    among_left (steps main) _ (lone_step q kind.Return (end b)) (own_steps (steps main) b q (block_among main q b e))
 
 -- a block's return
 pub return_among : (main : Block) (q : Path) (b : Block) → block_at main q ≡ Some b

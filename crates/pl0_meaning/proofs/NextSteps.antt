@@ -5,7 +5,8 @@ use Rattle.std.specs.Option.{option_map_or}
 use Rattle.pl0_tree.specs.Tree.{Statement, Empty, Then, If, While, Block}
 use Rattle.pl0_tree.specs.Scope.{Path, block_at}
 use Rattle.pl0_tree.specs.Steps.{StepAt, steps, step_path, statement_steps}
-use Rattle.pl0_meaning.specs.Values.{Frame, StandsBefore, first_step, next_step, return_of}
+use Rattle.pl0_meaning.specs.Values.{Frame, StandsBefore, first_step, return_of}
+use Rattle.std.proofs.lemmas.Grind.{common_steps}
 
 -- if there is a step, it is of the block
 abbrev IsIn : Path → Option StepAt → Type 0
@@ -22,8 +23,7 @@ all_joined q (s ∷ ss) ts a b = (a.0, all_joined q ss ts a.1 b)
 
 statement_in : (q : Path) (s : Statement) → AllIn q (statement_steps s q)
 statement_in q Empty = tt
-statement_in q (Then s t) =
-    all_joined q (statement_steps s q) (statement_steps t q) (statement_in q s) (statement_in q t)
+statement_in q (Then s t) = all_joined q _ _ (statement_in q s) (statement_in q t)
 statement_in q (If p c s) = (refl, statement_in q s)
 statement_in q (While p c s) = (refl, statement_in q s)
 statement_in q _ = (refl, tt)
@@ -47,5 +47,4 @@ there (s ∷ ss) zero q o lt is held = let here = subst (IsIn q) (sym is) held i
 there (s ∷ ss) (suc n) q o lt is held = there ss n q o (omega arith) is held
 
 pub next_step_in_block : (main : Block) (f : Frame) (n : ℕ) → StandsBefore main f n → step_path main n ≡ f.block
-next_step_in_block main f n before =
-    (there (steps main) n f.block (next_step main f) before.within before.next (step_in main f.block f.todo)).1
+next_step_in_block main f n before = grind (arith, common_steps, there, steps, step_in) steps 1500000

@@ -58,15 +58,15 @@ module _ (w : List ℕ) where
       let cs = declared_as AConstant 0 (map (λ c. c.name) (constants b)) in
       let vs = declared_as AVariable 0 (variables b) in
       let ps = declared_as AProcedure 0 (map (λ p. p.name) (procedures b)) in
-      ap (λ o. option_or o (option_or (option_map AVariable variable) (option_map AProcedure procedure)))
-      (first_of AConstant (map (λ c. c.name) (constants b)) constant c)
-      ∙ ap (λ o. option_or (first_means cs) (option_or o (option_map AProcedure procedure)))
-      (first_of AVariable (variables b) variable v)
-      ∙ ap (λ o. option_or (first_means cs) (option_or (first_means vs) o))
-      (first_of AProcedure (map (λ p. p.name) (procedures b)) procedure p)
-      ∙ sym (or_means (find is cs) (find is vs) (find is ps))
-      ∙ ap (λ o. option_map means (option_or (find is cs) o)) (sym (find-append is vs ps))
-      ∙ ap (option_map means) (sym (find-append is cs (vs ++ ps)))
+      cc (
+        first_of AConstant (map (λ c. c.name) (constants b)) constant c,
+        first_of AVariable (variables b) variable v,
+        first_of AProcedure (map (λ p. p.name) (procedures b)) procedure p,
+        or_means (find is cs) (find is vs) (find is
+            ps),
+        find-append is vs ps,
+        find-append is cs (vs ++ ps),
+      )
 
   -- what is found in a block as the code keeps it
   pub block_means : (b : DeclaredBlock) (constant variable procedure : Option ℕ) →
@@ -74,14 +74,21 @@ module _ (w : List ℕ) where
       variable ≡ position (λ x. bytes_eq (string_bytes x.text) w) (out-Block b).variables.items →
       procedure ≡ position (λ p. bytes_eq (string_bytes (out-Procedure p).name.text) w) (out-Block b).procedures.items →
       found_as constant variable procedure ≡ option_map means (first_declaration w (plain_block b))
-  block_means b constant variable procedure c v p = first_meaning (plain_block b) constant variable procedure
-      (c ∙ position_among plain_constant (λ k. k.name) is_word (out-Block b).constants.items
-      ∙ ap (λ cs. position is_word (map (λ k. k.name) cs)) (sym (plain_constants b)))
-      (v ∙ position_among (λ x. x) plain_name is_word (out-Block b).variables.items
-      ∙ ap (λ xs. position is_word (map plain_name xs)) (map_same (out-Block b).variables.items)
-      ∙ ap (position is_word) (sym (plain_variables b)))
-      (p ∙ position_among plain_procedure (λ r. r.name) is_word (out-Block b).procedures.items
-      ∙ ap (λ ps. position is_word (map (λ r. r.name) ps)) (sym (plain_block_procedures b)))
+  block_means b constant variable procedure c v p =
+      first_meaning (plain_block b) constant variable procedure (cc (
+        position_among plain_constant (λ k. k.name) is_word
+            (out-Block b).constants.items,
+        plain_constants b,
+      )) (cc (
+        position_among (λ x. x) plain_name is_word (out-Block
+            b).variables.items,
+        map_same (out-Block b).variables.items,
+        plain_variables b,
+      )) (cc (
+        position_among
+            plain_procedure (λ r. r.name) is_word (out-Block b).procedures.items,
+        plain_block_procedures b,
+      ))
     where
       map_same : {A : Type 0} (xs : List A) → map (λ x. x) xs ≡ xs
       map_same [] = refl
@@ -114,9 +121,7 @@ pub table_means : (main : Block) (tables : List (List (List (List ℕ × Declare
     (option_and_then (first_declaration w) (block_at main q))
 table_means main tables all n table here w found is q at =
     let there = numbered_there main n q at in
-    sym (meant_told found) ∙ ap meant (is ∙ all n table q there.0 here at there.1 w)
-    ∙ meant_known (first_declaration w there.0) ∙ ap (λ o. option_map means
-    (option_and_then (first_declaration w) o)) (sym there.1)
+    cc (meant_told found, all n table q there.0 here at there.1 w, meant_known (first_declaration w there.0), there.1)
 
 -- one table more
 pub one_table_more : (main b : Block) (tables : List (List (List (List ℕ × Declared))))

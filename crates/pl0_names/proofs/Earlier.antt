@@ -68,18 +68,17 @@ row_spans (AndProcedure x c more) zero b m e Outer chain later is =
     record {
       from = Some x.place;
       to = r.0;
-      chain = subst (λ d. Chain (Some x.place) (block_places d) r.0) same r.1;
+      chain = rw (← same) r.1;
       later = λ p within. (
-        row_after p r.0 e more r.2 within,
-        later p
-            (λ q l. within q (chain_ends r.0 e (row_places more) r.2 q l)),
+        row_after p r.0 e more r.2
+            within,
+        later p (λ q l. within q (chain_ends r.0 e (row_places more) r.2 q l)),
       );
     }
 row_spans (AndProcedure x c more) (suc i) b m e Outer chain later is =
     let r = chain_first (Some x.place) e (block_places c) (row_places more) chain.1 in
     let next : suc (i + 1) ≡ suc i + 1 = omega arith in
-    subst (λ k. Spans b (λ p. AllAfter p (drop k (names_of (AndProcedure x c more))) × Outer p)) next
-    (row_spans more i b r.0 e Outer r.2 later is)
+    rw (← next) (row_spans more i b r.0 e Outer r.2 later is)
 
 module _ (main : Block) where
   -- the procedures that are declared later than the blocks of a path stand after a place
@@ -115,12 +114,7 @@ module _ (main : Block) where
 
   spans_at : Spans main (Later []) → (q : Path) (b : Block) → block_at main q ≡ Some b → Spans b (Later q)
   spans_at whole [] b at = let same : main ≡ b = cc in subst (λ c. Spans c (Later [])) same whole
-  spans_at whole (i ∷ q) b at = outside (block_at main q) refl (spans_at whole q) at
-    where
-      outside : (o : Option Block) → block_at main q ≡ o → ((c : Block) → block_at main q ≡ Some c → Spans c (Later q))
-          → option_and_then (procedure_at i) o ≡ Some b → Spans b (Later (i ∷ q))
-      outside None there around is = cc
-      outside (Some c) there around is = inner_spans q i c b there is (around c there)
+  spans_at whole (i ∷ q) b at = grind (arith, common_steps, block_at, spans_at whole q, inner_spans)
 
   -- ---- what is found before
 
@@ -137,10 +131,7 @@ module _ (main : Block) where
       ++ declared_as m (j + i) (drop i xs)
   declared_split m j zero xs = ap (λ k. declared_as m k xs) (omega arith)
   declared_split m j (suc i) [] = refl
-  declared_split m j (suc i) (x ∷ xs) =
-      ap (λ ds. record { name = x; meaning = m j } ∷ ds)
-      (declared_split m (j + 1) i xs ∙ ap (λ k. declared_as m (j + 1) (take i xs) ++ declared_as m k (drop i xs))
-      (omega arith))
+  declared_split m j (suc i) (x ∷ xs) = grind (arith, common_steps, declared_split m (j + 1) i xs, take, drop)
 
   abbrev later_declared : ℕ → Block → List Declaration
   later_declared i c = declared_as AProcedure (0 + i) (drop i (map (λ (r : Procedure). r.name) (procedures c)))
@@ -152,11 +143,13 @@ module _ (main : Block) where
       let a = declared_as AConstant 0 (map (λ (x : Constant). x.name) (constants c)) in
       let b = declared_as AVariable 0 (variables c) in
       let early = declared_as AProcedure 0 (take i names) in
-      ap (find (λ d. bytes_eq d.name.word w))
-      (ap (λ ds. a ++ (b ++ ds)) (declared_split AProcedure 0 i names)
-      ∙ ap (λ ds. a ++ ds) (sym (append_assoc b early (later_declared i c)))
-      ∙ sym (append_assoc a (b ++ early) (later_declared i c))) ∙
-      find-append (λ d. bytes_eq d.name.word w) (declarations_before i c) (later_declared i c)
+      cc (
+        declared_split AProcedure 0 i names,
+        append_assoc b early (later_declared i c),
+        append_assoc a (b ++ early)
+            (later_declared i c),
+        find-append (λ d. bytes_eq d.name.word w) (declarations_before i c) (later_declared i c),
+      )
 
   abbrev home_of : Path → Option Declaration → Option Home
   home_of q o = option_map (λ d. record { path = q; declaration = d }) o
@@ -169,22 +162,14 @@ module _ (main : Block) where
       → or_else (home_of q (option_and_then (first_before (i + 1) w) o)) some ≡ Some h
   found_step p q i w h None after before all some more is = more is
   found_step p q i w h (Some c) after before all some more is =
-      by (first_before (i + 1) w c) (find (λ d. bytes_eq d.name.word w) (later_declared (i + 1) c))
-      (λ d e. later_found p _ _ w d (after c refl) e)
-      (sym (ap (λ o. or_else (home_of q o) all) (first_split (i + 1) w c)) ∙ is)
+      by (first_before (i + 1) w c) (find (λ d. bytes_eq d.name.word w) (later_declared (i + 1) c)) (λ d e. later_found
+      p _ _ w d (after c refl) e) (cc (first_split (i + 1) w c))
     where
       by : (a b : Option Declaration) → ((d : Declaration) → b ≡ Some d → IsBefore p d.name.place)
           → or_else (home_of q (option_or a b)) all ≡ Some h → or_else (home_of q a) some ≡ Some h
       by (Some d) b late found = found
       by None None late found = more found
-      by None (Some d) late found =
-          let same : d ≡ h.declaration =
-          ap (λ (x : Home). x.declaration) (the_home (record { path = q; declaration = d }) found) in
-          absurd (not_before p (before_trans p h.declaration.name.place p
-          (subst (λ (x : Declaration). IsBefore p x.name.place) same (late d refl)) before))
-        where
-          the_home : (x : Home) → Some x ≡ Some h → x ≡ h
-          the_home x found = cc
+      by None (Some d) late found = grind (arith, common_steps, not_before, before_trans)
 
   around_found : (p : Place) (q : Path) (i : ℕ) (w : List ℕ) (h : Home) → Later (i ∷ q) p
       → IsBefore h.declaration.name.place p → home main q w ≡ Some h → home_around main (i ∷ q) w ≡ Some h

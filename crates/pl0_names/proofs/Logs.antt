@@ -1,5 +1,5 @@
 -- What the log of declarations says of words and of blocks.
-use Rattle.pl0_names.proofs.Common.{[], add-one, ap, arith, at_level, Bool, both_ways, bytes_eq, bytes_eq-Decides, cases_eq, cond, declared_in, false, find, found_at, found_in, get_or, inl, inr, IsNested, latest, length, List, map, names, nat_eq, None, Option, option_map, option_or, refl, reverse, reverse-append, Some, subst, suc, sym, true, zero, ℕ, ◌++◌, ◌+◌, ◌-◌, ◌<◌, ◌∙◌, ◌∷◌, ◌≡◌, ◌≤◌, ◌⊎◌}
+use Rattle.pl0_names.proofs.Common.{[], add-one, ap, arith, at_level, Bool, both_ways, bytes_eq, bytes_eq-Decides, cases_eq, cond, declared_in, false, find, found_at, found_in, get_or, inl, inr, IsNested, latest, length, List, map, names, nat_eq, None, Option, option_map, option_or, refl, reverse, reverse-append, Some, suc, true, zero, ℕ, ◌++◌, ◌+◌, ◌-◌, ◌<◌, ◌∙◌, ◌∷◌, ◌≡◌, ◌≤◌, ◌⊎◌}
 use Rattle.std.proofs.lemmas.Grind.{common_steps}
 use Rattle.pl0_names.specs.declared.log.Entry.{Entry}
 use Rattle.pl0_names.specs.declared.scopes.Found.{Found}
@@ -75,23 +75,9 @@ module _ {T : Type 0} where
           cond (bytes_eq e.word.now w) (Some (found_at (k + (suc m - (e.level + 1))) e.meaning))
           (found_in k (map names (blocks (suc m) es)) w)
       at (inl is) further =
-          ap (λ ds. option_or (option_map (found_at k) (names ds w))
-          (found_in (k + 1) (map names (blocks m (e ∷ es))) w)) (at_here m e es is) ∙
-          ap (λ bs. option_or (option_map (found_at k) (names ((e.word.now, e.meaning) ∷ at_level m es) w))
-          (found_in (k + 1) (map names bs) w)) (outer_same m e es (omega arith)) ∙
-          put_here k (k + (suc m - (e.level + 1))) (bytes_eq e.word.now w) e.meaning (at_level m es) w
-          (found_in (k + 1) (map names (blocks m es)) w) (omega arith)
-      at (inr not) further =
-          let none : at_level m es ≡ [] = none_at (e.level + 1) m es (omega arith) nested in
-          let number : k + 1 + (m - (e.level + 1)) ≡ k + (suc m - (e.level + 1)) = omega arith in
-          ap (λ ds. option_or (option_map (found_at k) (names ds w))
-          (found_in (k + 1) (map names (blocks m (e ∷ es))) w)) (at_other m e es not ∙ none) ∙
-          further (omega arith) ∙
-          ap (λ j. cond (bytes_eq e.word.now w) (Some (found_at j e.meaning))
-          (found_in (k + 1) (map names (blocks m es)) w)) number ∙
-          ap (λ ds. cond (bytes_eq e.word.now w) (Some (found_at (k + (suc m - (e.level + 1))) e.meaning))
-          (option_or (option_map (found_at k) (names ds w)) (found_in (k + 1) (map names (blocks m es)) w)))
-          (sym none)
+          grind (arith, common_steps, found_at, names, found_in, map, at_here, outer_same, put_here, bytes_eq) steps
+          1500000
+      at (inr not) further = grind (arith, common_steps, none_at, found_at, names, found_in, map, at_other, bytes_eq)
 
   -- the latest declaration of a word
   abbrev pub latest_entry : List (Entry T) → List ℕ → Option (Entry T)
@@ -173,11 +159,8 @@ module _ {T : Type 0} where
           → (latest_entry es w ≡ Some x → names (at_level m es) w ≡ Some x.meaning) →
           cond b (Some e) (latest_entry es w) ≡ Some x → names
           (cond h ((e.word.now, e.meaning) ∷ at_level m es) (at_level m es)) w ≡ Some x.meaning
-      at true is true here further same =
-          let it : e ≡ x = cc in ap (λ b. cond b (Some e.meaning) (names (at_level m es) w)) is
-          ∙ ap (λ y. Some y.meaning) it
-      at true is false here further same =
-          let it : e ≡ x = cc in absurd (both_ways _ here (same_level e.level m (ap (λ y. y.level) it ∙ level)))
+      at true is true here further same = grind (arith, common_steps, names)
+      at true is false here further same = grind (arith, common_steps, both_ways, same_level)
       at false is true here further same = ap (λ b. cond b (Some e.meaning) (names (at_level m es) w)) is ∙ further same
       at false is false here further same = further same
 
@@ -192,11 +175,7 @@ module _ {T : Type 0} where
     where
       at : (b : Bool) → bytes_eq e.word.now w ≡ b → (latest_entry es w ≡ Some x → names (at_level m es) w ≡ None)
           → cond b (Some e) (latest_entry es w) ≡ Some x → names (at_level m (e ∷ es)) w ≡ None
-      at true is further same =
-          let it : e.level ≡ x.level = ap (λ y. y.level) (let it : e ≡ x = cc in it) in
-          let first : e.level < m + 1 = nested.0 in
-          let apart : e.level ≡ m → ⊥ = λ here. other (sym it ∙ here) in
-          ap (λ ds. names ds w) (at_other m e es apart ∙ none_at (e.level + 1) m es (omega arith) nested.1)
+      at true is further same = grind (arith, common_steps, names, at_other, none_at)
       at false is further same = put_none m e es w is (further same)
 
   put_declared : (m : ℕ) (e : Entry T) (es : List (Entry T)) → e.level ≡ m → names (at_level m es) e.word.now ≡ None →
@@ -215,6 +194,4 @@ module _ {T : Type 0} where
   pub declared_old : (n m : ℕ) (es : List (Entry T)) (word : List ℕ) (d x : T) → n ≡ m + 1
       → names (at_level m es) word ≡ Some x →
       map names (blocks n es) ≡ declared_in (map names (blocks n es)) word d
-  declared_old n m es word d x more some =
-      subst (λ k. map names (blocks k es) ≡ declared_in (map names (blocks k es)) word d) (sym (more ∙ add-one m))
-      (stays_declared m es word d x some)
+  declared_old n m es word d x more some = rw (more ∙ add-one m) (stays_declared m es word d x some)

@@ -1,5 +1,5 @@
 -- The walk from a block outward, to the first that declares a word.
-use Rattle.pl0_names.proofs.Common.{[], ABlock, ap, AreNestings, arith, Block, block_at, block_paths, blocks, Declaration, first_declaration, get_or, home, IsHomeAnswer, IsNesting, length, length-append, List, meaning_of, means, Nesting, NoMore, None, Option, option_and_then, option_map, or_else, Path, plain_block, Procedures, procedures_paths, refl, slice_get, slice_get-get_or, Some, subst, suc, sym, zero, ℕ, ◌++◌, ◌+◌, ◌<◌, ◌∙◌, ◌∷◌, ◌≡◌, ◌≤◌}
+use Rattle.pl0_names.proofs.Common.{[], ABlock, ap, AreNestings, arith, Block, block_at, block_paths, blocks, Declaration, first_declaration, get_or, home, IsHomeAnswer, IsNesting, length, length-append, List, meaning_of, means, Nesting, NoMore, None, Option, option_and_then, option_map, Path, plain_block, Procedures, procedures_paths, refl, slice_get, slice_get-get_or, Some, suc, sym, zero, ℕ, ◌++◌, ◌+◌, ◌<◌, ◌∙◌, ◌∷◌, ◌≡◌, ◌≤◌}
 use denote.Ref.{Bor}
 use Rattle.pl0_tree.specs.Tree.{AProcedure as AndProcedure}
 use Rattle.pl0_tree.specs.declared.tree.Block.{Block as DeclaredBlock}
@@ -103,10 +103,7 @@ module _ (main : Block) (table : List (Option Nesting)) (nested : AreNestings ma
           → Some (meaning_of meaning) ≡ option_map means o →
           IsHomeAnswer main q (home main q w) (Some (record { block = b; level = levels; meaning = meaning }))
       by_first here None first e = cc
-      by_first here (Some d) first e =
-          subst (λ o. IsHomeAnswer main q o (Some (record { block = b; level = levels; meaning = meaning })))
-          (sym (here.same ∙ declared_home here.path d first))
-          (there here.path here.at, here.levels_are, (let same : meaning_of meaning ≡ d.meaning = cc in same))
+      by_first here (Some d) first e = grind (arith, common_steps, declared_home)
 
   -- the main block, which no block is around
   pub found_nowhere : Says main w n None → get_or table n None ≡ None → (q : Path)
@@ -115,10 +112,10 @@ module _ (main : Block) (table : List (Option Nesting)) (nested : AreNestings ma
       let here = walk.walked q begins in
       let first = main_found main n here.path (read_at main table n None nested in_table outermost) here.at in
       let none = none_of (option_and_then (first_declaration w) (block_at main here.path)) (said here.path here.at) in
-      subst (λ o. IsHomeAnswer main q o None)
-      (sym (here.same ∙ ap (λ p. home main p w)
-      first ∙ ap (λ o. option_map (λ (d : Declaration). record { path = []; declaration = d }) o)
-      (ap (λ p. option_and_then (first_declaration w) (block_at main p)) (sym first) ∙ none))) tt
+      rw (here.same ∙ ap (λ p. home main p w) first ∙ ap (λ o. option_map (λ (d : Declaration). record {
+        path = [];
+        declaration = d;
+      }) o) (ap (λ p. option_and_then (first_declaration w) (block_at main p)) (sym first) ∙ none)) tt
 
   -- one block further out
   pub walk_on : (nesting : Nesting) → Says main w n None → get_or table n None ≡ Some nesting
@@ -130,18 +127,14 @@ module _ (main : Block) (table : List (Option Nesting)) (nested : AreNestings ma
           within = omega (arith, inside, nestings_lengths main table (blocks main) nested);
           walked = λ q begins.
               let here = walk.walked q begins in
-              outward q here here.path refl
-              (subst (λ p. IsNesting main (Some nesting) p) (same_path main n at.path here.path at.at here.at)
-              at.is);
+              outward q here here.path refl (rw (← (same_path main n at.path here.path at.at here.at)) at.is);
         },
         outer_shallower main n nesting at,
       )
     where
       passed : (i : ℕ) (r : Path) → option_and_then (first_declaration w) (block_at main (i ∷ r)) ≡ None
           → home main (i ∷ r) w ≡ home main r w
-      passed i r none =
-          ap (λ o. or_else (option_map (λ (d : Declaration). record { path = i ∷ r; declaration = d }) o)
-          (home main r w)) none
+      passed i r none = grind (arith, common_steps)
 
       outward : (q : Path) (here : Walked main w q n levels) (p : Path) → here.path ≡ p
           → IsNesting main (Some nesting) p → Walked main w q nesting.outer (levels + 1)
@@ -152,7 +145,10 @@ module _ (main : Block) (table : List (Option Nesting)) (nested : AreNestings ma
             path = r;
             at = at.0;
             levels_are = omega (arith, e, ap length is);
-            same = here.same ∙ ap (λ p. home main p w) is ∙ passed i r
-                (none_of (option_and_then (first_declaration w) (block_at main (i ∷ r)))
-                (said (i ∷ r) (here.at ∙ ap Some is)));
+            same = cc (
+              here.same,
+              passed i r
+                  (none_of (option_and_then (first_declaration w) (block_at main (i ∷ r)))
+                  (said (i ∷ r) (here.at ∙ ap Some is))),
+            );
           }

@@ -1,5 +1,5 @@
 -- What the map of indices says, beside the log.
-use Rattle.pl0_names.proofs.Common.{ap, arith, blocks_of, Bool, both_ways, bytes_eq, bytes_eq-Decides, cond, ends_at, Err, found_at, found_in, get_or, index_of, is_some, IsIndexed, IsLinked, IsNested, IsSome, IsTable, latest, length, List, None, Ok, OnErr, OnOk, Option, Result, reverse, reverse-reverse, Some, subst, sym, true, ℕ, ◌+◌, ◌-◌, ◌<◌, ◌∙◌, ◌∷◌, ◌≡◌}
+use Rattle.pl0_names.proofs.Common.{ap, arith, blocks_of, Bool, both_ways, bytes_eq, bytes_eq-Decides, ends_at, Err, found_at, found_in, get_or, index_of, is_some, IsIndexed, IsNested, IsSome, IsTable, latest, length, List, None, Ok, OnErr, OnOk, Option, Result, reverse, reverse-reverse, Some, sym, true, ℕ, ◌+◌, ◌-◌, ◌<◌, ◌∙◌, ◌∷◌, ◌≡◌}
 use Rattle.std.specs.Map.{update}
 use Rattle.std.specs.HashMap.{HashMap}
 use denote.Ref.{Bor}
@@ -33,15 +33,7 @@ module _ {S T : Type 0} where
   pub cut_indexed : (m m' : HashMap (Bor (List ℕ)) ℕ S) (e : Entry T) (es es' : List (Entry T)) → IsIndexed m es'
       → es' ≡ e ∷ es →
       ((w : List ℕ) → index_of m' w ≡ update bytes_eq (index_of m) e.word.now e.hidden w) → IsIndexed m' es
-  cut_indexed m m' e es es' indexed is updated =
-      let linked : IsLinked (e ∷ es) = subst IsLinked is indexed.linked in
-      record {
-        latest_of = λ w.
-            updated w ∙ ap (λ o. cond (bytes_eq e.word.now w) e.hidden o)
-            (indexed.latest_of w ∙ ap (λ xs. latest xs w) is) ∙
-            restored e es w linked.0;
-        linked = linked.1;
-      }
+  cut_indexed m m' e es es' indexed is updated = grind (arith, common_steps, bytes_eq, restored)
 
   pub has_place : (m : HashMap (Bor (List ℕ)) ℕ S) (items : List (Entry T)) (w : List ℕ) (i : ℕ)
       → IsIndexed m (reverse items) → index_of m w ≡ Some i → i < length items
@@ -51,8 +43,7 @@ module _ {S T : Type 0} where
       → IsIndexed m (reverse items) → index_of m w ≡ Some i →
       e ≡ get_or items i e → latest_entry (reverse items) w ≡ Some e
   latest_read m items w i e indexed is read =
-      at_latest (reverse items) w i e (sym (indexed.latest_of w) ∙ is) ∙
-      ap (λ x. Some x) (ap (λ xs. get_or xs i e) (reverse-reverse items) ∙ sym read)
+      cc (at_latest (reverse items) w i e (sym (indexed.latest_of w) ∙ is), reverse-reverse items)
 
   -- a word that the map doesn't have is declared by no open block
   pub found_none : (n : ℕ) (m : HashMap (Bor (List ℕ)) ℕ S) (es : List (Entry T)) (stack : List (List (List ℕ × T)))

@@ -1,6 +1,6 @@
 -- A token's bytes are skipped, and the lexer goes on after them.
 use Rattle.std.proofs.lemmas.List.Sums.{take_while-cons}
-use Rattle.pl0_parser.proofs.Common.{[], add-zero, ap, arith, common_steps, token_at, behind, Bool, cond, decimal_value, drop, eqb, false, Faulty, find, fold, front_piece, get_or, is_space, is_word_byte, length, List, lit<, Mark, nat_eq, nat_le, nat_lt, not, number_symbol, NumberTooLarge, Option, Place, pred, refl, sign_piece, signs, Some, subst, suc, sym, Symbol, symbol_of, take, take_while, tokens_from, true, word_symbol, zero, ℕ, ◌&&◌, ◌*◌, ◌+◌, ◌-◌, ◌<◌, ◌==◌, ◌^◌, ◌||◌, ◌∙◌, ◌∷◌, ◌≡◌, ◌≤◌}
+use Rattle.pl0_parser.proofs.Common.{[], add-zero, ap, arith, common_steps, token_at, behind, Bool, cond, decimal_value, drop, eqb, false, Faulty, find, fold, front_piece, get_or, is_space, is_word_byte, length, List, lit<, Mark, nat_eq, nat_le, nat_lt, not, number_symbol, NumberTooLarge, Option, Place, pred, refl, sign_piece, signs, Some, subst, suc, sym, Symbol, symbol_of, take, take_while, tokens_from, true, word_symbol, zero, ℕ, ◌&&◌, ◌*◌, ◌+◌, ◌-◌, ◌<◌, ◌==◌, ◌^◌, ◌∙◌, ◌∷◌, ◌≡◌, ◌≤◌}
 use Rattle.std.specs.Prelude.{◌≢◌}
 use Rattle.std.specs.List.{starts_with}
 use Rattle.std.specs.Str.{IsAscii}
@@ -44,10 +44,7 @@ pub past_token : (p : Place) (b : ℕ) (bytes : List ℕ) (s : Seen) (size : ℕ
 past_token p b bytes s zero visible (same, size_is, positive, stays) = absurd (omega arith)
 past_token p b bytes s (suc k) visible (same, size_is, positive, stays) =
     let rest : pred (front_piece b (b ∷ bytes)).1 ≡ k = ap pred (sym size_is) in
-    cond-false (is_space b) _ _ visible ∙
-    ap (λ x. token_at x p ∷ tokens_from (behind p b) (pred (front_piece b (b ∷ bytes)).1) bytes) (sym same) ∙
-    ap (λ n. token_at (symbol_of s) p ∷ tokens_from (behind p b) n bytes) rest ∙
-    ap (λ ts. token_at (symbol_of s) p ∷ ts) (skip (suc k) p (b ∷ bytes) stays)
+    cc (cond-false (is_space b) _ _ visible, skip (suc k) p (b ∷ bytes) stays)
 
 -- a piece at the front is the first token
 pub front_is : (bytes : List ℕ) (s : Seen) (size : ℕ) → is_space (get_or bytes 0 0) ≡ false → IsPiece bytes s size
@@ -111,9 +108,8 @@ pub word_front : (bytes : List ℕ) (s : Seen) (size : ℕ) → 0 < length bytes
     → size ≡ length (take_while is_word_byte bytes) → symbol_of s ≡ word_symbol (take size bytes) → IsFront bytes s size
 word_front [] s size some visible small letter size_is same = absurd (omega arith)
 word_front (b ∷ bytes) s size some visible small letter size_is same =
-    front_is (b ∷ bytes) s size visible
-    (run_piece b bytes s size is_word_byte word_symbol word_visible (ap (λ v. v || is_ascii_digit b) letter)
-    (cond-false (nat_le 128 b) _ _ (low b small) ∙ cond-true (is_ascii_alphabetic b) _ _ letter) size_is same)
+    front_is (b ∷ bytes) s size visible (run_piece b bytes s size is_word_byte word_symbol word_visible (cc) (cond-false
+    (nat_le 128 b) _ _ (low b small) ∙ cond-true (is_ascii_alphabetic b) _ _ letter) size_is same)
 
 pub number_front : (bytes : List ℕ) (s : Seen) (size : ℕ) → 0 < length bytes → is_space (get_or bytes 0 0) ≡ false
     → get_or bytes 0 0 < 128 → is_ascii_alphabetic (get_or bytes 0 0) ≡ false → is_ascii_digit (get_or bytes 0 0) ≡ true
@@ -121,10 +117,8 @@ pub number_front : (bytes : List ℕ) (s : Seen) (size : ℕ) → 0 < length byt
     → IsFront bytes s size
 number_front [] s size some visible small letter digit size_is same = absurd (omega arith)
 number_front (b ∷ bytes) s size some visible small letter digit size_is same =
-    front_is (b ∷ bytes) s size visible
-    (run_piece b bytes s size is_ascii_digit (λ ds. number_symbol (decimal_value ds)) digit_visible digit
-    (cond-false (nat_le 128 b) _ _ (low b small) ∙ cond-false (is_ascii_alphabetic b) _ _ letter
-    ∙ cond-true (is_ascii_digit b) _ _ digit) size_is same)
+    front_is _ s size visible (run_piece b bytes s size is_ascii_digit (λ ds. number_symbol (decimal_value ds))
+    digit_visible digit (cond-false _ _ _ (low b small) ∙ cond-false _ _ _ letter ∙ cond-true _ _ _ digit) size_is same)
 
 -- each byte of a run passes the test
 run_all_at : (test : ℕ → Bool) (v : Bool) (x : ℕ) (run : List ℕ) → (v ≡ true → test x ≡ true)
@@ -226,9 +220,8 @@ sign_fits : (entries : List (List ℕ × Mark)) (xs : List ℕ) → all_visible 
     → FitsOnLine xs (sign_piece (find (λ entry. starts_with nat_eq xs entry.0) entries)).1
 sign_fits [] xs visible one = one
 sign_fits (entry ∷ entries) xs visible one =
-    let (head, tail) = and_parts (is_visible entry.0) (all_visible entries) visible in
-    found_at (starts_with nat_eq xs entry.0) xs entry (find (λ e. starts_with nat_eq xs e.0) entries) head refl
-    (sign_fits entries xs tail one)
+    let (head, tail) = and_parts _ _ visible in
+    found_at _ xs entry (find (λ e. starts_with nat_eq xs e.0) entries) head refl (sign_fits entries xs tail one)
 
 space_visible : (b : ℕ) → is_space b ≡ false → b ≡ 10 → ⊥
 space_visible b visible same = let other = ap is_space same in cc
@@ -239,14 +232,13 @@ pub sign_front : (bytes : List ℕ) (s : Seen) (size : ℕ) → 0 < length bytes
 sign_front [] s size some visible small letter digit sign = absurd (omega arith)
 sign_front (b ∷ bytes) s size some visible small letter digit (same, size_is) =
     let piece : front_piece b (b ∷ bytes) ≡ sign_piece (find (λ entry. starts_with nat_eq (b ∷ bytes) entry.0) signs) =
-    cond-false (nat_le 128 b) _ _ (low b small) ∙ cond-false (is_ascii_alphabetic b) _ _ letter
-    ∙ cond-false (is_ascii_digit b) _ _ digit in
-    let fits : FitsOnLine (b ∷ bytes) size =
-    subst (FitsOnLine (b ∷ bytes)) (sym size_is)
-    (sign_fits signs (b ∷ bytes) refl (lit< tt, (space_visible b visible, tt))) in
+    grind (arith, common_steps, cond-false, low) steps 1500000 in
+    let fits : FitsOnLine (b ∷ bytes) size = subst (FitsOnLine (b ∷ bytes)) (sym size_is) (sign_fits signs (b ∷ bytes)
+    refl (lit< tt, (space_visible b visible, tt))) in
     front_is (b ∷ bytes) s size visible (
       same ∙ sym (ap (λ (x : Symbol × ℕ). x.0) piece),
-      size_is ∙ sym (ap (λ (x : Symbol × ℕ). x.1) piece),
+      size_is ∙ sym (ap (λ (x :
+          Symbol × ℕ). x.1) piece),
       fits.0,
       fits.1,
     )

@@ -105,15 +105,12 @@ module _ (r : Rank) (first : Expression) (begun : List Token) where
       → Parses r.ReadsOperand r.operand next (plain_expression right) after
       → Keeps r first begun (plain_expression (declared.Binary o x y)) after
   goes_on_boxed left right tokens next after o x y is_left is_right keeps sign parsed =
-      goes_on (plain_expression x.value) (plain_expression y.value) tokens next after o
-      (subst (λ e. Keeps r first begun (plain_expression e) tokens) (sym is_left) keeps) sign
-      (subst (λ e. Parses r.ReadsOperand r.operand next (plain_expression e) after) (sym is_right) parsed)
+      goes_on _ _ tokens next after o (rw is_left keeps) sign (rw is_right parsed)
 
   -- an operand that is refused
   pub fails : (left : Expression) (tokens next : List Token) (o : Operator) (fault : SyntaxFault)
       → Keeps r first begun left tokens → Joined tokens o next → FaultIs (RefusedAt r.operand next) fault
       → FaultIs (RefusedAt r.others begun) fault
   fails left tokens next o fault keeps (m, p, sign, is) refused =
-      fault_weaker fault (λ kind place refused. keeps.refused kind place
-      (λ goals. ap (first_refusal (r.others ∷ goals)) is ∙ r.takes goals m o p next sign
-      ∙ refused (r.others ∷ goals))) refused
+      fault_weaker fault (λ kind place refused. keeps.refused kind place (λ goals.
+      cc (r.takes goals m o p next sign, refused (r.others ∷ goals)))) refused

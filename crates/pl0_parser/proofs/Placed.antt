@@ -20,8 +20,7 @@ differs true m n is less = let same : m ≡ n = eqb-true m n is in absurd (omega
 differs false m n is less = is
 
 later : (t : Token) (ts : List Token) (n : ℕ) → n < length ts → place_of (t ∷ ts) n ≡ place_of ts n
-later t ts n less =
-    ap (λ (b : Bool). if b then t.place else place_of ts n) (differs (nat_eq (length ts) n) (length ts) n refl less)
+later t ts n less = cc (differs (nat_eq (length ts) n) (length ts) n refl less)
 
 places : (at : ℕ → Place) (ts : List Token) → ((n : ℕ) → n < length ts → at n ≡ place_of ts n)
     → placed at (symbols ts) ≡ ts

@@ -1,6 +1,6 @@
 -- Tokens that end with the end of a text are read, or have a fault.
 use Rattle.pl0_tree.specs.Faults.{level_limit}
-use Rattle.pl0_parser.proofs.Common.{[], AComparison, ACondition, advance, AFactor, AName, AnEnd, AnExpression, ANumber, ap, AStatement, ATerm, Bool, cond, Choice, choice, comparison_choice, condition_choice, ConstantPart, constant_part_choice, else_behind, end_choice, EndOfText, Equal, Expect, Expected, expression_choice, factor_choice, false, FaultKind, Faulty, first_refusal, followed_by, front_piece, Goal, if◌then◌else◌, inl, inr, is_space, IsText, IsTokenFault, List, Mark, mark_choice, mark_number, Marked, more_constants_choice, more_factors_choice, more_statements_choice, more_terms_choice, more_variables_choice, MoreConstants, MoreFactors, MoreStatements, MoreTerms, MoreVariables, name_choice, Named, number_choice, Numeral, Option, Pass, Place, procedure_part_choice, ProcedurePart, Reading, refl, Refuse, refusal_after, Some, statement_choice, subst, suc, sym, Symbol, symbols, Take, term_choice, Token, token_at, tokens_from, true, variable_part_choice, VariablePart, zero, ℕ, ◌++◌, ◌==◌, ◌∙◌, ◌∷◌, ◌≡◌, ◌⊎◌, Begin, If, While, Procedure, Open, Const, Var, Comma, Semicolon, Plus, Minus, Times, Odd, behind, pred, start_place, tokens_of}
+use Rattle.pl0_parser.proofs.Common.{[], AComparison, ACondition, advance, AFactor, AName, AnEnd, AnExpression, ANumber, ap, AStatement, ATerm, Bool, cond, Choice, choice, comparison_choice, condition_choice, ConstantPart, constant_part_choice, else_behind, end_choice, EndOfText, Equal, Expect, Expected, expression_choice, factor_choice, false, FaultKind, Faulty, first_refusal, followed_by, front_piece, Goal, if◌then◌else◌, inl, inr, is_space, IsText, IsTokenFault, List, Mark, mark_choice, mark_number, Marked, more_constants_choice, more_factors_choice, more_statements_choice, more_terms_choice, more_variables_choice, MoreConstants, MoreFactors, MoreStatements, MoreTerms, MoreVariables, name_choice, Named, number_choice, Numeral, Option, Pass, Place, procedure_part_choice, ProcedurePart, Reading, refl, Refuse, refusal_after, Some, statement_choice, subst, suc, sym, Symbol, symbols, Take, term_choice, Token, token_at, tokens_from, true, variable_part_choice, VariablePart, zero, ℕ, ◌++◌, ◌==◌, ◌∙◌, ◌∷◌, ◌≡◌, ◌⊎◌, Begin, If, While, Procedure, Open, Const, Var, Comma, Semicolon, Plus, Minus, Times, Odd, behind, pred, start_place}
 use Rattle.std.specs.Prelude.{None}
 use Rattle.pl0_parser.proofs.Goals.{MeetsAll}
 use Rattle.pl0_parser.proofs.Accepted.{met}
@@ -176,8 +176,7 @@ stays_last : (goals : List Goal) (s : Symbol) (next : List Goal) → EndsLast go
 stays_last [] s next last is = nothing_last s next is
 stays_last (goal ∷ goals) s next last is =
     let below = behind_first goal goals last in
-    chosen_last (choice goal s) goals (advance goals s) next (goal_ends goal s) below
-    (stays_last goals s next below) is
+    chosen_last (choice goal s) goals _ next (goal_ends goal s) below (stays_last goals s next below) is
 
 -- after the end nothing is left
 end_taken : (goals : List Goal) (next : List Goal) → EndsLast goals → advance goals EndOfText ≡ Take next → next ≡ []
@@ -202,8 +201,7 @@ with_end front p = front ++ token_at EndOfText p ∷ []
 
 end_met : (goals : List Goal) (p : Place) (c : Choice) → advance goals EndOfText ≡ c → EndsLast goals
     → refusal_after c p (λ left. first_refusal left []) ≡ None → MeetsAll goals (EndOfText ∷ [])
-end_met goals p (Take next) is last none =
-    met goals EndOfText next [] is (subst (λ gs. MeetsAll gs []) (sym (end_taken goals next last is)) refl)
+end_met goals p (Take next) is last none = met goals EndOfText next [] is (rw (end_taken goals next last is) refl)
 end_met goals p Pass is last none = cc
 end_met goals p (Refuse kind) is last none = cc
 
@@ -219,8 +217,7 @@ all_met : (goals : List Goal) (front : List Token) (p : Place) → EndsLast goal
     → first_refusal goals (with_end front p) ≡ None → MeetsAll goals (symbols (with_end front p))
 all_met goals [] p last none = end_met goals p (advance goals EndOfText) refl last none
 all_met goals (t ∷ ts) p last none =
-    token_met goals t (with_end ts p) (advance goals t.symbol) refl
-    (λ next is later. all_met next ts p (stays_last goals t.symbol next last is) later) none
+    token_met goals t _ _ refl (λ next is later. all_met next ts p (stays_last goals t.symbol next last is) later) none
 
 -- ---- the tokens of a text end with its end
 
@@ -256,8 +253,7 @@ module _ {T : Type 0} (Reads : Reading T) (goals : ℕ → List Goal) (are : Are
         → first_refusal (goals level_limit) tokens ≡ o
         → ((tree : T) × Reads level_limit tokens tree)
         ⊎ ((kind : FaultKind) × (place : Place) × IsTokenFault (IsText Reads) tokens kind place)
-    by_refusal tokens ended (Some found) is =
-        inr (found.0, found.1, first_fault (IsText Reads) goals are tokens found.0 found.1 is)
+    by_refusal tokens ended (Some found) is = inr (found.0, found.1, first_fault _ goals are tokens found.0 found.1 is)
     by_refusal tokens (front, p, same) None is =
         let all = subst (λ ts. MeetsAll (goals level_limit) (symbols ts)) (sym same)
         (all_met (goals level_limit) front p last (ap (first_refusal (goals level_limit)) (sym same) ∙ is)) in
@@ -265,6 +261,4 @@ module _ {T : Type 0} (Reads : Reading T) (goals : ℕ → List Goal) (are : Are
         inl (tree, subst (λ ts. Reads level_limit ts tree) (placed_again tokens) reads)
 
     pub read_or_faulty : IsReadOrFaulty Reads
-    read_or_faulty text =
-        by_refusal (tokens_of text) (tokens_ended text start_place 0)
-        (first_refusal (goals level_limit) (tokens_of text)) refl
+    read_or_faulty text = by_refusal _ (tokens_ended text start_place 0) _ refl

@@ -1,5 +1,5 @@
 -- A code of blocks as statements, by which a proof tells blocks apart.
-use Rattle.std.proofs.Common.{◌≡◌, List, [], ◌∷◌, refl, ◌∙◌, ap}
+use Rattle.std.proofs.Common.{◌≡◌, List, [], ◌∷◌, refl, ap}
 use Rattle.std.specs.Prelude.{pos, ℤ}
 use Rattle.std.specs.Coded.{Coded, code_by}
 use Rattle.pl0_tree.specs.declared.tree.Place.{Place}
@@ -74,9 +74,7 @@ block_from ps s =
 
 head_back : (ps : Procedures) (cs : List Constant) (xs : List Name) (s : Statement) (p : Place)
     → block_from ps (head_as cs xs s p) ≡ ABlock cs xs ps s p
-head_back ps cs xs s p =
-    ap (λ c. ABlock c (names_of (names_as xs)) ps s p) (constants_back cs)
-    ∙ ap (λ x. ABlock cs x ps s p) (names_back xs)
+head_back ps cs xs s p = cc (constants_back cs, names_back xs)
 
 abbrev mutual
   block_as : Block → Statement
@@ -112,14 +110,11 @@ said _ = nothing_said
 
 mutual
   block_back : (b : Block) → (said (block_as b)).block ≡ b
-  block_back (ABlock cs xs ps s p) =
-      ap (λ q. block_from q (head_as cs xs s p)) (procedures_back ps) ∙ head_back ps cs xs s p
+  block_back (ABlock cs xs ps s p) = cc (procedures_back ps, head_back ps cs xs s p)
 
   procedures_back : (ps : Procedures) → (said (procedures_as ps)).procedures ≡ ps
   procedures_back NoMore = refl
-  procedures_back (AProcedure x b more) =
-      ap (λ c. AProcedure x c (said (procedures_as more)).procedures) (block_back b)
-      ∙ ap (AProcedure x b) (procedures_back more)
+  procedures_back (AProcedure x b more) = cc (block_back b, procedures_back more)
 
 abbrev block_of : Statement → Block
 block_of s = (said s).block

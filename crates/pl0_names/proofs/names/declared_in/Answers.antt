@@ -2,24 +2,21 @@ use Rattle.pl0_names.proofs.Common.{ap, bytes_eq, meaning_of, None, option_map, 
 use Rattle.pl0_names.proofs.Declared.{found_as, block_means}
 use Rattle.pl0_names.proofs.names.declared_in.Goals as goal
 use Rattle.pl0_names.proofs.names.declared_in.Goals.{After-constant_in, After-variable_in, After-procedure_in}
+use Rattle.std.proofs.Common.{arith}
+use Rattle.std.proofs.lemmas.Grind.{common_steps}
 
 constant_is : (c : After-constant_in) → c.constant_in.result ≡ position
     (λ k. bytes_eq (string_bytes k.name.text) c.args.word.now) (out-Block c.args.block.now).constants.items
-constant_is c =
-    c.constant_in.ensures ∙ ap (position (λ k. bytes_eq (string_bytes k.name.text) c.args.word.now))
-    c.deref.ensures.value
+constant_is c = grind (arith, common_steps, position, bytes_eq)
 
 variable_is : (c : After-variable_in) → c.variable_in.result ≡ position
     (λ x. bytes_eq (string_bytes x.text) c.args.word.now) (out-Block c.args.block.now).variables.items
-variable_is c =
-    c.variable_in.ensures ∙ ap (position (λ x. bytes_eq (string_bytes x.text) c.args.word.now)) c.deref-2.ensures.value
+variable_is c = grind (arith, common_steps, position, bytes_eq)
 
 procedure_is : (c : After-procedure_in) → c.procedure_in.result ≡ position
     (λ p. bytes_eq (string_bytes (out-Procedure p).name.text) c.args.word.now)
     (out-Block c.args.block.now).procedures.items
-procedure_is c =
-    c.procedure_in.ensures ∙ ap (position (λ p. bytes_eq (string_bytes (out-Procedure p).name.text) c.args.word.now))
-    c.deref-3.ensures.value
+procedure_is c = grind (arith, common_steps, position, bytes_eq)
 
 pub returns-in-Some : goal.returns-in-Some
 returns-in-Some c =

@@ -1,18 +1,12 @@
-use Rattle.pl0_names.proofs.Common.{ap, AreNestings, arith, blocks, length, meaning_of, option_map, plain_block, slice_get, slice_get-get_or, Some, subst, sym, ◌<◌, ◌∙◌, ◌≡◌}
+use Rattle.pl0_names.proofs.Common.{ap, arith, blocks, length, meaning_of, option_map, plain_block, slice_get, slice_get-get_or, Some, sym, ◌<◌, ◌∙◌, ◌≡◌}
 use Rattle.pl0_names.proofs.Declared.{AreTables, table_means}
 use Rattle.pl0_names.proofs.Lookup.{nestings_lengths}
 use Rattle.pl0_names.proofs.names.Names.declared.Goals as goal
 use Rattle.pl0_names.proofs.names.Names.declared.Goals.{After-index}
+use Rattle.std.proofs.lemmas.Grind.{common_steps}
 
 pub block-requires-clause-within : goal.block-requires-clause-within
-block-requires-clause-within c =
-    let nested =
-    subst (λ b. AreNestings (plain_block b) c.self.inside.nestings.now (blocks (plain_block b))) c.self.view_is
-    c.self.invariant.nested in
-    let all =
-    nestings_lengths (plain_block c.args.self.now) c.self.inside.nestings.now (blocks (plain_block c.args.self.now))
-    nested in
-    omega (arith, c.requires, all)
+block-requires-clause-within c = grind (arith, common_steps, nestings_lengths)
 
 pub index-requires : goal.index-requires
 index-requires c =
@@ -23,9 +17,7 @@ is_some : (c : After-index) → option_map (λ ts. ts.items) c.self.inside.table
 is_some c = ap (option_map (λ ts. ts.items)) c.in-Some.is
 
 tabled : (c : After-index) → AreTables (plain_block c.args.self.now) c.in-Some.tables.items
-tabled c =
-    subst (λ b. AreTables (plain_block b) c.in-Some.tables.items) c.self.view_is
-    (λ n table q b. c.self.invariant.tabled c.in-Some.tables.items n table q b (is_some c))
+tabled c = grind (arith, common_steps, is_some)
 
 here : (c : After-index) → slice_get c.in-Some.tables.items c.args.number ≡ Some c.index.result.now
 here c =
@@ -35,12 +27,11 @@ here c =
     slice_get-get_or c.in-Some.tables.items c.args.number c.index.result.now within ∙ ap Some (sym c.index.ensures)
 
 pub returns-in_err-find-in-Some : goal.returns-in_err-find-in-Some
-returns-in_err-find-in-Some c = λ q at.
-    ap (option_map meaning_of) (c.from_residual.ensures ∙ ap (option_map (λ d. d.meaning))
-    (sym c.in_err-find-in-Some.was))
-    ∙ table_means (plain_block c.args.self.now) c.in-Some.tables.items
-    (tabled (goal.at.returns-in_err-find-in-Some c).After-index) c.args.number c.index.result.now
-    (here (goal.at.returns-in_err-find-in-Some c).After-index) c.args.word.now c.find.result c.find.ensures q at
+returns-in_err-find-in-Some c =
+    λ q at. rw (c.from_residual.ensures ∙ ap (option_map (λ d. d.meaning)) (sym c.in_err-find-in-Some.was)) (table_means
+    (plain_block c.args.self.now) c.in-Some.tables.items (tabled (goal.at.returns-in_err-find-in-Some c).After-index)
+    c.args.number c.index.result.now (here (goal.at.returns-in_err-find-in-Some c).After-index) c.args.word.now
+    c.find.result c.find.ensures q at)
 
 pub returns-in_ok-find-in-Some : goal.returns-in_ok-find-in-Some
 returns-in_ok-find-in-Some c = λ q at.

@@ -1,13 +1,12 @@
-use Rattle.pl0_names.proofs.Common.{AreNestings, arith, block_at, blocks, home, IsHomeAnswer, Path, plain_block, slice_get, Some, subst, sym, ◌≡◌}
+use Rattle.pl0_names.proofs.Common.{AreNestings, arith, blocks, plain_block}
 use Rattle.pl0_names.proofs.Outward.{in_table, levels_few, found_here, found_nowhere, walk_on}
 use Rattle.pl0_names.proofs.names.Names.find.Goals as goal
 use Rattle.pl0_names.proofs.names.Names.find.Goals.{After-declared}
+use Rattle.std.proofs.lemmas.Grind.{common_steps}
 
 nested : (c : After-declared) → AreNestings (plain_block c.args.self.now) c.self.inside.nestings.now
     (blocks (plain_block c.args.self.now))
-nested c =
-    subst (λ b. AreNestings (plain_block b) c.self.inside.nestings.now (blocks (plain_block b))) c.self.view_is
-    c.self.invariant.nested
+nested c = grind (arith, common_steps)
 
 pub block-block-requires-clause-within : goal.block-block-requires-clause-within
 block-block-requires-clause-within c =
@@ -23,18 +22,14 @@ bounds-self-inside-around c =
 
 pub returns-in-Some : goal.returns-in-Some
 returns-in-Some c =
-    found_here (plain_block c.args.self.now) c.self.inside.nestings.now
-    (nested (goal.at.returns-in-Some c).After-declared) c.args.word.now c.args.number c.loop-meaning.around
-    c.loop-meaning.level c.requires c.loop-meaning.invariant c.block-block.result c.in-Some.meaning
-    (subst (λ b. (r : Path) → slice_get (blocks (plain_block b)) c.loop-meaning.around ≡ Some r
-    → block_at (plain_block b) r ≡ Some (plain_block c.block-block.result.now)) c.self.view_is
-    c.block-block.ensures) c.in-Some.ensures
+    found_here (plain_block c.args.self.now) c.self.inside.nestings.now (nested (goal.at.returns-in-Some
+    c).After-declared) c.args.word.now c.args.number c.loop-meaning.around c.loop-meaning.level c.requires
+    c.loop-meaning.invariant c.block-block.result c.in-Some.meaning (rw (← c.self.view_is) c.block-block.ensures)
+    c.in-Some.ensures
 
 pub returns-in_err-nesting : goal.returns-in_err-nesting
-returns-in_err-nesting c = λ q begins.
-    subst (λ o. IsHomeAnswer (plain_block c.args.self.now) q (home (plain_block c.args.self.now) q c.args.word.now) o)
-    (sym c.from_residual.ensures)
-    (found_nowhere (plain_block c.args.self.now) c.self.inside.nestings.now
+returns-in_err-nesting c =
+    λ q begins. rw c.from_residual.ensures (found_nowhere (plain_block c.args.self.now) c.self.inside.nestings.now
     (nested (goal.at.returns-in_err-nesting c).After-declared) c.args.word.now c.args.number c.loop-meaning.around
     c.loop-meaning.level c.requires c.loop-meaning.invariant c.in_default.ensures c.in_err-nesting.was q begins)
 

@@ -1,5 +1,5 @@
-use Rattle.pl0_names.proofs.Common.{[], ap, arith, block_at, blocks, IsTableOf, length, length-append, plain_block, same_Some, slice_get, Some, subst, sym, ◌∷◌, ◌≡◌}
-use Rattle.pl0_names.proofs.Declared.{AreTables, one_table_more}
+use Rattle.pl0_names.proofs.Common.{[], ap, arith, blocks, length, length-append, plain_block, same_Some, ◌∷◌}
+use Rattle.pl0_names.proofs.Declared.{one_table_more}
 use Rattle.pl0_names.proofs.Lookup.{nestings_lengths}
 use Rattle.pl0_names.proofs.names.Names.with_tables.Goals as goal
 
@@ -16,32 +16,33 @@ loop-number-preserved c =
     let main = plain_block c.args.main.now in
     let count = c.loop-number.invariant.1 in
     let grown = c.in_ok-push.ensures.items in
-    let more =
-    one_table_more main (plain_block c.block-declaring.result.now) c.loop-number.tables.items c.in_ok-table.table
-    c.loop-number.number c.loop-number.invariant.0 count c.in_ok-table.ensures c.block-declaring.ensures in (
-      subst (AreTables main) (sym grown) more,
-      omega
-          (arith, ap length grown, length-append c.loop-number.tables.items (c.in_ok-table.table ∷ []), count),
+    let more = one_table_more main (plain_block c.block-declaring.result.now) c.loop-number.tables.items
+    c.in_ok-table.table c.loop-number.number c.loop-number.invariant.0 count c.in_ok-table.ensures
+    c.block-declaring.ensures in (
+      rw grown more,
+      omega (
+        arith,
+        ap length grown,
+        length-append c.loop-number.tables.items (c.in_ok-table.table ∷ []),
+        count,
+      ),
     )
 
 pub invariant_of-result : goal.invariant_of-result
 invariant_of-result c =
     let count = c.loop-number.invariant.1 in
-    let all =
-    nestings_lengths (plain_block c.args.main.now) c.args.nestings.now (blocks (plain_block c.args.main.now))
+    let all = nestings_lengths (plain_block c.args.main.now) c.args.nestings.now (blocks (plain_block c.args.main.now))
     c.requires.nestings in
     record {
       nested = c.requires.nestings;
-      counted =
-          λ ts is. omega (
-            arith,
-            ap length (same_Some c.loop-number.tables.items ts is),
-            count,
-            all,
-            c.loop-number-test.false,
-          );
-      tabled = λ ts n table q b is. subst
-          (λ l. slice_get l n ≡ Some table → slice_get (blocks (plain_block c.args.main.now)) n ≡ Some q
-          → block_at (plain_block c.args.main.now) q ≡ Some b → IsTableOf b table)
-          (same_Some c.loop-number.tables.items ts is) (c.loop-number.invariant.0 n table q b);
+      counted = λ ts is. omega (
+        arith,
+        ap length (same_Some
+            c.loop-number.tables.items ts is),
+        count,
+        all,
+        c.loop-number-test.false,
+      );
+      tabled = λ ts n table q b is. rw (←
+          (same_Some c.loop-number.tables.items ts is)) (c.loop-number.invariant.0 n table q b);
     }

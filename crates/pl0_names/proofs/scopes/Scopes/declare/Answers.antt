@@ -1,4 +1,4 @@
-use Rattle.pl0_names.proofs.Common.{ap, arith, at_level, blocks_of, declared_in, IsNested, latest, names, None, refl, reverse, rules, subst, sym, ◌+◌, ◌-◌, ◌∙◌, ◌≡◌}
+use Rattle.pl0_names.proofs.Common.{arith, at_level, IsNested, latest, names, None, refl, reverse, rules, subst, sym, ◌+◌, ◌-◌, ◌∙◌, ◌≡◌}
 use Rattle.std.proofs.lemmas.Result.{on_ok_weaker}
 use Rattle.pl0_names.proofs.Logs.{named_at, declared_old, declared_new, not_at, unnamed_at, none_latest}
 use Rattle.pl0_names.proofs.Tables.{has_place, latest_read}
@@ -19,11 +19,9 @@ returns-clause-ok g c =
     let items = c.self.inside.log.items in
     let w = c.args.word.now in
     let e = c.index.result.now in
-    subst (λ s. blocks_of s ≡ declared_in (blocks_of s) w c.args.meaning) c.self.view_is
-    (declared_old n e.level (reverse items) w c.args.meaning e.meaning (omega arith)
-    (named_at e.level (reverse items) w e
-    (latest_read c.self.inside.index items w c.in-Some.at e c.self.invariant.indexed
-    (sym c.get.ensures.value ∙ sym c.copied-hidden.ensures ∙ c.in-Some.is) c.index.ensures) refl))
+    rw (← c.self.view_is) (declared_old n e.level (reverse items) w c.args.meaning e.meaning (omega arith) (named_at
+    e.level (reverse items) w e (latest_read c.self.inside.index items w c.in-Some.at e c.self.invariant.indexed (sym
+    c.get.ensures.value ∙ sym c.copied-hidden.ensures ∙ c.in-Some.is) c.index.ensures) refl))
 
 pub returns-2-clause-ok : goal.returns-2-clause-ok
 returns-2-clause-ok g c =
@@ -31,20 +29,27 @@ returns-2-clause-ok g c =
     let items = c.self.inside.log.items in
     let es = reverse items in
     let w = c.args.word.now in
-    let kept : latest es w ≡ c.copied-hidden.result =
-    sym (c.self.invariant.indexed.latest_of w) ∙ sym c.get.ensures.value ∙ sym c.copied-hidden.ensures in
+    let kept : latest es w ≡ c.copied-hidden.result = cc (
+      c.self.invariant.indexed.latest_of w,
+      c.get.ensures.value,
+      c.copied-hidden.ensures,
+    ) in
     let one : n ≡ n - 1 + 1 = omega arith in
     let absent : names (at_level (n - 1) es) w ≡ None = elim c.in_default.branch [
       | in_default-via-in-None-1 x ↦
           let none : c.copied-hidden.result ≡ None = search rules in
           not_at (n - 1) es w (none_latest es w (kept ∙ none))
-      | in_default-via-in-Some+else-index-level x ↦
-          unnamed_at (n - 1) es w x.index.result.now (subst (λ k. IsNested k es) one c.self.invariant.nested)
+      | in_default-via-in-Some+else-index-level x ↦ unnamed_at (n -
+          1) es w x.index.result.now (subst (λ k. IsNested k es) one c.self.invariant.nested)
           (latest_read c.self.inside.index items w x.in-Some.at x.index.result.now c.self.invariant.indexed
-          (sym c.get.ensures.value ∙ sym c.copied-hidden.ensures ∙ x.in-Some.is) x.index.ensures)
-          x.if-index-level.false
+          (sym c.get.ensures.value ∙ sym c.copied-hidden.ensures ∙ x.in-Some.is) x.index.ensures) x.if-index-level.false
     ] in
-    on_ok_weaker c.put.result (λ is. declared_new n (n - 1)
-    (record { word = c.args.word; meaning = c.args.meaning; level = n - 1; hidden = c.in_default.hidden }) es
-    (reverse c.put.new.log.items) (omega arith) refl is absent ∙
-    ap (λ s. declared_in (blocks_of s) w c.args.meaning) c.self.view_is) c.put.ensures.ok
+    on_ok_weaker c.put.result (λ is. cc (
+      declared_new n (n - 1) (record {
+        word = c.args.word;
+        meaning = c.args.meaning;
+        level = n - 1;
+        hidden = c.in_default.hidden;
+      }) es (reverse c.put.new.log.items) (omega arith) refl is absent,
+      c.self.view_is,
+    )) c.put.ensures.ok
