@@ -67,6 +67,23 @@ fn value_of(cells: &[i64], base: usize, top: usize, expression: &LocatedExpressi
     }
 }
 
+/// The same as `operand_of`, at once also for an operator between two operands: what most conditions have on a side.
+#[inline(always)]
+fn side_of(cells: &[i64], base: usize, top: usize, side: &LocatedExpression) -> Option<i64>
+    requires within { top ≤ length cells.now }
+    requires can { CanReadBy (numbers_there cells.now base top) side.now }
+    ensures { result ≡ result_ok (value_by (numbers_there cells.now base top) side.now) }
+{
+    match side {
+        LocatedExpression::Binary(operator, left, right) => {
+            let left = operand_of(cells, base, top, left)?;
+            let right = operand_of(cells, base, top, right)?;
+            apply(*operator, left, right).ok()
+        }
+        _ => operand_of(cells, base, top, side),
+    }
+}
+
 /// Whether a condition holds in the frame that begins at `base`; `None` if it faults.
 #[inline(always)]
 pub fn truth_of(
@@ -81,11 +98,11 @@ pub fn truth_of(
 {
     match condition {
         LocatedCondition::Odd(expression) => {
-            Some(is_odd(operand_of(cells, base, top, expression)?))
+            Some(is_odd(side_of(cells, base, top, expression)?))
         }
         LocatedCondition::Compare(relation, left, right) => {
-            let x = operand_of(cells, base, top, left)?;
-            let y = operand_of(cells, base, top, right)?;
+            let x = side_of(cells, base, top, left)?;
+            let y = side_of(cells, base, top, right)?;
             Some(compare(*relation, x, y))
         }
     }

@@ -5,7 +5,7 @@ ghost use Rattle.std.specs.Result.{result_unwrap_or};
 ghost use Rattle.pl0_meaning.specs.Values.{comparison};
 ghost use Rattle.pl0_machine.specs.Room.{BeginsStep};
 ghost use Rattle.pl0_machine.specs.Asking.{IsInFrame, AreInFrame, MayBeInFrame, MayCount, answer_there, AreTables, number_there};
-ghost use Rattle.pl0_machine.specs.Counting.{counters_of, is_due, any_due, passed_at, passed, IsCounted};
+ghost use Rattle.pl0_machine.specs.Counting.{counters_of, is_due, any_due, passed_at, passed, IsCounted, counted_on, noted_at, stops_at, IsNoted, Arrives};
 ghost use Rattle.pl0_machine.specs.LocatedValues.{truth_by, CanTestBy, numbers_there};
 
 use crate::located::{LocatedCondition, truth_of};
@@ -46,6 +46,10 @@ pub struct Counter {
     pub question: Question,
     pub number: usize,
     pub passes: u32,
+    /// Whether the count starts over after an arrival that is due.
+    pub starts_over: bool,
+    /// Whether an arrival that is due stops the program.
+    pub stops: bool,
 }
 
 /// The marks of a program: a run ends where a step leads to a marked address at which an arrival is due.
@@ -220,9 +224,37 @@ fn arrive_at_several(
     false
 }
 
-/// Does the same as `arrive_at_several`, at once for one counter.
+/// Returns the count after an arrival, also one that is due.
 #[inline(always)]
-fn arrive_at(
+fn count_on(counter: &Counter, count: u32) -> u32
+    ensures { result ≡ counted_on counter.now count }
+{
+    if count < counter.passes {
+        return count + 1;
+    }
+    if counter.starts_over { 0 } else { count }
+}
+
+/// Counts an arrival, if there is one, and returns whether it is due and stops the program.
+#[inline(always)]
+fn note(counter: &Counter, counts: &mut [u32], cells: &[i64], base: usize, top: usize) -> bool
+    requires within { top ≤ length cells.now }
+    requires fits { MayCount cells.now base top (length counts.old) counter.now }
+    ensures stops { result ≡ stops_at (answer_there cells.now base top) counts.old counter.now }
+    ensures counts { counts.new ≡ noted_at (answer_there cells.now base top) counter.now counts.old }
+{
+    let asked = &counter.question;
+    if !holds(cells, base, top, asked) {
+        return false;
+    }
+    let count = counts[counter.number];
+    counts[counter.number] = count_on(counter, count);
+    counter.passes <= count && counter.stops
+}
+
+/// Counts the arrivals that there are, and returns whether one is due and stops the program.
+#[inline(always)]
+fn note_all(
     counters: &[Counter],
     counts: &mut [u32],
     cells: &[i64],
@@ -231,18 +263,44 @@ fn arrive_at(
 ) -> bool
     requires within { top ≤ length cells.now }
     requires fits { All (MayCount cells.now base top (length counts.old)) counters.now }
-    ensures { IsCounted (answer_there cells.now base top) counters.now counts.old result counts.new }
+    ensures { IsNoted (answer_there cells.now base top) counters.now counts.old result counts.new }
 {
+    let mut stops = false;
+    for counter in counters {
+        stops |= note(counter, counts, cells, base, top);
+    }
+    stops
+}
+
+/// Counts the arrivals that there are. If a run goes `past` those that are due, it returns whether one stops the program,
+/// and else does the same as `arrive_at_several`, at once for one counter.
+#[inline(always)]
+fn arrive_at(
+    past: bool,
+    counters: &[Counter],
+    counts: &mut [u32],
+    cells: &[i64],
+    base: usize,
+    top: usize,
+) -> bool
+    requires within { top ≤ length cells.now }
+    requires fits { All (MayCount cells.now base top (length counts.old)) counters.now }
+    ensures { Arrives past (answer_there cells.now base top) counters.now counts.old result counts.new }
+{
+    if past {
+        return note_all(counters, counts, cells, base, top);
+    }
     if let [counter] = counters {
         return arrive(counter, counts, cells, base, top);
     }
     arrive_at_several(counters, counts, cells, base, top)
 }
 
-/// Counts the arrivals at the step that begins at a marked address, where the newest frame begins at `base`, unless one is
-/// due, and returns whether one is.
+/// Counts the arrivals at the step that begins at a marked address, where the newest frame begins at `base`, as
+/// `arrive_at` does.
 #[inline(always)]
 pub fn arrive_at_step(
+    past: bool,
     counters: &[Vec<Counter>],
     begun_steps: &[Option<StepNumber>],
     at: usize,
@@ -256,11 +314,11 @@ pub fn arrive_at_step(
     requires fits { (n : ℕ) → slice_get begun_steps.now at ≡ Some (Some n)
         → All (MayCount cells.now base top (length counts.old)) (counters_of counters.now n) }
     ensures { (n : ℕ) → slice_get begun_steps.now at ≡ Some (Some n)
-        → IsCounted (answer_there cells.now base top) (counters_of counters.now n) counts.old result counts.new }
+        → Arrives past (answer_there cells.now base top) (counters_of counters.now n) counts.old result counts.new }
 {
     let step = begun_step(begun_steps, at);
     match counters.get(step) {
-        Some(counters) => arrive_at(counters, counts, cells, base, top),
+        Some(counters) => arrive_at(past, counters, counts, cells, base, top),
         None => false,
     }
 }

@@ -13,7 +13,7 @@ returns-in_ok-y-in-Compare c =
     let fits_y : FitsSigned w64 c.in_ok-y-in-Compare.y = search rules in
     compared (numbers_there c.args.cells.now c.args.base c.args.top) c.args.condition.now c.in-Compare.relation
     c.in-Compare.left c.in-Compare.right x y c.compare.result c.in-Compare.is
-    (sym c.operand_of-in-Compare.ensures ∙ c.in_ok-x-in-Compare.was)
-    (sym c.operand_of-in-Compare-2.ensures ∙ c.in_ok-y-in-Compare.was)
+    (sym c.side_of-in-Compare.ensures ∙ c.in_ok-x-in-Compare.was)
+    (sym c.side_of-in-Compare-2.ensures ∙ c.in_ok-y-in-Compare.was)
     (c.compare.ensures ∙ ap (λ v. comparison c.in-Compare.relation v (to_z w64 (of_z w64 y))) (to_z-of_z w64 x fits_x)
     ∙ ap (λ v. comparison c.in-Compare.relation x v) (to_z-of_z w64 y fits_y))

@@ -1,4 +1,4 @@
-use Rattle.std.proofs.Common.{◌≡◌, ℕ, zero, suc, ◌<◌, ◌≤◌, All, true, nat_lt, length, slice_get, slice_index_or, List, [], ◌∷◌, Option, Some, None, false, refl, sym, ap, ◌∙◌, subst, arith}
+use Rattle.std.proofs.Common.{◌≡◌, ℕ, zero, suc, ◌<◌, ◌≤◌, All, true, nat_lt, length, slice_get, slice_index_or, List, [], ◌∷◌, Option, Some, None, false, sym, ap, ◌∙◌, subst, arith}
 use Rattle.std.specs.Option.{option_map_or}
 use Rattle.std.specs.declared.alloc.Global.{Global}
 use Rattle.std.specs.declared.vec.Vec.{Vec}
@@ -6,7 +6,8 @@ use Rattle.std.proofs.lemmas.Bool.Decides.{nat_tests}
 use Rattle.std.proofs.lemmas.Option.{slice_get_past}
 use Rattle.pl0_machine.specs.declared.mark.Counter.{Counter}
 use Rattle.pl0_machine.specs.Asking.{MayCount, answer_there}
-use Rattle.pl0_machine.specs.Counting.{counters_of, IsCounted}
+use Rattle.pl0_machine.specs.Counting.{counters_of, Arrives}
+use Rattle.pl0_machine.proofs.Counting.{none_arrive}
 use Rattle.pl0_machine.proofs.mark.arrive_at_step.Goals as goal
 use Rattle.pl0_machine.proofs.mark.arrive_at_step.Goals.{After-deref}
 
@@ -43,7 +44,8 @@ pub returns-in-Some : goal.returns-in-Some
 returns-in-Some c = λ n e.
     let here = goal.at.returns-in-Some c in
     let same = same_step c.begun_step-step.result n (sym c.begun_step-step.ensures ∙ e) in
-    subst (λ l. IsCounted (answer_there c.args.cells.now c.args.base c.args.top) l c.args.counts.now c.arrive_at.result
+    subst (λ l. Arrives c.args.past (answer_there c.args.cells.now c.args.base c.args.top) l c.args.counts.now
+    c.arrive_at.result
     c.arrive_at.new.counts)
     (sym (items here.After-deref) ∙ ap (λ k. counters_of c.args.counters.now k) same) c.arrive_at.ensures
 
@@ -56,5 +58,5 @@ returns-in-None c = λ n e.
     let none : counters_of c.args.counters.now n ≡ [] =
     ap (λ k. counters_of c.args.counters.now k) (sym same)
     ∙ ap (λ o. option_map_or (λ (v : Vec Counter Global). v.items) o []) there in
-    subst (λ l. IsCounted (answer_there c.args.cells.now c.args.base c.args.top) l c.args.counts.now false
-    c.args.counts.now) (sym none) (refl, refl)
+    subst (λ l. Arrives c.args.past (answer_there c.args.cells.now c.args.base c.args.top) l c.args.counts.now false
+    c.args.counts.now) (sym none) (none_arrive c.args.past _ c.args.counts.now)
