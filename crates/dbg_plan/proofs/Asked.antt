@@ -1,10 +1,10 @@
 -- What the machine asks at a mark is the condition of the breakpoint there.
 use Rattle.std.proofs.Common.{◌≡◌, ℕ, zero, suc, ◌-◌, ◌<◌, true, List, [], ◌∷◌, length, slice_get, Option, Some, None, Ok, ℤ, refl, sym, ap, ◌∙◌, subst, arith}
-use Rattle.std.specs.Prelude.{IsSome, IfSome, option_map}
+use Rattle.std.specs.Prelude.{IsSome}
 use Rattle.std.specs.Result.{result_unwrap_or}
 use Rattle.pl0_tree.specs.Tree.{Block}
 use Rattle.pl0_tree.specs.Steps.{step_path}
-use Rattle.pl0_meaning.specs.Values.{Frame, Configuration, frame_at, number_of, or_zero, after, comparison}
+use Rattle.pl0_meaning.specs.Values.{Frame, Configuration, frame_at, number_of, or_zero, comparison}
 use Rattle.pl0_meaning.specs.Frames.{AreLinked}
 use Rattle.pl0_meaning.specs.Laws.{FramesAreLinked}
 use Rattle.pl0_meaning.proofs.Linking.{frame_at-top}
@@ -13,18 +13,17 @@ use Rattle.pl0_machine.specs.declared.mark.Operand.TheVariants.{Number, Variable
 use Rattle.pl0_machine.specs.declared.mark.Comparison.{Comparison}
 use Rattle.pl0_machine.specs.declared.mark.Question.{Question}
 use Rattle.pl0_machine.specs.declared.mark.Question.TheVariants.{Nothing, Comparison as AComparison, Condition as ACondition}
-use Rattle.pl0_machine.specs.Machine.{Standing, program, configuration, frames, frames_of, depth_of, top_of, variables_of, IsNext, number_up}
+use Rattle.pl0_machine.specs.Machine.{Standing, program, configuration, frames, depth_of, top_of, variables_of, IsNext, number_up}
 use Rattle.pl0_machine.specs.Stretches.{operand_in, answer_in, HasOperand, CanAsk}
 use Rattle.dbg_plan.specs.declared.breakpoint.BoundCondition.{BoundCondition}
 use Rattle.dbg_plan.specs.declared.breakpoint.Breakpoint.{Breakpoint}
-use Rattle.dbg_plan.specs.Breakpoints.{text_condition, plain_breakpoint}
 use Rattle.dbg_plan.specs.Comparisons.{expression_of, condition_of, Asks}
-use Rattle.dbg_plan.specs.Plans.{IsBoundAt}
-use Rattle.dbg_plan.specs.Counting.{holds_in, holds_now, IsMetHere}
+use Rattle.dbg_plan.specs.Counting.{holds_now, IsMetHere}
 use Rattle.pl0_machine.specs.LocatedValues.{located_value, located_truth, CanRead, CanTest}
 use Rattle.dbg_plan.specs.Table.{AsksFor}
 use Rattle.dbg_plan.proofs.ValuesLinks.{leads_to_main}
 use Rattle.dbg_plan.proofs.ValuesMet.{IsTested, stands_in, tested_here, holds_bound}
+use Rattle.std.proofs.lemmas.Grind.{common_steps}
 
 -- ---- operands
 
@@ -52,12 +51,7 @@ module _ (c : Configuration) (i depth : ℕ) (is : frame_at c i ≡ top_of c)
 
   comparison_truth : (q : Comparison) → located_truth c i (condition_of depth q)
       ≡ Ok (comparison q.relation (or_zero (operand_in c q.left)) (or_zero (operand_in c q.right)))
-  comparison_truth q =
-      ap
-      (λ r. after r (λ x.
-      after (located_value c i (expression_of depth q.right)) (λ y. Ok (comparison q.relation x y))))
-      (operand_value q.left)
-      ∙ ap (λ r. after r (λ y. Ok (comparison q.relation (or_zero (operand_in c q.left)) y))) (operand_value q.right)
+  comparison_truth q = cc (operand_value q.left, operand_value q.right)
 
 -- ---- the newest frame
 
@@ -76,18 +70,10 @@ main_up main (f ∷ below) n linked next k =
     (frame_at-top f below (length (f ∷ below) - 1) here) k
 
 linked_at : FramesAreLinked → (m : Standing) → AreLinked (program m) (frames m)
-linked_at laws m = by_place (configuration m) refl
-  where
-    by_place : (o : Option Configuration) → configuration m ≡ o → AreLinked (program m) (frames_of o)
-    by_place None e = tt
-    by_place (Some c) e = laws (program m) m.position c e
+linked_at laws m = grind (arith, common_steps)
 
 pub there_at : (m : Standing) (n : ℕ) → IsNext (program m) (top_of (frames m)) n → configuration m ≡ Some (frames m)
-there_at m n next = by_place (configuration m) next
-  where
-    by_place : (o : Option Configuration) → IsNext (program m) (top_of (frames_of o)) n → o ≡ Some (frames_of o)
-    by_place None next = absurd next
-    by_place (Some c) next = refl
+there_at m n next = grind (arith, common_steps)
 
 -- ---- the condition of a breakpoint of the machine's step
 
@@ -106,47 +92,24 @@ module _ (laws : FramesAreLinked) (m : Standing) (b : Breakpoint) (here : IsMetH
     tests = tested_here m b guard (depth_of m) here guarded ∣ linked_at laws m ∣₁ refl
 
     compared : (c : Comparison) → guard.asked ≡ Some c → guard.located.value ≡ condition_of deep c
-    compared c is =
-        let bound = subst (λ g. IsBoundAt (program m) b.step g) guarded here.bound in
-        subst (λ o. IfSome o (λ c. guard.located.value ≡ condition_of deep c)) is bound.1
+    compared c is = grind (arith, common_steps, condition_of)
 
     can_test : (q : Question) → Asks guard q → CanAsk (frames m) q
     can_test Nothing asks = absurd asks
     can_test (AComparison c) asks =
-        let can = subst (λ k. CanTest (frames m) (depth_of m - 1) k) (compared c asks) tests.0 in (
-          has_operand (frames m) (depth_of m - 1) deep newest up c.left can.0,
-          has_operand (frames m) (depth_of m - 1) deep newest up c.right can.1,
-        )
+        let can = subst (λ k. CanTest (frames m) (depth_of m - 1) k) (compared c asks) tests.0 in
+        (has_operand (frames m) _ deep newest up c.left can.0, has_operand (frames m) _ deep newest up c.right can.1)
     can_test (ACondition p) asks = subst (λ k. CanTest (frames m) (depth_of m - 1) k) (sym asks) tests.0
 
     truth_asked : (q : Question) → Asks guard q
         → answer_in (frames m) q ≡ result_unwrap_or (located_truth (frames m) (depth_of m - 1) guard.located.value) true
     truth_asked Nothing asks = absurd asks
-    truth_asked (AComparison c) asks =
-        sym (ap (λ k. result_unwrap_or (located_truth (frames m) (depth_of m - 1) k) true) (compared c asks)
-        ∙ ap (λ r. result_unwrap_or r true) (comparison_truth (frames m) (depth_of m - 1) deep newest up c))
-    truth_asked (ACondition p) asks =
-        ap (λ k. result_unwrap_or (located_truth (frames m) (depth_of m - 1) k) true) asks
+    truth_asked (AComparison c) asks = cc (compared c asks, comparison_truth (frames m) _ deep newest up c)
+    truth_asked (ACondition p) asks = cc
 
   -- what the machine is asked for the breakpoint can be asked, and is answered by whether its condition holds
   pub can_ask : (q : Question) → AsksFor b.condition q → CanAsk (frames m) q
-  can_ask q asks = by_condition b.condition refl asks
-    where
-      by_condition : (o : Option BoundCondition) → b.condition ≡ o → AsksFor o q → CanAsk (frames m) q
-      by_condition None is asks = subst (λ x. CanAsk (frames m) x) (sym asks) tt
-      by_condition (Some guard) is asks = can_test guard is q asks
+  can_ask q asks = grind (arith, common_steps, frames, can_test)
 
   pub answer_is : (q : Question) → AsksFor b.condition q → answer_in (frames m) q ≡ holds_now m b
-  answer_is q asks = by_condition b.condition refl asks
-    where
-      there : configuration m ≡ Some (frames m)
-      there = there_at m b.step here.next
-
-      by_condition : (o : Option BoundCondition) → b.condition ≡ o → AsksFor o q
-          → answer_in (frames m) q ≡ holds_now m b
-      by_condition None is asks =
-          ap (λ x. answer_in (frames m) x) asks
-          ∙ ap (λ g. holds_in (program m) (Some (frames m)) (option_map text_condition g)) (sym is)
-          ∙ ap (λ o. holds_in (program m) o (plain_breakpoint b).condition) (sym there)
-      by_condition (Some guard) is asks =
-          truth_asked guard is q asks ∙ holds_bound m b guard (depth_of m - 1) there is (tests guard is)
+  answer_is q asks = grind (arith, common_steps, frames, there_at, truth_asked, holds_bound, tests)

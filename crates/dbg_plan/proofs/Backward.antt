@@ -42,8 +42,7 @@ module _ (no_gaps : RunsHaveNoGaps) (last : NothingFollowsTheEnd) (main : Block)
 pub runs_there : RunsHaveNoGaps → NothingFollowsTheEnd → (old new : Standing) → new.unit ≡ old.unit
     → new.position ≤ old.position → IsRunning old → IsRunning new
 runs_there no_gaps last old new unit le running =
-    subst (λ u. IsRunning (record { unit = u; position = new.position })) (sym unit)
-    (ran_before no_gaps last (program old) new.position old.position le running)
+    rw unit (ran_before no_gaps last (program old) new.position old.position le running)
 
 -- ---- the counts begin anew
 

@@ -1,6 +1,6 @@
 -- The order asked, found again by the numbers.
 use Rattle.std.proofs.Common.{◌≡◌, ◌⊎◌, inl, inr, ℕ, zero, suc, ◌+◌, ◌<◌, ◌≤◌, Bool, true, false, List, [], ◌∷◌, length, cond, get_or, refl, ap, sym, ◌∙◌, subst, arith, nat_eq, Option, Some, None, slice_get}
-use Rattle.std.specs.Prelude.{find, Contains, option_map, option_and_then}
+use Rattle.std.specs.Prelude.{find, Contains, option_and_then}
 use Rattle.std.specs.Option.{option_map_or}
 use Rattle.std.specs.Ordering.{nat_cmp, is_lt}
 use Rattle.std.specs.List.Sorted.{IsPermutation, IsStableByKey, ties}
@@ -11,10 +11,11 @@ use Rattle.std.proofs.lemmas.Bool.{cases_lt}
 use Rattle.std.proofs.lemmas.List.Sorted.{Contains-permutation, IsPermutation-sym, length_permutation}
 use Rattle.dbg_plan.specs.declared.breakpoint.Breakpoint.{Breakpoint}
 use Rattle.dbg_plan.specs.Messages.{Message}
-use Rattle.dbg_plan.specs.Breakpoints.{Breakpoint as PlainBreakpoint, plain_breakpoint, plain_breakpoints}
+use Rattle.dbg_plan.specs.Breakpoints.{plain_breakpoint, plain_breakpoints}
 use Rattle.dbg_plan.specs.Plans.{Listed, is_of, those_of, parts_at, AreNumbered}
 use Rattle.dbg_plan.specs.declared.plan.Plan.TheInside.{Inside}
 use Rattle.dbg_plan.specs.Table.{prepended, by_number, listed, IsTable, IsPart}
+use Rattle.std.proofs.lemmas.Grind.{common_steps}
 
 -- ---- a stable sort by step leaves those of a step in the order asked
 
@@ -49,22 +50,14 @@ record IsFound (n : ℕ) (bs : List Breakpoint) : Type 0 where
 
 found_here : (n : ℕ) (x : Breakpoint) (xs : List Breakpoint) → has n x ≡ true → IsFound n (x ∷ xs)
 found_here n x xs e =
-    record {
-      first = x;
-      found = ap (λ v. cond v (Some x) (find (has n) xs)) e;
-      at = 0;
-      within = omega arith;
-      there = refl;
-      number = has_number n x e;
-    }
+    record { first = x; found = cc; at = 0; within = omega arith; there = refl; number = has_number n x e }
 
 found_later : (n : ℕ) (x : Breakpoint) (xs : List Breakpoint) → has n x ≡ false → IsFound n xs → IsFound n (x ∷ xs)
 found_later n x xs e more =
     let lt = more.within in
     record {
       first = more.first;
-      found = ap (λ v. cond v (Some x) (find (has n) xs)) e
-          ∙ more.found;
+      found = cc more.found;
       at = suc more.at;
       within = omega arith;
       there = more.there;
@@ -84,8 +77,7 @@ found n (x ∷ xs) (suc k) b lt at is = by_test (has n x) refl (found n xs k b (
 number_at : (n : ℕ) (bs : List Breakpoint) (k : ℕ) (b : Breakpoint) → AreNumbered n bs → k < length bs
     → get_or bs k b ≡ b → b.number ≡ n + k
 number_at n [] k b numbered lt at = absurd (omega arith)
-number_at n (x ∷ xs) zero b numbered lt at =
-    let e : x.number ≡ b.number = ap (λ (c : Breakpoint). c.number) at in omega (arith, numbered.0)
+number_at n (x ∷ xs) zero b numbered lt at = grind (arith, common_steps)
 number_at n (x ∷ xs) (suc k) b numbered lt at =
     let e = number_at (n + 1) xs k b numbered.2 (omega arith) at in omega arith
 
@@ -100,16 +92,12 @@ finds : (bs ordered : List Breakpoint) → AreNumbered 0 bs → IsPermutation bs
 finds bs ordered numbered moved b in_bs =
     let there = Contains-permutation bs ordered b moved in_bs in
     let first = found b.number ordered there.0 b there.1 there.2 refl in
-    let back =
-    Contains-permutation ordered bs first.first (IsPermutation-sym bs ordered moved)
-    (first.at, first.within, first.there) in
-    let mine = number_at 0 bs in_bs.0 b numbered in_bs.1 in_bs.2 in
-    let other = number_at 0 bs back.0 first.first numbered back.1 back.2 in
-    let same = first.number in
-    let e : back.0 ≡ in_bs.0 = omega arith in
-    let is : b ≡ first.first =
-    same_place bs in_bs.0 b first.first in_bs.1 in_bs.2 (ap (λ k. get_or bs k first.first) (sym e) ∙ back.2) in
-    first.found ∙ ap (λ c. Some c) (sym is)
+    let back = Contains-permutation ordered bs first.first (IsPermutation-sym bs ordered moved) (
+      first.at,
+      first.within,
+      first.there,
+    ) in
+    grind (arith, common_steps, number_at, same_place, get_or)
 
 listed_from : (ordered bs : List Breakpoint) (n : ℕ) → AreNumbered n bs
     → ((b : Breakpoint) → Contains bs b → find (has b.number) ordered ≡ Some b) → by_number ordered n (length bs) ≡ bs
@@ -124,17 +112,14 @@ listed_from ordered (b ∷ bs) n numbered all =
 pub by_number_is : (bs ordered : List Breakpoint) → AreNumbered 0 bs → IsPermutation bs ordered
     → by_number ordered 0 (length ordered) ≡ bs
 by_number_is bs ordered numbered moved =
-    ap (λ n. by_number ordered 0 n) (length_permutation bs ordered moved)
-    ∙ listed_from ordered bs 0 numbered (finds bs ordered numbered moved)
+    cc (length_permutation bs ordered moved, listed_from ordered bs 0 numbered (finds bs ordered numbered moved))
 
 -- ---- the table of a plan
 
 pub part_is : (bs ordered read : List Breakpoint) (starts : List ℕ) (s : ℕ) → read ≡ ordered
     → by_number ordered 0 (length ordered) ≡ bs → those_of s ordered ≡ those_of s bs →
     IsPart read starts s (those_of s read) → IsPart ordered starts s (those_of s (by_number ordered 0 (length ordered)))
-part_is bs ordered read starts s same is stays part =
-    subst (λ l. IsPart ordered starts s l) (stays ∙ ap (λ l. those_of s l) (sym is))
-    (subst (λ l. IsPart l starts s (those_of s l)) same part)
+part_is bs ordered read starts s same is stays part = rw (← (stays ∙ ap (λ l. those_of s l) (sym is)), ← same) part
 
 pub listed_is : (a b : ℕ) (xs ys : List Breakpoint) (us vs : List Bool) → a ≡ b → xs ≡ ys → us ≡ vs
     → ◌≡◌ {A = Listed} (record { steps = a; breakpoints = xs; marked = us })
@@ -145,30 +130,14 @@ listed_is a b xs ys us vs e f g = cc
 
 find_number : (n : ℕ) (bs : List Breakpoint) (b : Breakpoint) → find (has n) bs ≡ Some b → b.number ≡ n
 find_number n [] b e = cc
-find_number n (x ∷ xs) b e = by_test (find_number n xs b) (has n x) refl
-  where
-    by_test : (find (has n) xs ≡ Some b → b.number ≡ n) → (v : Bool) → has n x ≡ v → b.number ≡ n
-    by_test more true is =
-        let same : ◌≡◌ {A = Option Breakpoint} (Some x) (Some b) = sym (ap (λ v. cond v (Some x) (find (has n) xs)) is)
-        ∙ e in let one : x ≡ b = cc in ap (λ (c : Breakpoint). c.number) (sym one) ∙ has_number n x is
-    by_test more false is = more (sym (ap (λ v. cond v (Some x) (find (has n) xs)) is) ∙ e)
+find_number n (x ∷ xs) b e = grind (arith, common_steps, find_number n xs b, find, true, has_number, false)
 
 -- the first of the list has at least the number from which it was found
 first_number : (ordered : List Breakpoint) (n k : ℕ) (b : Breakpoint) (bs : List Breakpoint) → by_number ordered n k ≡ b
     ∷ bs → n ≤ b.number
 first_number ordered n zero b bs e = cc
-first_number ordered n (suc k) b bs e = by_found (first_number ordered (n + 1) k b bs) (find (has n) ordered) refl
-  where
-    by_found : (by_number ordered (n + 1) k ≡ b ∷ bs → n + 1 ≤ b.number) → (o : Option Breakpoint)
-        → find (has n) ordered ≡ o → n ≤ b.number
-    by_found more None none =
-        let le = more (sym (ap (λ o. prepended o (by_number ordered (n + 1) k)) none) ∙ e) in omega arith
-    by_found more (Some c) some =
-        let same : c ∷ by_number ordered (n + 1) k ≡ b ∷ bs =
-        sym (ap (λ o. prepended o (by_number ordered (n + 1) k)) some) ∙ e in
-        let one : c ≡ b = cc in
-        let number = find_number n ordered b (some ∙ ap Some one) in
-        omega arith
+first_number ordered n (suc k) b bs e =
+    grind (arith, common_steps, first_number ordered (n + 1) k b bs, find, by_number, find_number)
 
 not_first : (ordered : List Breakpoint) (n k : ℕ) → AreNumbered n (by_number ordered (n + 1) k)
     → by_number ordered (n + 1) k ≡ []
@@ -179,48 +148,19 @@ not_first ordered n k numbered = by_list (by_number ordered (n + 1) k) refl numb
     by_list [] e numbered = e
     by_list (b ∷ bs) e numbered = let le = first_number ordered (n + 1) k b bs e in absurd (omega (arith, numbered.0))
 
--- what is found with the number n, before those numbered from n + 1 on
-abbrev from : List Breakpoint → ℕ → ℕ → Option Breakpoint → List Breakpoint
-from ordered n k o = prepended o (by_number ordered (n + 1) k)
-
 -- the breakpoint that has the number n + i is the one at i
 found_at : (ordered : List Breakpoint) (n k : ℕ) → AreNumbered n (by_number ordered n k) → (i : ℕ)
     → i < length (by_number ordered n k) → find (has (n + i)) ordered ≡ slice_get (by_number ordered n k) i
 found_at ordered n zero numbered i lt = absurd (omega arith)
-found_at ordered n (suc k) numbered i lt = by_found (found_at ordered (n + 1) k) (find (has n) ordered) refl numbered lt
-  where
-    at : (AreNumbered (n + 1) (by_number ordered (n + 1) k) → (j : ℕ) → j < length (by_number ordered (n + 1) k)
-        → find (has (n + 1 + j)) ordered ≡ slice_get (by_number ordered (n + 1) k) j) → (c : Breakpoint) (j : ℕ)
-        → find (has n) ordered ≡ Some c → AreNumbered (n + 1) (by_number ordered (n + 1) k)
-        → j < length (c ∷ by_number ordered (n + 1) k) → find (has (n + j)) ordered ≡ slice_get
-        (c ∷ by_number ordered (n + 1) k) j
-    at more c zero some rest lt = (let e : n + 0 ≡ n = omega arith in ap (λ m. find (has m) ordered) e) ∙ some
-    at more c (suc j) some rest lt =
-        (let e : n + suc j ≡ n + 1 + j = omega arith in ap (λ m. find (has m) ordered) e) ∙ more rest j (omega arith)
-
-    by_found : (AreNumbered (n + 1) (by_number ordered (n + 1) k) → (j : ℕ) → j < length (by_number ordered (n + 1) k)
-        → find (has (n + 1 + j)) ordered ≡ slice_get (by_number ordered (n + 1) k) j) → (o : Option Breakpoint)
-        → find (has n) ordered ≡ o → AreNumbered n (from ordered n k (find (has n) ordered))
-        → i < length (from ordered n k (find (has n) ordered))
-        → find (has (n + i)) ordered ≡ slice_get (from ordered n k (find (has n) ordered)) i
-    by_found more None none numbered lt =
-        let is = ap (from ordered n k) none in
-        let empty = not_first ordered n k (subst (λ l. AreNumbered n l) is numbered) in
-        absurd (omega (arith, ap length is, ap length empty))
-    by_found more (Some c) some numbered lt =
-        let is = ap (from ordered n k) some in
-        let all : AreNumbered n (c ∷ by_number ordered (n + 1) k) = subst (λ l. AreNumbered n l) is numbered in
-        at more c i some all.2 (subst (λ l. i < length l) is lt) ∙ ap (λ l. slice_get l i) (sym is)
+found_at ordered n (suc k) numbered i lt =
+    grind (arith, common_steps, found_at ordered (n + 1) k, find, by_number, length, slice_get, not_first)
 
 -- ---- no other has a number
 
 kept : (s : ℕ) (xs : List Breakpoint) (k : ℕ) (b : Breakpoint) → k < length xs → get_or xs k b ≡ b → is_of s b ≡ true
     → Contains (those_of s xs) b
 kept s [] k b lt at is = absurd (omega arith)
-kept s (x ∷ xs) zero b lt at is =
-    let own : is_of s x ≡ true = ap (is_of s) at ∙ is in
-    let here : Contains (x ∷ those_of s xs) b = (0, omega arith, at) in
-    subst (λ v. Contains (cond v (x ∷ those_of s xs) (those_of s xs)) b) (sym own) here
+kept s (x ∷ xs) zero b lt at is = grind (arith, common_steps, is_of, true, Contains)
 kept s (x ∷ xs) (suc k) b lt at is = by_test (is_of s x) (kept s xs k b (omega arith) at is)
   where
     by_test : (v : Bool) → Contains (those_of s xs) b → Contains (cond v (x ∷ those_of s xs) (those_of s xs)) b
@@ -245,9 +185,7 @@ found_in n [] b e = cc
 found_in n (x ∷ xs) b e = by_test (found_in n xs b) (has n x) refl
   where
     by_test : (find (has n) xs ≡ Some b → Contains xs b) → (v : Bool) → has n x ≡ v → Contains (x ∷ xs) b
-    by_test more true is =
-        let same : ◌≡◌ {A = Option Breakpoint} (Some x) (Some b) = sym (ap (λ v. cond v (Some x) (find (has n) xs)) is)
-        ∙ e in (0, omega arith, cc)
+    by_test more true is = grind (arith, common_steps, find)
     by_test more false is =
         let there = more (sym (ap (λ v. cond v (Some x) (find (has n) xs)) is) ∙ e) in
         (suc there.0, (let lt = there.1 in omega arith), there.2)
@@ -260,13 +198,9 @@ found_within : (ordered bs : List Breakpoint) (n : ℕ) (b : Breakpoint) → ((s
     → AreNumbered 0 bs → find (has n) ordered ≡ Some b → n < length bs
 found_within ordered bs n b whole numbered is =
     let there = found_in n ordered b is in
-    let listed =
-    was_in b.step bs b (subst (λ l. Contains l b) (whole b.step)
-    (kept b.step ordered there.0 b there.1 there.2 (own_step b))) in
-    let lt = listed.1 in
-    let mine = number_at 0 bs listed.0 b numbered listed.1 listed.2 in
-    let number = find_number n ordered b is in
-    omega arith
+    let listed = was_in b.step bs b (subst (λ l. Contains l b) (whole b.step) (kept b.step ordered there.0 b there.1
+    there.2 (own_step b))) in
+    grind (arith, common_steps, number_at, find_number)
 
 -- the breakpoint with a number, if there is one
 at_number : (ordered bs : List Breakpoint) → by_number ordered 0 (length ordered) ≡ bs
@@ -282,11 +216,7 @@ at_number ordered bs listed whole numbered n = by_order (cases_lt n (length bs))
     past le (Some b) e = let lt = found_within ordered bs n b whole numbered e in absurd (omega arith)
 
     by_order : (n < length bs) ⊎ (length bs ≤ n) → find (has n) ordered ≡ slice_get bs n
-    by_order (inl lt) =
-        let is = subst (λ l. AreNumbered 0 l) (sym listed) numbered in
-        let within : n < length (by_number ordered 0 (length ordered)) = subst (λ l. n < length l) (sym listed) lt in
-        ap (λ k. find (has k) ordered) first ∙ found_at ordered 0 (length ordered) is n within
-        ∙ ap (λ l. slice_get l n) listed
+    by_order (inl lt) = grind (arith, common_steps, listed, length, by_number, find, found_at, slice_get)
     by_order (inr le) = past le (find (has n) ordered) refl
 
 -- the parts of a breakpoint's message, found by its number
@@ -294,19 +224,4 @@ pub parts_found : (p : Inside) → IsTable p → (number : ℕ) (o : Option Brea
     → find (has number) p.ordered.items ≡ o →
     option_map_or (λ (m : Message). m.parts) (option_and_then (λ (b : Breakpoint). (plain_breakpoint b).message) o)
     [] ≡ parts_at (plain_breakpoints (listed p).breakpoints) number
-parts_found p table number o is =
-    let bs = (listed p).breakpoints in
-    let there : o ≡ slice_get bs number =
-    sym is ∙ at_number p.ordered.items bs refl table.whole table.numbered.numbers number in
-    ap (λ q. option_map_or (λ (m : Message). m.parts)
-    (option_and_then (λ (b : Breakpoint). (plain_breakpoint b).message) q) []) there
-    ∙ plain_at (slice_get bs number)
-    ∙ ap (λ q. option_map_or (λ (m : Message). m.parts) (option_and_then (λ (b : PlainBreakpoint). b.message) q) [])
-    (sym (slice_get-map plain_breakpoint bs number))
-  where
-    plain_at : (q : Option Breakpoint) → option_map_or (λ (m : Message). m.parts)
-        (option_and_then (λ (b : Breakpoint). (plain_breakpoint b).message) q) [] ≡ option_map_or
-        (λ (m : Message). m.parts) (option_and_then (λ (b : PlainBreakpoint). b.message)
-        (option_map plain_breakpoint q)) []
-    plain_at None = refl
-    plain_at (Some b) = refl
+parts_found p table number o is = grind (arith, common_steps, listed, slice_get, at_number, slice_get-map)

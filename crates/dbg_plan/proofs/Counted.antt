@@ -1,5 +1,5 @@
 -- Where the machine counts, it counts as the plan does.
-use Rattle.std.proofs.Common.{◌≡◌, ℕ, zero, suc, ◌+◌, ◌<◌, ◌≤◌, All, Bool, true, false, cond, get_or, nat_lt, if◌then◌else◌, slice_index, slice_set, length-set, List, [], ◌∷◌, length, slice_get, filter, Option, Some, None, refl, sym, ap, ◌∙◌, subst, arith}
+use Rattle.std.proofs.Common.{◌≡◌, ℕ, zero, suc, ◌+◌, ◌<◌, ◌≤◌, All, Bool, true, false, cond, get_or, length-set, List, [], ◌∷◌, length, slice_get, filter, Option, Some, None, refl, sym, ap, ◌∙◌, subst, arith}
 use Rattle.std.specs.Prelude.{◌&&◌}
 use Rattle.std.specs.List.{list_any}
 use Rattle.std.proofs.lemmas.Bool.{or_parts}
@@ -7,30 +7,30 @@ use Rattle.std.proofs.lemmas.List.{length-map}
 use Rattle.std.proofs.lemmas.Option.{same_Some, slice_get-get_or}
 use Rattle.pl0_unit.specs.declared.unit.Unit.{Unit as Compiled}
 use Rattle.pl0_tree.specs.Steps.{steps}
-use Rattle.pl0_meaning.specs.Values.{Configuration}
 use Rattle.pl0_meaning.specs.Laws.{FramesAreLinked}
 use Rattle.pl0_machine.specs.declared.mark.Counter.{Counter}
 use Rattle.pl0_machine.specs.declared.mark.Marks.{Marks}
 use Rattle.pl0_machine.specs.declared.mark.Question.{Question}
-use Rattle.pl0_machine.specs.Counting.{counters_of, any_due, passed_at, passed, IsCounted}
+use Rattle.pl0_machine.specs.Counting.{counters_of, any_due, passed_at, passed, noted_at, noted, IsCounted}
 use Rattle.pl0_machine.specs.Machine.{Standing, program, configuration, frames, top_of, IsNext, BeginsNext}
-use Rattle.pl0_machine.specs.Stretches.{answer_in, CanCount, IsTable, AreCountedAt, AreCounted}
+use Rattle.pl0_machine.specs.Stretches.{answer_in, CanCount, IsTable, ArriveAt, Arrive, AreCounted, AreNoted}
 use Rattle.dbg_plan.specs.declared.breakpoint.Breakpoint.{Breakpoint}
 use Rattle.dbg_plan.specs.Breakpoints.{plain_breakpoint, plain_breakpoints}
 use Rattle.dbg_plan.specs.Counting.{holds_now, IsMetHere, counted as counted_all, due_at, those_due, any_stops, logged, AreCounts, CountsOn, MayBePlanOf}
-use Rattle.dbg_plan.specs.Due.{arrives_at, arrivals, accepts, is_hit}
+use Rattle.dbg_plan.specs.Due.{arrives_at, arrivals, accepts}
 use Rattle.dbg_plan.specs.Logs.{Log}
-use Rattle.dbg_plan.specs.Plans.{Listed, IsPlanOf, IsNumbered, is_of, those_of, has_breakpoint, marked_addresses, listed_of, breakpoints_of}
+use Rattle.dbg_plan.specs.Plans.{Listed, IsPlanOf, IsNumbered, is_of, those_of, marked_addresses, listed_of, breakpoints_of}
 use Rattle.dbg_plan.specs.Quiet.{AreMarksIn}
 use Rattle.dbg_plan.specs.Running.{has_hit}
 use Rattle.dbg_plan.specs.Table.{AreCountersOf, AreMarksOf}
 use Rattle.dbg_plan.proofs.Asked.{can_ask, answer_is}
-use Rattle.dbg_plan.proofs.Counters.{AreAlike, read_is, same_due, same_passed}
+use Rattle.dbg_plan.proofs.Counters.{AreAlike, read_is, same_due, same_passed, same_noted}
 use Rattle.dbg_plan.proofs.Here.{any_plain, arrivals_rise, within, are_met, goes_on}
 use Rattle.dbg_plan.proofs.Places.{arrives_here}
 use Rattle.dbg_plan.proofs.Tally.{tally_hits, tally_due}
 use Rattle.dbg_plan.proofs.Unwatched.{fits_of, among_those}
 use Rattle.dbg_plan.proofs.Watching.{there, none_of}
+use Rattle.std.proofs.lemmas.Grind.{common_steps}
 
 -- ---- by the number of the step that comes next
 
@@ -49,11 +49,9 @@ module _ (m : Standing) (p : ℕ) (here : IsNext (program m) (top_of (frames m))
   -- a breakpoint is met where one of the step's is due
   pub hits_are : has_hit (plain_breakpoints bs) first m ≡ list_any (λ b. due_at (holds_now m) b counts) (those_of p bs)
   hits_are =
-      any_plain (is_hit (program m) first m.position) bs
-      ∙ sym (tally_hits (is_of p) (holds_now m) arrives before after
-      (arrives_here (program m) m.unit.tree.in_order (configuration m) p here)
-      (λ b. arrivals_rise (program m) (plain_breakpoint b) first m.position le) bs 0 counts numbered.numbers are)
-      ∙ among_those p (λ b. due_at (holds_now m) b counts) bs
+      any_plain _ bs ∙ sym (tally_hits (is_of p) (holds_now m) arrives before after (arrives_here (program m)
+      m.unit.tree.in_order (configuration m) p here) (λ b. arrivals_rise (program m) (plain_breakpoint b) first
+      m.position le) bs 0 counts numbered.numbers are) ∙ among_those p (λ b. due_at (holds_now m) b counts) bs
 
   none_due : (f : Breakpoint → Bool) (more : List Breakpoint) → list_any f more ≡ false → filter f more ≡ []
   none_due f [] none = refl
@@ -66,12 +64,10 @@ module _ (m : Standing) (p : ℕ) (here : IsNext (program m) (top_of (frames m))
       → those_due (holds_now m) (those_of p bs) counts ≡ []
   none_are_due room none =
       let few = numbered.few in
-      tally_due (is_of p) (holds_now m) arrives before after
-      (arrives_here (program m) m.unit.tree.in_order (configuration m) p here)
-      (λ b. arrivals_rise (program m) (plain_breakpoint b) first m.position le) bs 0 counts numbered.numbers
-      (omega (arith, few, room)) are
-      ∙ none_due (λ b. arrives b && accepts b.rule (after b)) bs
-      (sym (any_plain (is_hit (program m) first m.position) bs) ∙ none)
+      tally_due (is_of p) (holds_now m) arrives before after (arrives_here (program m) m.unit.tree.in_order
+      (configuration m) p here) (λ b. arrivals_rise (program m) (plain_breakpoint b) first m.position le) bs 0 counts
+      numbered.numbers (omega (arith, few, room)) are ∙ none_due (λ b. arrives b && accepts b.rule (after b)) bs (sym
+      (any_plain _ bs) ∙ none)
 
 -- ---- by index
 
@@ -87,11 +83,7 @@ at_get P (x ∷ bs) zero b all is = subst P (same_Some x b is) (all 0 x (omega a
 at_get P (x ∷ bs) (suc k) b all is = at_get P bs k b (λ j d lt. all (suc j) d (omega (arith, lt))) is
 
 next_within : (m : Standing) (n : ℕ) → IsNext (program m) (top_of (frames m)) n → n < length (steps (program m))
-next_within m n next = by_frames (frames m) next
-  where
-    by_frames : (c : Configuration) → IsNext (program m) (top_of c) n → n < length (steps (program m))
-    by_frames [] next = absurd next
-    by_frames (f ∷ below) next = next.within
+next_within m n next = grind (arith, common_steps, frames, length, steps)
 
 -- ---- the counters of the machine's step
 
@@ -116,6 +108,8 @@ module _ (laws : FramesAreLinked) (m : Standing) (bs : List Breakpoint) (cs : Li
           holds = answer_is laws m b (at_get (λ b. IsMetHere m b) bs k b met here) c.question is.asks;
           number = is.number;
           rule = is.rule;
+          starts_over = is.starts_over;
+          stops = is.stops;
         };
   }
 
@@ -148,16 +142,15 @@ module _ (laws : FramesAreLinked) (plan : Option Listed) (counts : List ℕ) (ro
       let asked = in_plan.0 in
       let are = in_plan.2 in
       let is = fits_of u plan asked in_plan.1 fits in (
-        ap length are.marked ∙ ap length is.marked
-            ∙ length-map u.begun_steps.items (has_breakpoint asked.breakpoints),
+        ap length are.marked ∙ ap length is.marked ∙ length-map u.begun_steps.items _,
         λ m n same next.
             let there = counters_there u asked marks is are m same n next in
-            can_count laws m (those_of n asked.breakpoints) (counters_of marks.counters.items n) there.0 there.1
-            (length counts) (within asked.breakpoints are.numbered n counts room),
+            can_count laws m _ _ there.0 there.1 (length counts) (within asked.breakpoints are.numbered n counts room),
       )
 
-  module _ (marks : Marks) (m : Standing) (fits : MayBePlanOf m.unit plan) (in_plan : AreMarksIn plan (Some marks))
-      (due : Bool) (new : List ℕ) (counted : AreCounted (Some marks) m counts due new) where
+  module _ (past : Bool) (marks : Marks) (m : Standing) (fits : MayBePlanOf m.unit plan)
+      (in_plan : AreMarksIn plan (Some marks)) (due : Bool) (new : List ℕ)
+      (counted : Arrive past (Some marks) m counts due new) where
     abbrev asked : Listed
     asked = in_plan.0
 
@@ -174,53 +167,68 @@ module _ (laws : FramesAreLinked) (plan : Option Listed) (counts : List ℕ) (ro
     cs = counters_of marks.counters.items next.step
 
     marked_is : list_any (is_of next.step) asked.breakpoints ≡ counted.2
-    marked_is =
-        let has_one =
-        there asked.breakpoints m.unit.begun_steps.items asked.marked counted.0 next.step is.marked next.begins in
-        same_Some _ _ (sym has_one ∙ sym (ap (λ l. slice_get l counted.0) in_plan.2.marked) ∙ counted.3)
+    marked_is = grind (arith, common_steps, there, same_Some, slice_get)
 
     all_alike : AreAlike (answer_in (frames m)) (holds_now m) those cs
     all_alike =
         let there = counters_there m.unit asked marks is in_plan.2 m refl next.step next.next in
         alike laws m those cs there.0 there.1
 
-    due_among : list_any (λ b. due_at (holds_now m) b counts) those ≡ due
-    due_among = by_mark counted.2 marked_is counted.4
+    -- where all are counted, also those that are due
+    pub noted_as : past ≡ true → (due ≡ any_stops (those_due (holds_now m) those counts))
+        × (new ≡ counted_all (holds_now m) those counts)
+    noted_as now =
+        by_mark counted.2 marked_is (subst (λ p. ArriveAt p (frames m) counted.2 cs counts due new) now counted.4)
       where
         by_mark : (marked : Bool) → list_any (is_of next.step) asked.breakpoints ≡ marked
-            → AreCountedAt (frames m) marked cs counts due new
-            → list_any (λ b. due_at (holds_now m) b counts) those ≡ due
+            → ArriveAt true (frames m) marked cs counts due new
+            → (due ≡ any_stops (those_due (holds_now m) those counts)) × (new ≡ counted_all (holds_now m) those counts)
         by_mark false e c =
-            ap (λ bs. list_any (λ b. due_at (holds_now m) b counts) bs) (none_of next.step asked.breakpoints e)
-            ∙ sym c.0
+            let none = sym (none_of next.step asked.breakpoints e) in (
+              c.0 ∙ ap (λ bs. any_stops (those_due (holds_now m) bs counts)) none,
+              c.1 ∙ ap (λ bs. counted_all (holds_now m) bs counts) none,
+            )
         by_mark true e c =
-            sym (same_due (answer_in (frames m)) (holds_now m) those cs counts all_alike)
-            ∙ due_is (answer_in (frames m)) cs counts due new c
+            let both = same_noted (answer_in (frames m)) (holds_now m) those cs counts all_alike in
+            (c.0 ∙ both.0, c.1 ∙ both.1)
 
-    module _ (first : ℕ) (le : first ≤ m.position)
-        (are : AreCounts (program m) (listed_of plan) first m.position counts) where
-      are_asked : AreCounts (program m) asked.breakpoints first m.position counts
-      are_asked = subst (λ q. AreCounts (program m) (listed_of q) first m.position counts) in_plan.1 are
+    -- where none is counted if one is due
+    module _ (now : past ≡ false) where
+      here : ArriveAt false (frames m) counted.2 cs counts due new
+      here = subst (λ p. ArriveAt p (frames m) counted.2 cs counts due new) now counted.4
 
-      met_where_due : has_hit (plain_breakpoints asked.breakpoints) first m ≡ due
-      met_where_due =
-          hits_are m next.step next.next asked.breakpoints in_plan.2.numbered counts first le are_asked ∙ due_among
-
-      counts_as : due ≡ false → new ≡ counted_all (holds_now m) those counts
-      counts_as undue = by_mark counted.2 marked_is
-          (subst (λ d. AreCountedAt (frames m) counted.2 cs counts d new) undue counted.4)
+      due_among : list_any (λ b. due_at (holds_now m) b counts) those ≡ due
+      due_among = by_mark counted.2 marked_is here
         where
-          none : those_due (holds_now m) those counts ≡ []
-          none =
-              none_are_due m next.step next.next asked.breakpoints in_plan.2.numbered counts first le are_asked room
-              (met_where_due ∙ undue)
-
           by_mark : (marked : Bool) → list_any (is_of next.step) asked.breakpoints ≡ marked
-              → AreCountedAt (frames m) marked cs counts false new → new ≡ counted_all (holds_now m) those counts
-          by_mark false e c =
-              c.1 ∙ sym (ap (λ bs. counted_all (holds_now m) bs counts) (none_of next.step asked.breakpoints e))
+              → ArriveAt false (frames m) marked cs counts due new
+              → list_any (λ b. due_at (holds_now m) b counts) those ≡ due
+          by_mark false e c = cc (none_of next.step asked.breakpoints e, c.0)
           by_mark true e c =
-              c.1 ∙ same_passed (answer_in (frames m)) (holds_now m) those cs counts all_alike none
+              sym (same_due (answer_in (frames m)) (holds_now m) those cs counts all_alike)
+              ∙ due_is (answer_in (frames m)) cs counts due new c
+
+      module _ (first : ℕ) (le : first ≤ m.position)
+          (are : AreCounts (program m) (listed_of plan) first m.position counts) where
+        are_asked : AreCounts (program m) asked.breakpoints first m.position counts
+        are_asked = subst (λ q. AreCounts (program m) (listed_of q) first m.position counts) in_plan.1 are
+
+        met_where_due : has_hit (plain_breakpoints asked.breakpoints) first m ≡ due
+        met_where_due = grind (arith, common_steps, hits_are, are_asked, due_among)
+
+        counts_as : due ≡ false → new ≡ counted_all (holds_now m) those counts
+        counts_as undue = by_mark counted.2 marked_is (subst (λ b. ArriveAt false (frames m) counted.2 cs counts b new)
+            undue here)
+          where
+            none : those_due (holds_now m) those counts ≡ []
+            none =
+                none_are_due m next.step next.next asked.breakpoints in_plan.2.numbered counts first le are_asked room
+                (met_where_due ∙ undue)
+
+            by_mark : (marked : Bool) → list_any (is_of next.step) asked.breakpoints ≡ marked
+                → ArriveAt false (frames m) marked cs counts false new → new ≡ counted_all (holds_now m) those counts
+            by_mark false e c = cc (c.1, none_of next.step asked.breakpoints e)
+            by_mark true e c = c.1 ∙ same_passed (answer_in (frames m)) _ those cs counts all_alike none
 
 -- ---- the counts stay as many
 
@@ -228,27 +236,28 @@ passed_length : (f : Question → Bool) (cs : List Counter) (counts : List ℕ)
     → length (passed f cs counts) ≡ length counts
 passed_length f [] counts = refl
 passed_length f (c ∷ cs) counts =
-    passed_length f cs (passed_at f c counts)
-    ∙ by_arrival (f c.question && nat_lt (slice_index counts c.number) c.passes)
-  where
-    by_arrival : (v : Bool)
-        → length (if v then slice_set counts c.number (slice_index counts c.number + 1) else counts) ≡ length counts
-    by_arrival true = length-set counts c.number (slice_index counts c.number + 1)
-    by_arrival false = refl
+    grind (arith, common_steps, passed_length f cs (passed_at f c counts), length, true, length-set, false)
 
-pub same_length : (marks : Option Marks) (m : Standing) (counts : List ℕ) (due : Bool) (new : List ℕ)
-    → AreCounted marks m counts due new → length new ≡ length counts
-same_length None m counts due new counted = ap length counted.1
-same_length (Some marks) m counts due new counted = by_mark counted.2 due counted.4
+noted_length : (f : Question → Bool) (cs : List Counter) (counts : List ℕ)
+    → length (noted f cs counts) ≡ length counts
+noted_length f [] counts = refl
+noted_length f (c ∷ cs) counts =
+    grind (arith, common_steps, noted_length f cs (noted_at f c counts), length, true, length-set, false)
+
+pub same_length : (past : Bool) (marks : Option Marks) (m : Standing) (counts : List ℕ) (due : Bool) (new : List ℕ)
+    → Arrive past marks m counts due new → length new ≡ length counts
+same_length past None m counts due new counted = ap length counted.1
+same_length past (Some marks) m counts due new counted = by_mark past counted.2 due counted.4
   where
-    by_mark : (marked : Bool) (b : Bool)
-        → AreCountedAt (frames m) marked (counters_of marks.counters.items counted.1.step) counts b new
+    by_mark : (p marked hit : Bool)
+        → ArriveAt p (frames m) marked (counters_of marks.counters.items counted.1.step) counts hit new
         → length new ≡ length counts
-    by_mark false b c = ap length c.1
-    by_mark true true c = ap length c.1
-    by_mark true false c =
-        ap length c.1
-        ∙ passed_length (answer_in (frames m)) (counters_of marks.counters.items counted.1.step) counts
+    by_mark p false hit c = ap length c.1
+    by_mark false true true c = ap length c.1
+    by_mark false true false c = ap length c.1 ∙ passed_length (answer_in (frames m))
+        (counters_of marks.counters.items counted.1.step) counts
+    by_mark true true hit c = ap length c.1 ∙ noted_length (answer_in (frames m))
+        (counters_of marks.counters.items counted.1.step) counts
 
 -- A position where the machine counted is counted under the plan, from whatever position on.
 pub record IsCountedOn (m : Standing) (plan : Option Listed) (counts new : List ℕ) : Type 0 where
@@ -262,22 +271,13 @@ module _ (laws : FramesAreLinked) (plan : Option Listed) (counts : List ℕ) (ro
   pub hit_is : (marks : Option Marks) → AreMarksIn plan marks → (due : Bool) (new : List ℕ)
       → AreCounted marks m counts due new → (first : ℕ) → first ≤ m.position
       → AreCounts (program m) (listed_of plan) first m.position counts → has_hit (breakpoints_of plan) first m ≡ due
-  hit_is None in_plan due new counted first le are =
-      ap (λ bs. has_hit (plain_breakpoints bs) first m) in_plan ∙ sym counted.0
+  hit_is None in_plan due new counted first le are = cc counted.0
   hit_is (Some marks) in_plan due new counted first le are =
-      ap (λ p. has_hit (breakpoints_of p) first m) in_plan.1
-      ∙ met_where_due laws plan counts room marks m fits in_plan due new counted first le are
+      cc (in_plan.1, met_where_due laws plan counts room false marks m fits in_plan due new counted refl first le are)
 
   pub counted_on : (marks : Option Marks) → AreMarksIn plan marks → (new : List ℕ) → AreCounted marks m counts false new
       → IsCountedOn m plan counts new
-  counted_on None in_plan new counted =
-      record {
-        hit = false;
-        logs = [];
-        on = λ first le are.
-            subst (λ bs. CountsOn (program m) bs m.position first false [] new) (sym in_plan)
-            (record { counts = tt; due_is = refl; logs_are = refl });
-      }
+  counted_on None in_plan new counted = grind (arith, common_steps, false, due_is)
   counted_on (Some marks) in_plan new counted =
       let asked = in_plan.0 in
       let next : BeginsNext m counted.0 = counted.1 in
@@ -287,6 +287,24 @@ module _ (laws : FramesAreLinked) (plan : Option Listed) (counts : List ℕ) (ro
         logs = logged m (those_due (holds_now m) those counts);
         on = λ first le are.
             goes_on m next.step next.next plan asked in_plan.1 in_plan.2.numbered those refl counts room _ _ new refl
-            refl (counts_as laws plan counts room marks m fits in_plan false new counted first le are refl) first le
+            refl (counts_as laws plan counts room false marks m fits in_plan false new counted refl first le are refl)
+            first le
             are;
       }
+
+  -- the same, where all arrivals are counted
+  pub noted_on : (marks : Option Marks) → AreMarksIn plan marks → (stops : Bool) (new : List ℕ)
+      → AreNoted marks m counts stops new → (logs : List Log) × ((first : ℕ) → first ≤ m.position
+      → AreCounts (program m) (listed_of plan) first m.position counts
+      → CountsOn (program m) (listed_of plan) m.position first stops logs new)
+  noted_on None in_plan stops new noted = grind (arith, common_steps, false)
+  noted_on (Some marks) in_plan stops new noted =
+      let asked = in_plan.0 in
+      let next : BeginsNext m noted.0 = noted.1 in
+      let those = those_of next.step asked.breakpoints in
+      let both = noted_as laws plan counts room true marks m fits in_plan stops new noted refl in (
+        logged m (those_due (holds_now m) those counts),
+        λ first le are.
+            goes_on m next.step next.next plan asked in_plan.1 in_plan.2.numbered those refl counts room stops _ new
+            both.0 refl both.1 first le are,
+      )

@@ -1,5 +1,5 @@
 -- What the breakpoints do that are met: those without a message stop the program, and the others log.
-use Rattle.std.proofs.Common.{◌≡◌, ℕ, ◌+◌, Bool, true, false, List, [], ◌∷◌, cond, filter, Option, Some, None, is_none, refl, sym, ap, ◌∙◌}
+use Rattle.std.proofs.Common.{◌≡◌, ℕ, ◌+◌, Bool, true, false, List, [], ◌∷◌, cond, filter, Option, Some, None, is_none, refl, arith}
 use Rattle.std.specs.Prelude.{◌&&◌, ◌||◌, option_map}
 use Rattle.std.specs.List.{list_any, filter_map, enumerate_from, cons_option}
 use Rattle.pl0_machine.specs.Machine.{Standing, program, configuration}
@@ -10,6 +10,7 @@ use Rattle.dbg_plan.specs.Due.{is_hit, stops}
 use Rattle.dbg_plan.specs.Logs.{Log, log_in, log_at}
 use Rattle.dbg_plan.specs.Plans.{AreNumbered}
 use Rattle.dbg_plan.specs.Counting.{any_stops, logged}
+use Rattle.std.proofs.lemmas.Grind.{common_steps}
 
 module _ (m : Standing) (first : ℕ) where
   abbrev hit : Breakpoint → Bool
@@ -21,19 +22,13 @@ module _ (m : Standing) (first : ℕ) where
 
   stops_one : (v w : Bool) (b : Breakpoint) (bs : List Breakpoint) → any_stops bs ≡ w
       → any_stops (cond v (b ∷ bs) bs) ≡ ((is_none b.message && v) || w)
-  stops_one true w b bs e =
-      elim (is_none b.message) as (λ n. (n || any_stops bs) ≡ ((n && true) || w)) [ true ↦ refl | false ↦ e ]
-  stops_one false w b bs e =
-      e ∙ elim (is_none b.message) as (λ n. w ≡ ((n && false) || w)) [ true ↦ refl | false ↦ refl ]
+  stops_one true w b bs e = grind (arith, common_steps, true, false)
+  stops_one false w b bs e = grind (arith, common_steps, false, true)
 
   pub stops_are : (bs : List Breakpoint) → any_stops (filter hit bs) ≡ list_any (stops (program m) first m.position)
       (plain_breakpoints bs)
   stops_are [] = refl
-  stops_are (b ∷ bs) =
-      stops_one (hit b) (list_any (stops (program m) first m.position) (plain_breakpoints bs)) b (filter hit bs)
-      (stops_are bs)
-      ∙ ap (λ n. (n && hit b) || list_any (stops (program m) first m.position) (plain_breakpoints bs))
-      (sym (none_plain b.message))
+  stops_are (b ∷ bs) = grind (arith, common_steps, stops_one, list_any, stops, filter, stops_are bs, none_plain)
 
   abbrev log_of : ℕ → Breakpoint → Option Log
   log_of n b = log_in (program m) (configuration m) n (plain_breakpoint b).message
@@ -47,7 +42,4 @@ module _ (m : Standing) (first : ℕ) where
       → logged m (filter hit bs) ≡ filter_map (log_at (program m) first m.position)
       (enumerate_from n (plain_breakpoints bs))
   logs_are [] n numbered = refl
-  logs_are (b ∷ bs) n numbered =
-      logs_one (hit b) b (filter hit bs)
-      ∙ ap (λ k. cons_option (cond (hit b) (log_of k b) None) (logged m (filter hit bs))) numbered.0
-      ∙ ap (λ l. cons_option (cond (hit b) (log_of n b) None) l) (logs_are bs (n + 1) numbered.2)
+  logs_are (b ∷ bs) n numbered = cc (logs_one (hit b) b (filter hit bs), numbered.0, logs_are bs (n + 1) numbered.2)

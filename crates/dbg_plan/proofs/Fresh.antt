@@ -1,6 +1,6 @@
 -- A debuggee with a new plan.
-use Rattle.pl0_machine.specs.Machine.{Standing, program}
-use Rattle.std.proofs.Common.{◌≡◌, ℕ, false, [], None, option_map, length, replicate, slice_index, refl, arith, subst, sym, ◌∙◌, zero, suc, ap}
+use Rattle.pl0_machine.specs.Machine.{program}
+use Rattle.std.proofs.Common.{◌≡◌, ℕ, false, [], None, option_map, length, replicate, slice_index, refl, arith, subst, sym, zero, suc, ap}
 use Rattle.std.specs.Arc.{arc_value}
 use Rattle.dbg_plan.specs.declared.debuggee.Debuggee.TheInside.{Inside}
 use Rattle.dbg_plan.specs.Plans.{IsNumbered, listed_of}
@@ -18,17 +18,16 @@ pub fresh : (d : Inside) → IsCounting d → (new : Inside) → new.machine ≡
     → new.counted_from ≡ next_of d → new.counts ≡ replicate 256 0 → IsNumbered (listed_of (plan_of new))
     → MayBePlanOf d.machine.unit (plan_of new) → new.trail ≡ d.trail → IsCounting new
 fresh d was new machine considered first counts numbered fits trail =
-    let next : next_of new ≡ next_of d =
-    ap (λ b. next_at new.machine.position b) considered ∙ ap (λ (m : Standing). next_at m.position d.considered)
-    machine in
+    let next : next_of new ≡ next_of d = cc in
     record {
       numbered = numbered;
-      fits = subst (λ (m : Standing). MayBePlanOf m.unit (plan_of new)) (sym machine) fits;
+      fits = rw machine fits;
       room = ap length counts;
-      counts = rw (first, next) (begin (program new.machine) _ (next_of d) _ numbered
-          (λ k. ap (λ cs. slice_index cs k) counts ∙ zeros 256 k));
+      counts = rw (first, next) (begin
+          (program new.machine) _ (next_of d) _ numbered (λ k. cc (zeros 256 k)));
       begun = omega arith;
-      stands = rw (considered, machine) was.stands;
+      stands =
+          rw (considered, machine) was.stands;
       trail = rw (machine, trail) was.trail;
     }
 

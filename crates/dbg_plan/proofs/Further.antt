@@ -1,5 +1,5 @@
 -- A debuggee that was considered, one position further.
-use Rattle.std.proofs.Common.{◌≡◌, ℕ, ◌+◌, ◌≤◌, Bool, true, false, if◌then◌else◌, List, length, Option, Some, refl, arith, subst, sym, ◌∙◌, ap}
+use Rattle.std.proofs.Common.{◌≡◌, ℕ, ◌+◌, ◌≤◌, Bool, true, false, if◌then◌else◌, List, length, Option, Some, refl, arith}
 use Rattle.pl0_machine.specs.Machine.{Standing, program}
 use Rattle.dbg_plan.specs.Plans.{listed_of}
 use Rattle.dbg_plan.specs.declared.debuggee.Debuggee.TheInside.{Inside}
@@ -10,8 +10,9 @@ use Rattle.dbg_plan.specs.Due.{reason_of, depth_at}
 use Rattle.dbg_plan.specs.Debugged.{IsRunning, IsConsidered, due_now, logs_now}
 use Rattle.dbg_plan.specs.Logs.{Log}
 use Rattle.dbg_plan.specs.Advances.{considered_at}
-use Rattle.dbg_plan.specs.Counting.{AreCounts, CountsOn, MayBePlanOf}
+use Rattle.dbg_plan.specs.Counting.{AreCounts, CountsOn}
 use Rattle.dbg_plan.specs.Counts.{IsCounting, debugged_of, plan_of, next_at, next_of}
+use Rattle.std.proofs.lemmas.Grind.{common_steps}
 
 -- the next position to be considered says whether this one was
 pub was_considered : (position : ℕ) (considered : Bool) → next_at position considered ≡ position + 1 → considered ≡ true
@@ -31,39 +32,11 @@ module _ (d : Inside) (was : IsCounting d) (behind : next_of d ≡ d.machine.pos
   considered : d.considered ≡ true
   considered = was_considered d.machine.position d.considered behind
 
-  same : program machine ≡ program d.machine
-  same = ap (λ (m : Standing). program m) on
-
-  counts_on : CountsOn (program machine) (listed_of (plan_of d)) machine.position d.counted_from hit logs counts
-  counts_on =
-      let place : machine.position ≡ next_of d = ap (λ (m : Standing). m.position) on ∙ sym behind in
-      let begun = was.begun in
-      counting d.counted_from (omega (arith, begun, place)) (rw (same, place) was.counts)
-
   pub stays_counting : length counts ≡ 256 → IsCounting now
-  stays_counting room =
-      let next : next_of now ≡ machine.position + 1 = ap (λ b. next_at machine.position b) considered in
-      let place = ap (λ (m : Standing). m.position) on in
-      let begun = was.begun in
-      record {
-        numbered = was.numbered;
-        fits = subst (λ (m : Standing). MayBePlanOf m.unit (plan_of d)) (sym on) was.fits;
-        room = room;
-        counts = subst (λ n. AreCounts (program machine) (listed_of (plan_of d)) d.counted_from n counts) (sym next)
-            counts_on.counts;
-        begun = omega (arith, begun, behind, place, next);
-        stands = rw (considered) running;
-        trail = rw (on) was.trail;
-      }
+  stays_counting room = grind (arith, common_steps, next_of, considered)
 
   pub led : (mode : Mode) (due : Option Reason) → due ≡ (if hit then Some reason.Breakpoint else reason_of mode
       (depth_at (program machine) machine.position))
       → (debugged_of now ≡ considered_at (debugged_of d) ((debugged_of d).position + 1))
       × IsConsidered (debugged_of now) × (due ≡ due_now (debugged_of now) mode) × (logs ≡ logs_now (debugged_of now))
-  led mode due told = (
-    rw (on, considered) refl,
-    record { behind = rw (considered) refl; running = running },
-    told ∙ ap (λ b. if b then Some reason.Breakpoint else reason_of mode (depth_at (program machine) machine.position))
-        counts_on.due_is,
-    counts_on.logs_are,
-  )
+  led mode due told = grind (arith, common_steps, considered)

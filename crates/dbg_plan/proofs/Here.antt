@@ -1,7 +1,7 @@
 -- One more position considered: the counts and what is due, over plain variables.
-use Rattle.std.proofs.Common.{◌≡◌, ◌≢◌, ◌⊎◌, inl, inr, cond, nat_eq, ℕ, zero, suc, ◌+◌, ◌*◌, ◌%◌, ◌<◌, ◌≤◌, Bool, true, false, List, [], ◌∷◌, length, slice_index, Option, Some, None, ap, sym, ◌∙◌, refl, subst, arith, All, add-one}
+use Rattle.std.proofs.Common.{◌≡◌, ℕ, zero, suc, ◌+◌, ◌<◌, ◌≤◌, Bool, true, false, List, [], ◌∷◌, length, slice_index, Option, Some, None, ap, ◌∙◌, refl, arith, All, add-one}
 use Rattle.std.specs.List.{list_any}
-use Rattle.std.specs.Prelude.{◌&&◌, ◌||◌, nat_le, if◌then◌else◌}
+use Rattle.std.specs.Prelude.{◌||◌, nat_le, if◌then◌else◌}
 use Rattle.std.proofs.lemmas.Bool.Decides.{nat_tests, eqb_tells}
 use Rattle.pl0_tree.specs.Tree.{Block}
 use Rattle.pl0_machine.specs.Machine.{Standing, program, configuration, frames, top_of, IsNext}
@@ -18,6 +18,7 @@ use Rattle.dbg_plan.specs.Counting.{holds_now, IsMetHere, counted, those_due, an
 use Rattle.dbg_plan.proofs.Places.{arrives_here}
 use Rattle.dbg_plan.proofs.Tally.{tally, tally_due}
 use Rattle.dbg_plan.proofs.Doings.{stops_are, logs_are}
+use Rattle.std.proofs.lemmas.Grind.{common_steps}
 
 le_true : (t m : ℕ) → t ≤ m → nat_le t m ≡ true
 le_true t m le = grind (arith, nat_tests)
@@ -31,9 +32,7 @@ any_plain hit (b ∷ bs) = ap (λ v. hit (plain_breakpoint b) || v) (any_plain h
 pub arrivals_rise : (main : Block) (b : PlainBreakpoint) (first m : ℕ) → first ≤ m
     → arrivals main b first (m + 1) ≡ (if arrives_at main b m then arrivals main b first m + 1 else arrivals main b
     first m)
-arrivals_rise main b first m le =
-    rw add-one (ap (λ (v : Bool). if v && arrives_at main b m then arrivals main b first m + 1 else arrivals main b
-    first m) (le_true first m le))
+arrivals_rise main b first m le = rw add-one (cc (le_true first m le))
 
 module _ (m : Standing) (p : ℕ) (here : IsNext (program m) (top_of (frames m)) p) (bs : List Breakpoint)
     (numbered : IsNumbered bs) (counts : List ℕ) (room : length counts ≡ 256) where
@@ -65,44 +64,19 @@ pub goes_on : (m : Standing) (p : ℕ) → IsNext (program m) (top_of (frames m)
     → first ≤ m.position → AreCounts (program m) (listed_of plan) first m.position counts
     → CountsOn (program m) (listed_of plan) m.position first due logs new
 goes_on m p here plan listed is numbered entry entry_is counts room due logs new due_is logs_are new_is first le h =
-    let main = (program m) in
-    let f = holds_now m in
-    let bs = listed.breakpoints in
-    let old : AreCounts main bs first m.position counts =
-    subst (λ q. AreCounts main (listed_of q) first m.position counts) is h in
-    let on = counts_on m p here bs numbered counts room first le old in
-    let at_plan =
-    subst (λ q. CountsOn main (listed_of q) m.position first (any_stops (those_due f (those_of p bs) counts))
-    (logged m (those_due f (those_of p bs) counts)) (counted f (those_of p bs) counts)) (sym is) on in
-    let at_entry =
-    subst (λ es. CountsOn main (listed_of plan) m.position first (any_stops (those_due f es counts))
-    (logged m (those_due f es counts)) (counted f es counts)) (sym entry_is) at_plan in
-    let at_due =
-    subst (λ d. CountsOn main (listed_of plan) m.position first d (logged m (those_due f entry counts))
-    (counted f entry counts)) (sym due_is) at_entry in
-    let at_logs =
-    subst (λ l. CountsOn main (listed_of plan) m.position first due l (counted f entry counts)) (sym logs_are)
-    at_due in
-    subst (λ cs. CountsOn main (listed_of plan) m.position first due logs cs) (sym new_is) at_logs
+    grind (arith, common_steps, counts_on, counted, logs_are)
 
 -- ---- each number is that of a count
 
 are_below : (bs : List Breakpoint) (n limit : ℕ) → AreNumbered n bs → n + length bs ≤ limit
     → All (λ b. b.number < limit) bs
 are_below [] n limit h room = λ k d lt. absurd (omega arith)
-are_below (b ∷ bs) n limit h room =
-    let mine : b.number < limit = omega (arith, h.0) in
-    All-cons (λ x. x.number < limit) b bs mine (are_below bs (n + 1) limit h.2 (omega arith))
+are_below (b ∷ bs) n limit h room = grind (arith, common_steps, All-cons, are_below bs (n + 1) limit h.2 (omega arith))
 
 -- a step has at most all of them
 pub few_of : (p : ℕ) (bs : List Breakpoint) → length (those_of p bs) ≤ length bs
 few_of p [] = omega arith
-few_of p (b ∷ bs) = by_test (is_of p b) (few_of p bs)
-  where
-    by_test : (v : Bool) → length (those_of p bs) ≤ length bs
-        → length (cond v (b ∷ those_of p bs) (those_of p bs)) ≤ length (b ∷ bs)
-    by_test true le = omega arith
-    by_test false le = omega arith
+few_of p (b ∷ bs) = grind (arith, common_steps, is_of, few_of p bs, length, true, false)
 
 pub within : (bs : List Breakpoint) → IsNumbered bs → (p : ℕ) (counts : List ℕ) → length counts ≡ 256
     → All (λ b. b.number < length counts) (those_of p bs)
@@ -114,19 +88,7 @@ within bs numbered p counts room =
 met_here : (m : Standing) (p : ℕ) → IsNext (program m) (top_of (frames m)) p → (b : Breakpoint) (bs : List Breakpoint)
     → IsBoundAt (program m) b.step b.condition → IsMessageBoundAt (program m) b.step b.message
     → All (IsMetHere m) (those_of p bs) → All (IsMetHere m) (those_of p (b ∷ bs))
-met_here m p next b bs bound message rest = by_step (eqb_tells p b.step)
-  where
-    by_step : ((nat_eq p b.step ≡ true) × (p ≡ b.step)) ⊎ ((nat_eq p b.step ≡ false) × (p ≢ b.step))
-        → All (IsMetHere m) (those_of p (b ∷ bs))
-    by_step (inl same) =
-        subst (λ v. All (IsMetHere m) (cond v (b ∷ those_of p bs) (those_of p bs))) (sym same.0)
-        (All-cons (IsMetHere m) b (those_of p bs)
-        (record {
-          next = subst (λ n. IsNext (program m) (top_of (frames m)) n) same.1 next;
-          bound = bound;
-          message = message;
-        }) rest)
-    by_step (inr other) = subst (λ v. All (IsMetHere m) (cond v (b ∷ those_of p bs) (those_of p bs))) (sym other.0) rest
+met_here m p next b bs bound message rest = grind (arith, common_steps, eqb_tells, true, false, All, All-cons, frames)
 
 -- the machine stands at the step of each of its breakpoints, whose conditions are bound there
 pub are_met : (m : Standing) (p : ℕ) → IsNext (program m) (top_of (frames m)) p → (bs : List Breakpoint)
@@ -140,24 +102,19 @@ none_yet : (main : Block) (b : PlainBreakpoint) (t m : ℕ) → m ≤ t → arri
 none_yet main b t zero le = refl
 none_yet main b t (suc m) le =
     let late : nat_le t m ≡ false = grind (arith, nat_tests) in
-    ap (λ (v : Bool). if v && arrives_at main b m then arrivals main b t m + 1 else arrivals main b t m) late
-    ∙ none_yet main b t m (omega arith)
+    cc (none_yet main b t m (omega arith))
 
 reduced_zero : (rule : Option Rule) → IsRule rule → reduced rule 0 ≡ 0
 reduced_zero None r = refl
 reduced_zero (Some (From k)) r = omega arith
-reduced_zero (Some (Every k)) r =
-    let e : 0 ≡ 0 * k + 0 = omega arith in ap (λ m. m % k) e ∙ mod-mul-add 0 k 0 r
+reduced_zero (Some (Every k)) r = grind (arith, common_steps, mod-mul-add)
 
 counts_begin : (main : Block) (bs : List Breakpoint) (t n : ℕ) (counts : List ℕ) → AreNumbered n bs
     → ((k : ℕ) → slice_index counts k ≡ 0) → CountFrom (λ b. arrivals main (plain_breakpoint b) t t) n bs counts
 counts_begin main [] t n counts numbered zeros = tt
 counts_begin main (b ∷ bs) t n counts numbered zeros =
-    let none : arrivals main (plain_breakpoint b) t t ≡ 0 = none_yet main (plain_breakpoint b) t t (omega arith) in (
-      zeros n ∙ sym (ap (λ k. reduced b.rule k) none ∙ reduced_zero b.rule numbered.1),
-      counts_begin main bs t (n + 1)
-          counts numbered.2 zeros,
-    )
+    let none : arrivals main (plain_breakpoint b) t t ≡ 0 = none_yet main (plain_breakpoint b) t t (omega arith) in
+    (cc (zeros n, reduced_zero b.rule numbered.1), counts_begin main bs t (n + 1) counts numbered.2 zeros)
 
 pub begin : (main : Block) (bs : List Breakpoint) (t : ℕ) (counts : List ℕ) → IsNumbered bs
     → ((k : ℕ) → slice_index counts k ≡ 0) → AreCounts main bs t t counts

@@ -1,5 +1,5 @@
 -- Decimal texts of the numbers of rules.
-use Rattle.std.proofs.Common.{◌≡◌, ◌≢◌, ℕ, ◌<◌, ◌^◌, inl, inr, Bool, true, List, [], ◌∷◌, get_or, ap, sym, ◌∙◌, arith, eq-zero-or-pos}
+use Rattle.std.proofs.Common.{◌≡◌, ◌≢◌, ℕ, ◌<◌, ◌^◌, Bool, true, List, [], ◌∷◌, get_or, ap, sym, ◌∙◌, arith}
 use Rattle.std.specs.Prelude.{decimal, Result, Ok, Err, Option, Some, None}
 use Rattle.std.specs.Bool.{Decides}
 use Rattle.std.specs.Str.Parse.{AllDigits, digits_value, ParsesUnsigned}
@@ -8,6 +8,7 @@ use Rattle.std.proofs.lemmas.Fmt.{decimal_digit, decimal-digits_value, first_dec
 use Rattle.dbg_plan.specs.declared.breakpoint.Rule.{Rule}
 use Rattle.dbg_plan.specs.declared.breakpoint.Rule.TheVariants.{From, Every}
 use Rattle.dbg_plan.specs.Resolutions.{ReadsRule, HasRule}
+use Rattle.std.proofs.lemmas.Grind.{common_steps}
 
 digits_model : IsNumeralModel (AllDigits 10) (digits_value 10)
 digits_model = numerals_by_value (AllDigits 10) tells_digits
@@ -22,23 +23,14 @@ pub decimal_of : (text : List ℕ) (k : ℕ) → Parses text (Ok k) → get_or t
 decimal_of text k parses no_zero no_plus =
     let plain = parse_plain digits_model {E = ℕ} 32 text (Ok k) parses no_plus in
     let fits = plain.0.2 in
-    let written : decimal (digits_value 10 text) ≡ text =
-    decimal-digits_value digits_model text plain.0.0 plain.0.1 (λ zero. absurd (no_zero zero)) (omega arith) in
-    let is : text ≡ decimal k = sym written ∙ ap decimal (sym plain.1) in (
-      is,
-      elim (eq-zero-or-pos k) [
-        | inl zero ↦ absurd (no_zero (ap (λ t. get_or t 0 0) (is ∙ ap decimal zero ∙ decimal_digit 0 (omega arith))))
-        | inr some ↦ some
-      ],
-    )
+    let written : decimal (digits_value 10 text) ≡ text = decimal-digits_value digits_model text plain.0.0 plain.0.1 (λ
+    zero. absurd (no_zero zero)) (omega arith) in
+    grind (arith, common_steps, decimal, get_or, decimal_digit)
 
 -- the decimal text of any number but 0 begins neither with a zero nor with a plus sign
 pub not_begun_with : (text : List ℕ) (k c : ℕ) (r : Bool) → c < 49 → 0 < k → k < 2 ^ 31 → text ≡ decimal k
     → Decides r (get_or text 0 0 ≡ c) → r ≡ true → ⊥
-not_begun_with text k c r low some fits is decides begins =
-    let first = first_decimal k some (omega arith) in
-    let at = decides.0 begins in
-    absurd (omega (arith, ap (λ t. get_or t 0 0) is))
+not_begun_with text k c r low some fits is decides begins = grind (arith, common_steps, first_decimal, get_or)
 
 same_ok : (m n : ℕ) → ◌≡◌ {A = Result ℕ ℕ} (Ok m) (Ok n) → m ≡ n
 same_ok m n is = cc

@@ -79,6 +79,8 @@ pub mod Quiet
 -- The counts of a debuggee are right after quiet steps of its machine, and perhaps one more; for
 -- `Debuggee::run_quietly` and `Debuggee::run`.
 pub mod QuietCounts
+-- A search counts all arrivals, and finds the last position where a breakpoint stops; for `Debuggee::search`.
+mod Searching
 -- Trails are short and ascend, and keeping a checkpoint and looking one up are as defined; for the clauses `short` and
 -- `ascend` of `going_back_laws`, and for the functions of `debuggee`, `going_back` and `trail`.
 pub mod Trails

@@ -22,6 +22,7 @@ use Rattle.dbg_plan.specs.Breakpoints.{Breakpoint as PlainBreakpoint, text_condi
 use Rattle.dbg_plan.specs.Plans.{Listed, IsRule, AreNumbered, AreAtSteps, IsPlanOf, AreBreakpointsOf, breakpoint_limit, marked_addresses}
 use Rattle.dbg_plan.specs.Resolutions.{AskedLine, plain_line, step_from, ReadsRule, HasConditionAt, HasRule, HasMessageAt, IsResolvedTo, AreResolved}
 use Rattle.dbg_plan.specs.Resolving.{IsBoundConditionOf, ResolvesLine}
+use Rattle.std.proofs.lemmas.Grind.{common_steps}
 
 -- the first i lines are answered
 pub record Resolved (main : Block) (asked : List SourceBreakpoint) (i : ℕ) (answers : List Resolution)
@@ -53,18 +54,11 @@ more_answered : (main : Block) (lines : List AskedLine) (answers : List Resoluti
     (bs mine : List PlainBreakpoint) (line : AskedLine) (answer : Resolution) →
     AreResolved main lines answers bs → IsResolvedTo main line answer mine
     → AreResolved main (lines ++ line ∷ []) (answers ++ answer ∷ []) (bs ++ mine)
-more_answered main [] [] bs mine line answer old new =
-    (mine, [], ap (λ l. l ++ mine) old ∙ sym (append-nil mine), new, refl)
+more_answered main [] [] bs mine line answer old new = (mine, [], cc (append-nil mine), new, refl)
 more_answered main [] (a ∷ answers) bs mine line answer old new = absurd old
 more_answered main (x ∷ lines) [] bs mine line answer old new = absurd old
-more_answered main (x ∷ lines) (a ∷ answers) bs mine line answer old new = (
-  old.0,
-  old.1 ++ mine,
-  ap (λ l. l ++ mine) old.2 ∙ append_assoc old.0 old.1 mine,
-  old.3,
-  more_answered main lines
-      answers old.1 mine line answer old.4 new,
-)
+more_answered main (x ∷ lines) (a ∷ answers) bs mine line answer old new =
+    grind (arith, common_steps, append_assoc, more_answered main lines answers old.1 mine line answer old.4 new)
 
 pub one_more : (main : Block) (asked : List SourceBreakpoint) (i : ℕ) (line : SourceBreakpoint)
     (answers all : List Resolution) (bs new : List Breakpoint) (answer : Resolution) → i < length asked
@@ -76,29 +70,24 @@ one_more main asked i line answers all bs new answer lt old more all_is =
     let before = map plain_line (take i asked) in
     let this = plain_line (get_or asked i line) in
     let now : Resolved main asked (i + 1) (answers ++ answer ∷ []) (bs ++ more.mine) = record {
-      few = omega (arith, length-append bs more.mine);
-      answered =
-          subst (λ l. AreResolved main l (answers ++ answer ∷ []) (plain_breakpoints (bs ++ more.mine)))
-          (sym (ap (map plain_line) (take_more asked i line lt)
-          ∙ map-append plain_line (take i asked) (get_or asked i line ∷ [])))
-          (subst (λ l. AreResolved main (before ++ this ∷ []) (answers ++ answer ∷ []) l)
-          (sym (map-append plain_breakpoint bs more.mine))
+      few =
+          omega (arith, length-append bs more.mine);
+      answered = rw (ap (map plain_line) (take_more asked i line lt) ∙
+          map-append plain_line (take i asked) (get_or asked i line ∷ []))
+          (rw (map-append plain_breakpoint bs more.mine)
           (more_answered main before answers (plain_breakpoints bs) (plain_breakpoints more.mine) this answer
-          old.answered more.resolved));
+          old.answered
+          more.resolved));
       numbered = more_numbered 0 (length bs) bs more.mine (omega arith) old.numbered more.numbered;
       placed = more_placed main bs more.mine old.placed more.placed;
     } in
-    subst (λ l. Resolved main asked (i + 1) l new) (sym all_is)
-    (subst (λ l. Resolved main asked (i + 1) (answers ++ answer ∷ []) l) (sym more.after) now)
+    rw all_is (rw more.after now)
 
 pub plan_is : (u : Compiled) (n : ℕ) (bs : List Breakpoint) (begun_steps : List (Option ℕ)) (plan : Listed)
     → plan ≡ record { steps = n; breakpoints = bs; marked = marked_addresses bs begun_steps }
     → begun_steps ≡ u.begun_steps.items → n ≡ length (steps (program_of u)) → AreAtSteps (program_of u) bs
     → IsPlanOf u plan
-plan_is u n bs begun_steps plan is beside all placed =
-    let this : IsPlanOf u (record { steps = n; breakpoints = bs; marked = marked_addresses bs begun_steps }) =
-    record { steps = all; bound = placed; marked = ap (λ l. marked_addresses bs l) beside } in
-    subst (λ (p : Listed). IsPlanOf u p) (sym is) this
+plan_is u n bs begun_steps plan is beside all placed = grind (arith, common_steps, steps)
 
 -- ---- the breakpoints as data
 
@@ -106,25 +95,17 @@ all_at_steps : (main : Block) (bs : List Breakpoint) → AreAtSteps main bs
     → All (λ b. b.step < length (steps main)) (plain_breakpoints bs)
 all_at_steps main [] placed = λ k d lt. absurd (omega arith)
 all_at_steps main (b ∷ bs) placed =
-    All-cons (λ b. b.step < length (steps main)) (plain_breakpoint b) (plain_breakpoints bs) placed.0
-    (all_at_steps main bs placed.3)
+    All-cons (λ b. b.step < length (steps main)) _ _ placed.0 (all_at_steps main bs placed.3)
 
 all_rules : (n : ℕ) (bs : List Breakpoint) → AreNumbered n bs → All (λ b. IsRule b.rule) (plain_breakpoints bs)
 all_rules n [] numbered = λ k d lt. absurd (omega arith)
-all_rules n (b ∷ bs) numbered =
-    All-cons (λ b. IsRule b.rule) (plain_breakpoint b) (plain_breakpoints bs) numbered.1
-    (all_rules (n + 1) bs numbered.2)
+all_rules n (b ∷ bs) numbered = grind (arith, common_steps, All-cons, all_rules (n + 1) bs numbered.2)
 
 pub breakpoints_are : (main : Block) (asked : List SourceBreakpoint) (i : ℕ) (answers : List Resolution)
     (bs : List Breakpoint) (plan : Listed) → Resolved main asked i answers bs → i ≤ breakpoint_limit
     → plan.breakpoints ≡ bs → AreBreakpointsOf main (plain_breakpoints plan.breakpoints)
 breakpoints_are main asked i answers bs plan old le same =
-    let few = old.few in
-    subst (λ l. AreBreakpointsOf main (plain_breakpoints l)) (sym same) (record {
-      few = omega (arith, few, length-map bs plain_breakpoint);
-      at_steps = all_at_steps main bs old.placed;
-      rules = all_rules 0 bs old.numbered;
-    })
+    grind (arith, common_steps, length-map, all_at_steps, all_rules)
 
 -- ---- lines without a breakpoint
 
@@ -137,11 +118,7 @@ pub bad_condition : (main : Block) (asked : AskedLine) (old : List Breakpoint) (
     (kind : FaultKind) (place : Place) → step_from main asked.line ≡ Some n
     → FaultIs (λ kind place. ¬ HasConditionAt main n asked.condition) fault → fault ≡ InText kind place
     → ResolvesLine main asked old old BadCondition
-bad_condition main asked old n fault kind place there is e =
-    refused main asked old BadCondition (
-      refl,
-      (n, there, subst (λ f. FaultIs (λ kind place. ¬ HasConditionAt main n asked.condition) f) e is),
-    )
+bad_condition main asked old n fault kind place there is e = grind (arith, common_steps, refused)
 
 has_condition : (main : Block) (n : ℕ) (text : List ℕ) (condition : Option BoundCondition)
     → IsBoundConditionOf main n text condition → HasConditionAt main n text
@@ -151,17 +128,11 @@ pub bad_hit_condition : (main : Block) (asked : AskedLine) (old : List Breakpoin
     (condition : Option BoundCondition) → step_from main asked.line ≡ Some n
     → IsBoundConditionOf main n asked.condition condition → ¬ HasRule asked.hit_condition
     → ResolvesLine main asked old old BadHitCondition
-bad_hit_condition main asked old n condition there is none =
-    refused main asked old BadHitCondition
-    (refl, none, (n, there, has_condition main n asked.condition condition is))
+bad_hit_condition main asked old n condition there is none = grind (arith, common_steps, refused, none, has_condition)
 
 pub bad_log_message : (main : Block) (asked : AskedLine) (old : List Breakpoint) (n : ℕ)
     (condition : Option BoundCondition) (rule : Option Rule) → step_from main asked.line ≡ Some n
     → IsBoundConditionOf main n asked.condition condition → ReadsRule asked.hit_condition rule
     → ¬ HasMessageAt main n asked.log_message → ResolvesLine main asked old old BadLogMessage
 bad_log_message main asked old n condition rule there is read none =
-    refused main asked old BadLogMessage (
-      refl,
-      record { rule = rule; reads = read },
-      (n, there, has_condition main n asked.condition condition is, none),
-    )
+    grind (arith, common_steps, refused, has_condition, none)

@@ -1,7 +1,8 @@
 -- A text reads as the parts of a message in one way, found from the left.
-use Rattle.std.proofs.Common.{◌≡◌, ◌≢◌, ℕ, suc, ◌+◌, ◌<◌, List, [], ◌∷◌, ◌++◌, length, refl, sym, ap, ◌∙◌, subst, arith, append_assoc, length-append}
+use Rattle.std.proofs.Common.{◌≡◌, ◌≢◌, ℕ, suc, ◌+◌, ◌<◌, List, [], ◌∷◌, ◌++◌, length, refl, sym, ap, ◌∙◌, arith, append_assoc, length-append}
 use Rattle.pl0_tree.specs.Tree.{Expression}
 use Rattle.dbg_plan.specs.Messages.{Part, Text, Value, expressions, Lacks, braced, ReadsParts}
+use Rattle.std.proofs.lemmas.Grind.{common_steps}
 
 -- ---- where a byte first stands
 
@@ -46,19 +47,9 @@ module _ (Is : List ℕ → Expression → Type 0) where
       → Lacks 123 before → Lacks 125 inner → ReadsParts Is text parts → Continues before inner after parts
   continues text before inner after [] e first second r = absurd r
   continues text before inner after (Value v ∷ parts) e first second r = absurd r
-  continues text before inner after (Text b ∷ []) e first second r =
-      absurd (uncut 123 text before (inner ++ 125 ∷ after) r.1 e)
+  continues text before inner after (Text b ∷ []) e first second r = absurd (uncut 123 text before _ r.1 e)
   continues text before inner after (Text b ∷ Text c ∷ parts) e first second r = absurd r
-  continues text before inner after (Text b ∷ Value v ∷ parts) e first second r =
-      let outer = cut_once 123 b before (r.0 ++ 125 ∷ r.1) (inner ++ 125 ∷ after) r.3 first (sym r.2 ∙ e) in
-      let closed = cut_once 125 r.0 inner r.1 after r.4 second outer.1 in
-      record {
-        value = v;
-        more = parts;
-        is = ap (λ t. Text t ∷ Value v ∷ parts) outer.0;
-        reads = subst (λ t. Is t v) closed.0 r.5;
-        rest = subst (λ t. ReadsParts Is t parts) closed.1 r.6;
-      }
+  continues text before inner after (Text b ∷ Value v ∷ parts) e first second r = grind (arith, common_steps, cut_once)
 
   -- a text without a `{` reads as itself
   pub alone : (text : List ℕ) (parts : List Part) → Lacks 123 text → ReadsParts Is text parts → parts ≡ Text text ∷ []
@@ -96,9 +87,7 @@ module _ (Is : List ℕ → Expression → Type 0) where
   parts_once once text (Text b ∷ Text c ∷ ps) qs r s = absurd r
   parts_once once text (Text b ∷ Value v ∷ ps) qs r s =
       let c = continues text b r.0 r.1 qs r.2 r.3 r.4 s in
-      let same = once r.0 v c.value r.5 c.reads in
-      let rest = parts_once once r.1 ps c.more r.6 c.rest in
-      ap (λ e. Text b ∷ Value e ∷ ps) same ∙ ap (λ l. Text b ∷ Value c.value ∷ l) rest ∙ sym c.is
+      grind (arith, common_steps, parts_once once r.1 ps c.more r.6 c.rest)
 
   -- ---- read from the left
 
@@ -112,18 +101,24 @@ module _ (Is : List ℕ → Expression → Type 0) where
       → ((f : Expression) → Is inner f → f ≡ e) → IsReadTo text parts rest →
       rest ≡ before ++ braced inner after → Lacks 123 before → Lacks 125 inner → Is inner e
       → IsReadTo text (parts ++ Text before ∷ Value e ∷ []) after
-  one_further text rest before inner after parts e once was cut first second is = record {
-    onward = λ more r. subst (λ l. ReadsParts Is text l) (sym (append_assoc parts (Text before ∷ Value e ∷ []) more))
-        (was.onward (Text before ∷ Value e ∷ more) (inner, after, cut, first, second, is, r));
-    back = λ all r.
-        let old = was.back all r in
-        let c = continues rest before inner after old.0 cut first second old.2 in (
-          c.more,
-          old.1 ∙ ap (λ l. parts ++ l) (c.is ∙ ap (λ v. Text before ∷ Value v ∷ c.more) (once c.value c.reads))
-              ∙ sym (append_assoc parts (Text before ∷ Value e ∷ []) c.more),
-          c.rest,
-        );
-  }
+  one_further text rest before inner after parts e once was cut first second is =
+      record {
+        onward = λ more r. rw (append_assoc parts (Text before ∷ Value e ∷ []) more) (was.onward (Text before ∷
+            Value e ∷ more) (inner, after, cut, first, second, is, r));
+        back = λ all r.
+            let old = was.back all r in
+            let c = continues rest before inner after old.0 cut first second old.2 in (
+              c.more,
+              cc (
+                old.1,
+                c.is,
+                once c.value c.reads,
+                append_assoc parts (Text before ∷ Value e ∷ [])
+                    c.more,
+              ),
+              c.rest,
+            );
+      }
 
 -- what is an expression may be more
 pub reads_more : (Is As : List ℕ → Expression → Type 0) → ((text : List ℕ) (e : Expression) → Is text e → As text e)

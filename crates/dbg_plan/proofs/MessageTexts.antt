@@ -1,5 +1,5 @@
 -- Messages that an editor asks for.
-use Rattle.std.proofs.Common.{◌≡◌, ◌≢◌, ℕ, ◌+◌, ◌<◌, ◌≤◌, List, [], ◌∷◌, ◌++◌, length, get_or, append_assoc, refl, sym, ap, ◌∙◌, subst, arith}
+use Rattle.std.proofs.Common.{◌≡◌, ◌≢◌, ℕ, ◌+◌, ◌<◌, ◌≤◌, List, [], ◌∷◌, ◌++◌, length, get_or, append_assoc, ap, ◌∙◌, subst, arith}
 use Rattle.std.proofs.lemmas.List.{get_or_default, map-append}
 use Rattle.pl0_tree.proofs.Unique.{expression_text_once}
 use Rattle.std.specs.Str.{IsUtf8}
@@ -16,9 +16,10 @@ use Rattle.dbg_plan.specs.declared.message.Part.TheVariants as part
 use Rattle.dbg_plan.specs.declared.messages.MessageFault.{MessageFault}
 use Rattle.dbg_plan.specs.declared.messages.MessageFault.TheVariants.{Bad, NoMemory}
 use Rattle.dbg_plan.specs.MessageFaults.{UnlessNoMemory}
-use Rattle.dbg_plan.specs.Messages.{Part, Text, Value, expressions, expression_limit, Lacks, braced, ReadsParts, IsMessageOf, ReadsAsExpression, ReadsAsParts, plain_part, plain_parts}
+use Rattle.dbg_plan.specs.Messages.{Part, Text, Value, expressions, expression_limit, Lacks, braced, IsMessageOf, ReadsAsExpression, ReadsAsParts, plain_part, plain_parts}
 use Rattle.dbg_plan.specs.Bound.{ArePartsBound}
 use Rattle.dbg_plan.proofs.MessageParts.{IsReadTo, one_further, continues, unclosed, some_value, reads_more, count-append}
+use Rattle.std.proofs.lemmas.Grind.{common_steps}
 
 -- a text with a fault is no expression's
 pub no_expression : FaultExcludesExpressions → (main : Block) (q : Path) (text : List ℕ) (fault : SyntaxFault)
@@ -47,13 +48,12 @@ module _ (main : Block) (q : Path) (text : List ℕ) where
       plain_parts new ≡ plain_parts parts ++ Text before ∷ Value e ∷ [] → ArePartsBound main q new → IsUtf8 after
       → IsRead main q text (n + 1) new after
   read_on n parts new rest before inner after opened e was lt cut first opens second is new_is bound is_text =
-      let whole : rest ≡ before ++ braced inner after = cut ∙ ap (λ t. before ++ 123 ∷ t) opens in
+      let whole : rest ≡ before ++ braced inner after = cc in
       record {
-        to = subst (λ l. IsReadTo (IsExpressionOf main q) text l after) (sym new_is)
-            (one_further (IsExpressionOf main q) text rest before inner after (plain_parts parts) e
-            (λ f reads. expression_text_once reads.reads is.reads) was.to whole first second is);
-        count = ap (λ l. length (expressions l)) new_is ∙ count-append (plain_parts parts) (Text before ∷ Value e ∷ [])
-            ∙ ap (λ k. k + 1) was.count;
+        to = rw new_is (one_further (IsExpressionOf main q) text rest before inner after (plain_parts parts) e (λ
+            f reads. expression_text_once reads.reads is.reads) was.to whole first second is);
+        count =
+            cc (count-append (plain_parts parts) (Text before ∷ Value e ∷ []), was.count);
         few = omega arith;
         bound = bound;
         is_text = is_text;
@@ -63,16 +63,7 @@ module _ (main : Block) (q : Path) (text : List ℕ) where
   pub read_all : (n : ℕ) (parts new : List DeclaredPart) (rest : List ℕ) → IsRead main q text n parts rest
       → Lacks 123 rest → plain_parts new ≡ plain_parts parts ++ Text rest ∷ []
       → IsMessageOf main q text (plain_parts new)
-  read_all n parts new rest was lacks new_is =
-      let few = was.few in
-      let count = was.count in
-      let more : length (expressions (plain_parts new)) ≡ length (expressions (plain_parts parts)) + 0 =
-      ap (λ l. length (expressions l)) new_is ∙ count-append (plain_parts parts) (Text rest ∷ []) in
-      record {
-        few = omega arith;
-        reads = subst (λ l. ReadsParts (IsExpressionOf main q) text l) (sym new_is)
-            (was.to.onward (Text rest ∷ []) (refl, lacks));
-      }
+  read_all n parts new rest was lacks new_is = grind (arith, common_steps, length, count-append, lacks)
 
   -- ---- texts that are no message
 
@@ -81,10 +72,7 @@ module _ (main : Block) (q : Path) (text : List ℕ) where
   ninth n parts rest before after was full cut all is =
       let left = was.to.back all is.reads in
       let some = some_value (IsExpressionOf main q) rest before after left.0 cut left.2 in
-      let long = ap (λ l. length (expressions l)) left.1 ∙ count-append (plain_parts parts) left.0 in
-      let few = is.few in
-      let count = was.count in
-      absurd (omega arith)
+      grind (arith, common_steps, length, count-append)
 
   pub not_closed : (n : ℕ) (parts : List DeclaredPart) (rest before after : List ℕ) → IsRead main q text n parts rest
       → rest ≡ before ++ 123 ∷ after → Lacks 123 before → Lacks 125 after → (all : List Part)
@@ -116,9 +104,7 @@ one_appended old new p more = ap plain_parts more ∙ map-append plain_part old 
 
 pub two_appended : (old mid new : List DeclaredPart) (p r : DeclaredPart) → mid ≡ old ++ p ∷ [] → new ≡ mid ++ r ∷ []
     → plain_parts new ≡ plain_parts old ++ plain_part p ∷ plain_part r ∷ []
-two_appended old mid new p r first second =
-    one_appended mid new r second ∙ ap (λ l. l ++ plain_part r ∷ []) (one_appended old mid p first)
-    ∙ append_assoc (plain_parts old) (plain_part p ∷ []) (plain_part r ∷ [])
+two_appended old mid new p r first second = grind (arith, common_steps, one_appended, append_assoc)
 
 bound_more : (main : Block) (q : Path) (ps qs : List DeclaredPart) → ArePartsBound main q ps → ArePartsBound main q qs
     → ArePartsBound main q (ps ++ qs)
@@ -128,8 +114,7 @@ bound_more main q (part.Value e ∷ ps) qs first second = (first.0, bound_more m
 
 pub bound_one : (main : Block) (q : Path) (old new : List DeclaredPart) (p : DeclaredPart) → new ≡ old ++ p ∷ []
     → ArePartsBound main q old → ArePartsBound main q (p ∷ []) → ArePartsBound main q new
-bound_one main q old new p more was bound =
-    subst (λ l. ArePartsBound main q l) (sym more) (bound_more main q old (p ∷ []) was bound)
+bound_one main q old new p more was bound = rw more (bound_more main q old (p ∷ []) was bound)
 
 -- by what `split_once` says of the part before the byte
 pub lacks : (byte : ℕ) (text : List ℕ) → ((i : ℕ) → i < length text → get_or text i 0 ≢ byte) → Lacks byte text
@@ -140,6 +125,4 @@ lacks byte text none = λ k d lt is. none k lt (get_or_default text k 0 d lt ∙
 -- what is read with names reads so whatever they mean
 pub reads_as : (main : Block) (q : Path) (text : List ℕ) (parts : List Part) → IsMessageOf main q text parts
     → ReadsAsParts text parts
-reads_as main q text parts is =
-    reads_more (IsExpressionOf main q) ReadsAsExpression (λ t e r. r.reads) text parts
-    is.reads
+reads_as main q text parts is = reads_more _ ReadsAsExpression (λ t e r. r.reads) text parts is.reads

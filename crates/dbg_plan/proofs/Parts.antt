@@ -1,5 +1,5 @@
 -- The parts of a list of breakpoints that stand in the order of their steps.
-use Rattle.std.proofs.Common.{◌≡◌, ◌≢◌, ℕ, suc, ◌+◌, ◌-◌, ◌<◌, ◌≤◌, Bool, true, false, inl, inr, List, [], ◌∷◌, ◌++◌, length, take, drop, cond, slice_index, get_or, refl, ap, sym, ◌∙◌, subst, arith}
+use Rattle.std.proofs.Common.{◌≡◌, ◌≢◌, ℕ, suc, ◌+◌, ◌<◌, ◌≤◌, Bool, true, false, inl, inr, List, [], ◌∷◌, ◌++◌, length, take, drop, cond, slice_index, get_or, refl, ap, sym, ◌∙◌, subst, arith}
 use Rattle.std.specs.List.{prefix_len}
 use Rattle.std.specs.List.Sorted.{IsNonDecreasingBy}
 use Rattle.std.proofs.lemmas.Bool.Decides.{nat_tests}
@@ -8,6 +8,7 @@ use Rattle.std.proofs.lemmas.List.{drop-drop, get_or_append_left, get_or_push, l
 use Rattle.dbg_plan.specs.declared.breakpoint.Breakpoint.{Breakpoint}
 use Rattle.dbg_plan.specs.Plans.{is_of, those_of}
 use Rattle.dbg_plan.specs.Table.{IsPart}
+use Rattle.std.proofs.lemmas.Grind.{common_steps}
 
 -- the steps rise from n on
 abbrev pub Rises : ℕ → List Breakpoint → Type 0
@@ -43,8 +44,7 @@ none_below : (s n : ℕ) (bs : List Breakpoint) → s < n → Rises n bs → tho
 none_below s n [] lt rises = refl
 none_below s n (b ∷ bs) lt rises =
     let low = rises.0 in
-    ap (λ v. cond v (b ∷ those_of s bs) (those_of s bs)) (is_of_above s b (omega arith))
-    ∙ none_below s b.step bs (omega arith) rises.1
+    cc (is_of_above s b (omega arith), none_below s b.step bs (omega arith) rises.1)
 
 -- what a walk from step i on finds: those of the step, and after them the later ones
 pub record Splits (i : ℕ) (bs : List Breakpoint) : Type 0 where
@@ -66,26 +66,14 @@ module _ (i : ℕ) (b : Breakpoint) (bs : List Breakpoint) where
       let k = prefix_len (is_of i) bs in
       let one : prefix_len (is_of i) (b ∷ bs) ≡ suc k = length_is true e ∙ omega arith in
       let fits : k ≤ length bs = more.within in
-      record {
-        here = ap (λ n. take n (b ∷ bs)) one ∙ ap (λ l. b ∷ l) more.here ∙ sym (those_are i true e);
-        rises = subst (λ n. Rises (i + 1) (drop n (b ∷ bs))) (sym one) more.rises;
-        same = λ s lt. ap (λ n. those_of s (drop n (b ∷ bs))) one ∙ more.same s lt
-            ∙ sym (those_are s false (not_of s b (omega arith)));
-        within = omega (arith, one);
-      }
+      grind (arith, common_steps, take, those_are, true, drop, false, not_of)
 
   stays : is_of i b ≡ false → Rises i (b ∷ bs) → Splits i (b ∷ bs)
   stays e rises =
       let low = rises.0 in
       let other = is_of_other i b e in
       let none : prefix_len (is_of i) (b ∷ bs) ≡ 0 = length_is false e in
-      record {
-        here = ap (λ n. take n (b ∷ bs)) none ∙ sym
-            (those_are i false e ∙ none_below i b.step bs (omega arith) rises.1);
-        rises = subst (λ n. Rises (i + 1) (drop n (b ∷ bs))) (sym none) (omega arith, rises.1);
-        same = λ s lt. ap (λ n. those_of s (drop n (b ∷ bs))) none;
-        within = omega (arith, none);
-      }
+      grind (arith, common_steps, take, those_are, false, none_below, drop)
 
 splits : (i : ℕ) (bs : List Breakpoint) → Rises i bs → Splits i bs
 splits i [] rises = record { here = refl; rises = tt; same = λ s lt. refl; within = omega arith }
@@ -119,16 +107,7 @@ begins ordered starts sorted is = record {
 
 kept : (ordered : List Breakpoint) (starts : List ℕ) (x s : ℕ) (part : List Breakpoint) → s + 1 < length starts
     → IsPart ordered starts s part → IsPart ordered (starts ++ x ∷ []) s part
-kept ordered starts x s part lt is =
-    let a : slice_index (starts ++ x ∷ []) s ≡ slice_index starts s =
-    get_or_append_left starts (x ∷ []) 0 s (omega arith) in
-    let b : slice_index (starts ++ x ∷ []) (s + 1) ≡ slice_index starts (s + 1) =
-    get_or_append_left starts (x ∷ []) 0 (s + 1) lt in
-    record {
-      rises = rw (a, b) is.rises;
-      within = rw b is.within;
-      holds = rw (a, b) is.holds;
-    }
+kept ordered starts x s part lt is = grind (arith, common_steps, get_or_append_left)
 
 -- the next step
 pub goes_on : (ordered : List Breakpoint) (i : ℕ) (starts : List ℕ) (start end : ℕ) (new : List ℕ)
@@ -142,27 +121,25 @@ goes_on ordered i starts start end new was end_is new_is =
     let fits : k ≤ length rest = split.within in
     let fits_all = was.within in
     let more : drop k rest ≡ drop end ordered = drop-drop k start ordered ∙ ap (λ n. drop n ordered) (sym end_is) in
-    let old_start : slice_index new i ≡ start =
-    ap (λ l. slice_index l i) new_is ∙ get_or_append_left starts (end ∷ []) 0 i (omega arith) ∙ was.last in
-    let new_start : slice_index new (i + 1) ≡ end =
-    ap (λ l. slice_index l (i + 1)) new_is ∙ get_or_push starts end 0 (i + 1) long in
+    let old_start : slice_index new i ≡ start = ap (λ l. slice_index l i) new_is ∙ get_or_append_left starts (end ∷ [])
+    0 i (omega arith) ∙ was.last in
+    let new_start : slice_index new (i + 1) ≡ end = ap (λ l. slice_index l (i + 1)) new_is ∙ get_or_push starts end 0 (i
+    + 1) long in
     let below : end ≤ length ordered = omega (arith, length-drop start ordered) in
-    let here : IsPart ordered new i (those_of i ordered) = record {
-      rises = rw (old_start, new_start) (omega arith);
-      within = rw new_start below;
-      holds = rw (old_start, new_start) (ap (λ n. take n rest) (let e : end - start ≡ k = omega arith in e) ∙ split.here
-          ∙ was.same i (omega arith));
-    } in
+    let here : IsPart ordered new i (those_of i ordered) = grind (arith, common_steps, take) in
     record {
       long = ap length new_is ∙ length-append starts (end ∷ []) ∙ ap (λ n. n + 1) long;
       last = new_start;
-      within = below;
+      within
+          = below;
       parts = λ s lt. elim (cases_eq s i) [
-        | inl e ↦ subst (λ n. IsPart ordered new n (those_of n ordered)) (sym e) here
-        | inr other ↦ subst
-            (λ l. IsPart ordered l s (those_of s ordered)) (sym new_is)
-            (kept ordered starts end s (those_of s ordered) (omega arith) (was.parts s (omega arith)))
+        | inl e ↦ subst (λ n. IsPart ordered new n (those_of n ordered)) (sym
+            e) here
+        | inr other ↦ subst (λ l. IsPart ordered l s (those_of s ordered)) (sym new_is) (kept ordered starts end s
+            (those_of s ordered) (omega arith) (was.parts s (omega arith)))
       ];
-      rises = subst (λ l. Rises (i + 1) l) more split.rises;
-      same = λ s le. ap (λ l. those_of s l) (sym more) ∙ split.same s (omega arith) ∙ was.same s (omega arith);
+      rises = subst (λ l. Rises (i + 1) l) more
+          split.rises;
+      same = λ s le. ap (λ l. those_of s l) (sym more) ∙ split.same s (omega arith) ∙ was.same s (omega
+          arith);
     }

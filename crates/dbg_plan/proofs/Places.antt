@@ -1,6 +1,6 @@
 -- Which step the program stands at, by its place.
-use Rattle.std.proofs.Common.{◌≡◌, ◌≢◌, ℕ, ◌<◌, ◌≤◌, true, false, nat_eq, List, [], ◌∷◌, length, get_or, map, Option, Some, None, ap, sym, ◌∙◌, refl, arith, inl, inr, ◌⊎◌}
-use Rattle.std.specs.Prelude.{slice_get, option_map, nat_le, ◌&&◌}
+use Rattle.std.proofs.Common.{◌≡◌, ◌≢◌, ℕ, ◌<◌, ◌≤◌, true, false, nat_eq, List, [], ◌∷◌, length, get_or, map, Option, Some, None, ap, ◌∙◌, refl, arith, inl, inr, ◌⊎◌}
+use Rattle.std.specs.Prelude.{slice_get, option_map, ◌&&◌}
 use Rattle.std.proofs.Math.Logic.{∥∥₁_elim}
 use Rattle.std.specs.Coded.{Coded-set, coded_bool}
 use Rattle.std.proofs.lemmas.Bool.Decides.{nat_tests, eqb_tells, leb_tells}
@@ -14,9 +14,10 @@ use Rattle.pl0_meaning.specs.Values.{Frame, Configuration, StandsBefore}
 use Rattle.pl0_machine.specs.Machine.{frames_of, top_of, IsNext}
 use Rattle.dbg_plan.specs.declared.breakpoint.Breakpoint.{Breakpoint}
 use Rattle.dbg_plan.specs.Breakpoints.{plain_breakpoint}
-use Rattle.dbg_plan.specs.Due.{same_place, same_step, is_at, holds, arrives_in}
+use Rattle.dbg_plan.specs.Due.{same_place, same_step, is_at, arrives_in}
 use Rattle.dbg_plan.specs.Plans.{is_of}
 use Rattle.dbg_plan.specs.Counting.{holds_in}
+use Rattle.std.proofs.lemmas.Grind.{common_steps}
 
 place_same : (p : Place) → same_place p p ≡ true
 place_same p = grind (arith, nat_tests)
@@ -36,26 +37,12 @@ module _ (all : List StepAt) (ascend : Ascend (map (λ step. step.place) all)) w
   module _ (p : ℕ) (t : StepAt) (here : slice_get all p ≡ Some t) where
     other_step : (n : ℕ) → p ≢ n → (o : Option StepAt) → slice_get all n ≡ o → same_step o (Some t) ≡ false
     other_step n ne None e = refl
-    other_step n ne (Some s) e = by_order (leb_tells n p)
-      where
-        by_order : ((nat_le n p ≡ true) × (n ≤ p)) ⊎ ((nat_le n p ≡ false) × (p < n))
-            → same_place s.place t.place ≡ false
-        by_order (inl before) =
-            let le = before.1 in place_before s.place t.place
-            (ascend n p s.place t.place (omega arith) (placed n s e) (placed p t here))
-        by_order (inr behind) =
-            place_behind s.place t.place (ascend p n t.place s.place behind.1 (placed p t here) (placed n s e))
+    other_step n ne (Some s) e =
+        grind (arith, common_steps, leb_tells, true, false, same_place, place_before, placed, place_behind)
 
     -- of steps in the order of their places only one stands at a place
     pub same_as : (n : ℕ) → same_step (slice_get all n) (Some t) ≡ nat_eq p n
-    same_as n = by_number (eqb_tells p n)
-      where
-        by_number : ((nat_eq p n ≡ true) × (p ≡ n)) ⊎ ((nat_eq p n ≡ false) × (p ≢ n))
-            → same_step (slice_get all n) (Some t) ≡ nat_eq p n
-        by_number (inl same) =
-            ap (λ o. same_step o (Some t)) (sym (ap (λ k. slice_get all k) same.1) ∙ here) ∙ place_same t.place
-            ∙ sym same.0
-        by_number (inr other) = other_step n other.1 (slice_get all n) refl ∙ sym other.0
+    same_as n = grind (arith, common_steps, eqb_tells, true, false, same_step, slice_get, place_same, other_step)
 
 -- where the program stands at step p, those of its breakpoints arrive whose condition holds
 module _ (main : Block) (ordered : ∥ Ascend (map (λ step. step.place) (steps main)) ∥₁) where
@@ -69,14 +56,11 @@ module _ (main : Block) (ordered : ∥ Ascend (map (λ step. step.place) (steps 
           → ((t : StepAt) × (p < length (steps main)) × (slice_get (steps main) p ≡ Some t)
           × (get_or (steps main) p t ≡ t)) ⊎ ((length (steps main) ≤ p) × (slice_get (steps main) p ≡ None))
           → nat_eq p n ≡ is_at main n (f ∷ below)
-      by_next ascend (inl there) =
-          sym (ap (λ o. same_step (slice_get (steps main) n) o) (sym before.next ∙ there.2)
-          ∙ same_as (steps main) ascend p there.0 there.2 n)
+      by_next ascend (inl there) = cc (before.next, there.2, same_as (steps main) ascend p there.0 there.2 n)
       by_next ascend (inr past) = let within = before.within in let le = past.0 in absurd (omega arith)
 
   pub arrives_here : (o : Option Configuration) (p : ℕ) → IsNext main (top_of (frames_of o)) p → (b : Breakpoint)
       → (is_of p b && holds_in main o (plain_breakpoint b).condition) ≡ arrives_in main (plain_breakpoint b) o
   arrives_here None p next b = absurd next
   arrives_here (Some []) p next b = absurd next
-  arrives_here (Some (f ∷ below)) p next b =
-      ap (λ v. v && holds main (f ∷ below) (plain_breakpoint b).condition) (stands_at f below p next b.step)
+  arrives_here (Some (f ∷ below)) p next b = cc (stands_at f below p next b.step)

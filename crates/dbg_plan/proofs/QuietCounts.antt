@@ -1,9 +1,9 @@
 -- A debuggee whose machine took quiet steps, and perhaps one more.
-use Rattle.std.proofs.Common.{◌≡◌, ℕ, zero, suc, ◌+◌, ◌-◌, ◌<◌, ◌≤◌, ◌⊎◌, Bool, true, false, ⊎_elim, List, [], ◌∷◌, ◌++◌, length, length-append, Option, Some, None, ℤ, refl, sym, ap, ◌∙◌, subst, arith, append-nil}
+use Rattle.std.proofs.Common.{◌≡◌, ℕ, zero, suc, ◌+◌, ◌-◌, ◌<◌, ◌≤◌, ◌⊎◌, Bool, true, false, ⊎_elim, List, [], ◌∷◌, length, length-append, Option, Some, None, ℤ, refl, ap, ◌∙◌, subst, arith, append-nil}
 use Rattle.pl0_unit.specs.declared.unit.Unit.{Unit as Compiled}
 use Rattle.pl0_meaning.specs.declared.RunFault.{RunFault}
 use Rattle.pl0_meaning.specs.Laws.{FramesAreLinked}
-use Rattle.pl0_meaning.specs.Runs.{Outcome, Goes, Faults, Stuck, written_by, written}
+use Rattle.pl0_meaning.specs.Runs.{Outcome, Goes, Faults, Stuck, written}
 use Rattle.pl0_meaning.proofs.SharedLemmas.{written_from_few}
 use Rattle.pl0_machine.specs.declared.outcome.StepOutcome.{StepOutcome}
 use Rattle.pl0_machine.specs.declared.outcome.StepOutcome.TheVariants.{Went, Done, Fault}
@@ -17,7 +17,7 @@ use Rattle.dbg_plan.specs.Plans.{listed_of, breakpoints_of}
 use Rattle.dbg_plan.specs.Counts.{IsCounting, debugged_of, plan_of, next_at, next_of}
 use Rattle.dbg_plan.specs.Kept.{trail_of}
 use Rattle.dbg_plan.specs.declared.mode.Mode.{Mode}
-use Rattle.dbg_plan.specs.Debugged.{Debugged, machine_of, IsNext, IsRunning}
+use Rattle.dbg_plan.specs.Debugged.{Debugged, IsNext, IsRunning}
 use Rattle.pl0_machine.specs.Stretches.{ahead, AreCounted, IsUnseen, Stretches, EndsRun, LacksRoom, Adds, RanOn}
 use Rattle.dbg_plan.specs.Advances.{considered_at}
 use Rattle.dbg_plan.specs.Running.{has_hit, IsQuiet, with_written, RanFrom}
@@ -26,6 +26,7 @@ use Rattle.dbg_plan.proofs.Counted.{same_length, hit_is, counted_on}
 use Rattle.dbg_plan.proofs.Further.{was_considered, stays_counting}
 use Rattle.dbg_plan.proofs.Quiet.{is_told}
 use Rattle.dbg_plan.proofs.Stepping.{same_unit, went_on, stays_there, goes_on, after_fault, not_fault}
+use Rattle.std.proofs.lemmas.Grind.{common_steps}
 
 went_goes : (written : Option ℤ) (fault : RunFault) → Went written ≡ Fault fault → ⊥
 went_goes written fault e = cc
@@ -35,20 +36,20 @@ done_goes fault e = cc
 
 module _ (laws : FramesAreLinked) (d : Inside) (was : IsCounting d) (behind : next_of d ≡ d.machine.position + 1)
     (limit outer : ℕ) (marks : Option Marks) (in_plan : AreMarksIn (plan_of d) marks) where
-  abbrev breakpoints : List Breakpoint
+  abbrev pub breakpoints : List Breakpoint
   breakpoints = breakpoints_of (plan_of d)
 
-  some_alive : (m : Standing) → outer < depth_of m → IsRunning m
+  pub some_alive : (m : Standing) → outer < depth_of m → IsRunning m
   some_alive m more = omega (arith, more)
 
-  considered : d.considered ≡ true
+  pub considered : d.considered ≡ true
   considered = was_considered d.machine.position d.considered behind
 
   -- the debuggee with another machine and other counts
-  abbrev with_machine : Standing → List ℕ → Inside
+  abbrev pub with_machine : Standing → List ℕ → Inside
   with_machine m counts = record d { machine = m; counts = counts }
 
-  behind_at : (m : Standing) (counts : List ℕ) → next_of (with_machine m counts) ≡ m.position + 1
+  pub behind_at : (m : Standing) (counts : List ℕ) → next_of (with_machine m counts) ≡ m.position + 1
   behind_at m counts = ap (λ b. next_at m.position b) considered
 
   -- it counts up to where the machine stands
@@ -61,11 +62,9 @@ module _ (laws : FramesAreLinked) (d : Inside) (was : IsCounting d) (behind : ne
     begun = let le = now.begun in let e = behind_at m counts in omega (arith, le, e)
 
     counts_now : AreCounts (program next) (listed_of (plan_of d)) d.counted_from next.position counts
-    counts_now =
-        subst (λ n. AreCounts (program next) (listed_of (plan_of d)) d.counted_from n counts) (behind_at m counts)
-        now.counts
+    counts_now = rw (← (behind_at m counts)) now.counts
 
-    hit_at : (due : Bool) (new : List ℕ) → AreCounted marks next counts due new
+    pub hit_at : (due : Bool) (new : List ℕ) → AreCounted marks next counts due new
         → has_hit breakpoints d.counted_from next ≡ due
     hit_at due new counted =
         hit_is laws (plan_of d) counts now.room next now.fits marks in_plan due new counted d.counted_from begun
@@ -74,25 +73,19 @@ module _ (laws : FramesAreLinked) (d : Inside) (was : IsCounting d) (behind : ne
     is_quiet : (new : List ℕ) → IsUnseen outer marks m counts new → IsQuiet outer breakpoints d.counted_from m
     is_quiet new u = record { running = u.running; unmet = hit_at false new u.undue }
 
-    counts_on : (new : List ℕ) → IsUnseen outer marks m counts new → IsCounting (with_machine next new)
+    pub counts_on : (new : List ℕ) → IsUnseen outer marks m counts new → IsCounting (with_machine next new)
     counts_on new u =
         let on = counted_on laws (plan_of d) counts now.room next now.fits marks in_plan new u.undue in
-        stays_counting (with_machine m counts) now (behind_at m counts) next refl (some_alive next u.running) new on.hit
-        on.logs on.on (same_length marks next counts false new u.undue ∙ now.room)
+        grind (arith, common_steps, stays_counting, behind_at, some_alive, same_length false, false)
 
   module _ (last : Standing) (after : List ℕ) (s : Stretches outer marks d.machine last d.counts after) where
     counting_at : (k : ℕ) → k ≤ s.steps → IsCounting (with_machine (ahead d.machine k) (s.left k))
-    counting_at zero le =
-        let e : d.machine.position ≡ d.machine.position + 0 = omega arith in
-        subst (λ counts. IsCounting (with_machine (ahead d.machine 0) counts)) (sym s.begun)
-        (subst (λ (p : ℕ). IsCounting (with_machine (record d.machine { position = p }) d.counts)) e was)
+    counting_at zero le = grind (arith, common_steps)
     counting_at (suc k) le =
         let more : k + 1 ≡ suc k = omega arith in
         let e : d.machine.position + k + 1 ≡ d.machine.position + suc k = omega arith in
-        subst (λ (p : ℕ). IsCounting (with_machine (record d.machine { position = p }) (s.left (suc k)))) e
-        (subst (λ j. IsCounting (with_machine (ahead (ahead d.machine k) 1) (s.left j))) more
-        (counts_on (ahead d.machine k) refl (s.left k) (counting_at k (omega (arith, le))) (s.left (k + 1))
-        (s.passed k (omega (arith, le)))))
+        rw (← e) (rw (← more) (counts_on (ahead d.machine k) refl (s.left k) (counting_at k (omega (arith, le))) (s.left
+        (k + 1)) (s.passed k (omega (arith, le)))))
 
     quiet_at : (k : ℕ) → k < s.steps → IsQuiet outer breakpoints d.counted_from (ahead d.machine k)
     quiet_at k lt =
@@ -100,10 +93,7 @@ module _ (laws : FramesAreLinked) (d : Inside) (was : IsCounting d) (behind : ne
         (s.passed k lt)
 
     stands : IsCounting (with_machine last after)
-    stands =
-        subst (λ m. IsCounting (with_machine m after)) (sym s.led)
-        (subst (λ counts. IsCounting (with_machine (ahead d.machine s.steps) counts)) s.ended
-        (counting_at s.steps (omega arith)))
+    stands = rw s.led (rw (← s.ended) (counting_at s.steps (omega arith)))
 
     same_there : last.unit ≡ d.machine.unit
     same_there = ap (λ (m : Standing). m.unit) s.led
@@ -121,14 +111,7 @@ module _ (laws : FramesAreLinked) (d : Inside) (was : IsCounting d) (behind : ne
         let told = is_told outer breakpoints d.counted_from last new outcome stepped quiet in
         let went = went_on last new outcome stepped told.written told.went in
         ⊎_elim
-        (λ ends. ⊎_elim (λ few. let more = told.running in absurd (omega (arith, few, more)))
-        (λ counted.
-        let met : has_hit breakpoints d.counted_from (ahead last 1) ≡ true =
-        hit_at last same_there after stands true after (subst (λ m. AreCounted marks m after true after) went.0 counted)
-        in
-        let unmet : has_hit breakpoints d.counted_from (ahead last 1) ≡ false =
-        subst (λ m. has_hit breakpoints d.counted_from m ≡ false) went.0 told.unmet in
-        differ (has_hit breakpoints d.counted_from (ahead last 1)) met unmet) ends)
+        (λ ends. grind (arith, common_steps, true, hit_at, same_there, stands, false))
         (λ lacks. has_room told.written lacks) (ends told.written told.went)
       where
         differ : (b : Bool) → b ≡ true → b ≡ false → ⊥
@@ -168,15 +151,11 @@ module _ (laws : FramesAreLinked) (d : Inside) (was : IsCounting d) (behind : ne
 
     pub counting_after : (outcome : Option StepOutcome) → Ran outcome
         → IsCounting (left_by new after outcome)
-    counting_after None ran =
-        subst (λ b. IsCounting (record (with_machine new after) { considered = b })) considered
-        (stands new after ran.0)
+    counting_after None ran = rw (← considered) (stands new after ran.0)
     counting_after (Some (Went written)) ran =
-        not_fault (with_machine ran.0 after) (stands ran.0 after ran.1) new (Went written) ran.3
-        (behind_at ran.0 after) (went_goes written)
+        not_fault _ (stands ran.0 after ran.1) new (Went written) ran.3 (behind_at ran.0 after) (went_goes written)
     counting_after (Some Done) ran =
-        not_fault (with_machine ran.0 after) (stands ran.0 after ran.1) new Done ran.3 (behind_at ran.0 after)
-        done_goes
+        not_fault _ (stands ran.0 after ran.1) new Done ran.3 (behind_at ran.0 after) done_goes
     counting_after (Some (Fault fault)) ran =
         after_fault (with_machine ran.0 after) (stands ran.0 after ran.1) new (Fault fault) ran.3
         (behind_at ran.0 after) fault refl (some_alive ran.0 ran.1.running)
@@ -199,20 +178,12 @@ module _ (laws : FramesAreLinked) (d : Inside) (was : IsCounting d) (behind : ne
 
     -- fewer numbers were appended than there is room for
     pub fewer : (outcome : StepOutcome) → Ran (Some outcome) → length numbers < room
-    fewer outcome ran =
-        let there = place ran.0 after ran.1 in
-        let below = ran.2 in
-        let all = ap length ran.5
-        ∙ length-append before (written (program d.machine) d.machine.position ran.0.position) in
-        let few = written_from_few (program d.machine) d.machine.position (ran.0.position - d.machine.position) in
-        omega (arith, there, below, all, few, roomy)
+    fewer outcome ran = grind (arith, common_steps, place, length, length-append, written, written_from_few)
 
     -- what was appended, by the number of steps
     appended : (last : Standing) (s : Stretches outer marks d.machine last d.counts after)
         → Adds d.machine last before numbers → numbers ≡ with_written (debugged_of d) s.steps before
-    appended last s adds =
-        subst (λ (m : Standing). numbers ≡ before ++ written (program d.machine) d.machine.position m.position) s.led
-        adds
+    appended last s adds = grind (arith, common_steps, written)
 
     ends_there : (outcome : StepOutcome) (ran : Ran (Some outcome))
         → EndsThere outcome new (ahead d.machine ran.1.steps)
@@ -270,10 +241,7 @@ module _ (laws : FramesAreLinked) (d : Inside) (was : IsCounting d) (behind : ne
     -- where the last step went on, its position is the next to be considered
     pub is_next : (outcome : Option StepOutcome) → Ran outcome
         → (written : Option ℤ) → outcome ≡ Some (Went written) → IsNext (debugged_of (left_by new after outcome))
-    is_next outcome ran written is =
-        let went = subst (λ o. Ran o) is ran in
-        subst (λ o. IsNext (debugged_of (left_by new after o))) (sym is)
-        (record { here = refl; running = (went_on went.0 new (Went written) went.3 written refl).1 })
+    is_next outcome ran written is = grind (arith, common_steps, went_on, written)
 
 -- ---- a run whose last step faults
 
@@ -287,19 +255,4 @@ pub faulted : (limit outer : ℕ) (mode : Mode) (old new : Debugged) (before aft
     → RanTo limit outer old before (Some (Fault fault)) new after
     → RanFrom limit outer mode old before (Some (advance.Fault fault)) new after []
 faulted limit outer mode old new before after fault ran =
-    let d = considered_at old (old.position + ran.steps) in
-    let stays = stays_there (machine_of d) (machine_of new) (Fault fault) ran.ends.2 fault refl in
-    let is = fault_is (outcome_of (machine_of d)) (machine_of d) (machine_of new) fault ran.ends.2 in
-    let wrote = with_written old ran.steps before in
-    record {
-      steps = ran.steps;
-      quiet = ran.quiet;
-      running = ran.running;
-      within = ran.within;
-      ends = (
-        ran.ends.0,
-        ran.ends.1,
-        (ran.ends.3 ∙ ap (λ (m : Standing). record d { position = m.position }) stays, is, refl),
-        ran.ends.4 ∙ sym (ap (λ o. wrote ++ written_by o) is ∙ append-nil wrote),
-      );
-    }
+    grind (arith, common_steps, stays_there, Fault, fault_is, append-nil)

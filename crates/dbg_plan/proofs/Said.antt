@@ -1,7 +1,6 @@
 -- What the logs of a position say.
-use Rattle.std.proofs.Common.{◌≡◌, ℕ, zero, suc, ◌+◌, ◌-◌, ℤ, pos, negsuc, Bool, true, false, List, [], ◌∷◌, ◌++◌, length, map, Option, Some, None, Result, Ok, Err, refl, sym, ap, ◌∙◌, arith}
-use Rattle.std.specs.Prelude.{if◌then◌else◌, ◌+ℤ◌, ◌-ℤ◌, ◌*ℤ◌, neg_ℤ, int_div, option_map, option_and_then, slice_get, ◌&&◌}
-use Rattle.std.specs.Option.{option_map_or}
+use Rattle.std.proofs.Common.{◌≡◌, ℕ, zero, suc, ◌+◌, ◌-◌, ℤ, pos, negsuc, Bool, true, false, List, [], ◌∷◌, ◌++◌, length, map, Option, Some, None, Result, Ok, Err, refl, ap, ◌∙◌, arith}
+use Rattle.std.specs.Prelude.{if◌then◌else◌, ◌+ℤ◌, ◌-ℤ◌, ◌*ℤ◌, neg_ℤ, int_div, option_map, slice_get, ◌&&◌}
 use Rattle.std.specs.List.{cons_option, filter_map, flat_map, enumerate_from}
 use Rattle.pl0_tree.specs.Tree.{Block, Expression, Variable, Number, Negate, Binary}
 use Rattle.pl0_tree.specs.declared.tree.Operator.{Operator}
@@ -13,9 +12,10 @@ use Rattle.pl0_meaning.specs.Values.{Configuration, value, fits_64, checked, ope
 use Rattle.pl0_meaning.specs.Runs.{at}
 use Rattle.dbg_plan.specs.Messages.{Part, Text, Value, Message, expressions}
 use Rattle.dbg_plan.specs.Breakpoints.{Breakpoint}
-use Rattle.dbg_plan.specs.Due.{is_hit, arrives_in, accepts, arrivals}
+use Rattle.dbg_plan.specs.Due.{is_hit, arrives_in}
 use Rattle.dbg_plan.specs.Plans.{parts_at}
 use Rattle.dbg_plan.specs.Logs.{Log, value_text, filled, log_text, part_text, EachIsReplaced, log_in, log_at, said_in, said_by, LogsAreSaid, ValuesAreArithmetic}
+use Rattle.std.proofs.lemmas.Grind.{common_steps}
 
 -- ---- each expression is replaced
 
@@ -78,10 +78,7 @@ both false b is = absurd cc
 module _ (main : Block) (t m : ℕ) (breakpoints : List Breakpoint) where
   parts_found : (number : ℕ) (b : Breakpoint) (message : Message) → Some message ≡ b.message
       → slice_get breakpoints number ≡ Some b → parts_at breakpoints number ≡ message.parts
-  parts_found number b message is found =
-      ap (λ (o : Option Breakpoint). option_map_or (λ (m : Message). m.parts)
-      (option_and_then (λ (b : Breakpoint). b.message) o) []) found
-      ∙ ap (λ (o : Option Message). option_map_or (λ (m : Message). m.parts) o []) (sym is)
+  parts_found number b message is found = cc
 
   -- a message says what its log does, where the program stands
   log_says : (number : ℕ) (c : Option Configuration) (b : Breakpoint) (message : Option Message) → message ≡ b.message
@@ -91,9 +88,7 @@ module _ (main : Block) (t m : ℕ) (breakpoints : List Breakpoint) where
   log_says number None b (Some message) is found there = absurd cc
   log_says number (Some c) b (Some message) is found there =
       let value_of = value main c (length c - 1) in
-      ap Some
-      (ap (λ parts. log_text parts (map value_of (expressions message.parts))) (parts_found number b message is found)
-      ∙ each_is_replaced message.parts value_of)
+      cc (parts_found number b message is found, each_is_replaced message.parts value_of)
 
   says : (number : ℕ) (b : Breakpoint) → slice_get breakpoints number ≡ Some b
       → option_map (text_in breakpoints) (log_at main t m (number, b)) ≡ said_by main t m b
@@ -103,9 +98,7 @@ module _ (main : Block) (t m : ℕ) (breakpoints : List Breakpoint) where
           → option_map (text_in breakpoints)
           (if hit then log_in main (at main m) number b.message else None) ≡ (if hit then option_map
           (said_in main (at main m)) b.message else None)
-      by_hit true is =
-          log_says number (at main m) b b.message refl found
-          (both (arrives_in main b (at main m)) (accepts b.rule (arrivals main b t (m + 1))) is)
+      by_hit true is = log_says number (at main m) b b.message refl found (both (arrives_in main b (at main m)) _ is)
       by_hit false is = refl
 
   all_said : (n : ℕ) (bs : List Breakpoint) → ((k : ℕ) → slice_get breakpoints (n + k) ≡ slice_get bs k)
@@ -127,6 +120,4 @@ module _ (main : Block) (t m : ℕ) (breakpoints : List Breakpoint) where
           let same : n + 1 + k ≡ n + suc k = omega arith in ap (slice_get breakpoints) same ∙ each (suc k)
 
 pub logs_are_said : LogsAreSaid
-logs_are_said main breakpoints t m =
-    all_said main t m breakpoints 0 breakpoints
-    (λ k. let same : 0 + k ≡ k = omega arith in ap (slice_get breakpoints) same)
+logs_are_said main breakpoints t m = grind (arith, common_steps, all_said, slice_get)

@@ -6,12 +6,11 @@ use Rattle.std.proofs.Math.Logic.{∥∥₁_elim}
 use Rattle.std.proofs.lemmas.Option.{same_Some}
 use Rattle.std.proofs.lemmas.Slice.Eq.{bytes_eq-Decides}
 use Rattle.pl0_tree.specs.Tree.{Condition}
-use Rattle.pl0_tree.specs.Plain.{plain_condition}
 use Rattle.pl0_tree.proofs.Unique.{condition_text_once, expression_text_once}
 use Rattle.dbg_plan.specs.declared.breakpoint.BoundCondition.{BoundCondition}
 use Rattle.dbg_plan.specs.declared.message.LogMessage.{LogMessage}
 use Rattle.dbg_plan.specs.ReadsAs.{ReadsAs}
-use Rattle.dbg_plan.specs.Messages.{Part, Message, ReadsAsExpression, ReadsAsParts, plain_parts}
+use Rattle.dbg_plan.specs.Messages.{Part, Message, ReadsAsExpression, ReadsAsParts}
 use Rattle.dbg_plan.specs.Breakpoints.{TextCondition, text_condition, condition_code, plain_message, part_code}
 use Rattle.dbg_plan.proofs.MessageParts.{parts_once}
 
@@ -20,14 +19,12 @@ one_tree : {T : Type 0} (Reads : List ℕ → T → Type 0) → Coded T →
     ((text : List ℕ) (a b : T) → Reads text a → Reads text b → a ≡ b) →
     (s t : List ℕ) (a b : T) → s ≡ t → ∥ Reads s a ∥₁ → ∥ Reads t b ∥₁ → a ≡ b
 one_tree Reads code once s t a b is first second =
-    ∥∥₁_elim (subst (λ x. ∥ Reads x a ∥₁) is first) (Coded-set code a b)
-    (λ f. ∥∥₁_elim second (Coded-set code a b) (once t a b f))
+    ∥∥₁_elim (rw (← is) first) (Coded-set code a b) (λ f. ∥∥₁_elim second (Coded-set code a b) (once t a b f))
 
 pub same_condition : (c d : BoundCondition) → string_bytes c.text ≡ string_bytes d.text
     → text_condition c ≡ text_condition d
 same_condition c d e =
-    with_both _ _ _ _ e (one_tree ReadsAs condition_code (λ text a b. condition_text_once) _ _
-    (plain_condition c.condition) (plain_condition d.condition) e c.reads d.reads)
+    with_both _ _ _ _ e (one_tree ReadsAs condition_code (λ text a b. condition_text_once) _ _ _ _ e c.reads d.reads)
   where
     with_both : (s t : List ℕ) (c d : Condition) → s ≡ t → c ≡ d
         → ◌≡◌ {A = TextCondition} (record { text = s; condition = c }) (record { text = t; condition = d })
@@ -35,9 +32,8 @@ same_condition c d e =
 
 pub same_message : (c d : LogMessage) → string_bytes c.text ≡ string_bytes d.text → plain_message c ≡ plain_message d
 same_message c d e =
-    with_both _ _ _ _ e (one_tree ReadsAsParts (coded_list part_code)
-    (parts_once ReadsAsExpression (λ text a b. expression_text_once)) _ _
-    (plain_parts c.parts.items) (plain_parts d.parts.items) e c.reads d.reads)
+    with_both _ _ _ _ e (one_tree ReadsAsParts (coded_list part_code) (parts_once ReadsAsExpression (λ text a b.
+    expression_text_once)) _ _ _ _ e c.reads d.reads)
   where
     with_both : (s t : List ℕ) (ps qs : List Part) → s ≡ t → ps ≡ qs
         → ◌≡◌ {A = Message} (record { text = s; parts = ps }) (record { text = t; parts = qs })

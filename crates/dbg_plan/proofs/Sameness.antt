@@ -12,6 +12,7 @@ use Rattle.dbg_plan.specs.Plans.{is_of, those_of, AreNumbered}
 use Rattle.dbg_plan.specs.declared.plan.Plan.TheInside.{Inside}
 use Rattle.dbg_plan.specs.Table.{prepended, by_number, Numbered, numbered_of, listed, IsTable}
 use Rattle.dbg_plan.proofs.Parts.{Rises, rises_sorted}
+use Rattle.std.proofs.lemmas.Grind.{common_steps}
 
 -- ---- the same table gives the same breakpoints
 
@@ -27,14 +28,7 @@ map_prepended (Some b) bs = refl
 find_map : (n : ℕ) (bs : List Breakpoint) → option_map numbered_of (find (λ b. nat_eq b.number n) bs) ≡ find
     (λ e. nat_eq e.number n) (map numbered_of bs)
 find_map n [] = refl
-find_map n (b ∷ bs) = here (nat_eq b.number n) (find_map n bs)
-  where
-    here : (t : Bool) → option_map numbered_of (find (λ b. nat_eq b.number n) bs) ≡ find (λ e. nat_eq e.number n)
-        (map numbered_of bs) →
-        option_map numbered_of (cond t (Some b) (find (λ b. nat_eq b.number n) bs)) ≡ cond t (Some (numbered_of b))
-        (find (λ e. nat_eq e.number n) (map numbered_of bs))
-    here true rest = refl
-    here false rest = rest
+find_map n (b ∷ bs) = grind (arith, common_steps, find_map n bs, find, map, true, false)
 
 numbers_same : (xs ys : List Breakpoint) (n k : ℕ) → map numbered_of xs ≡ map numbered_of ys
     → map numbered_of (by_number xs n k) ≡ map numbered_of (by_number ys n k)
@@ -57,12 +51,9 @@ listed_by ordered = by_number ordered 0 (length ordered)
 pub listed_same : (xs ys : List Breakpoint) → map numbered_of xs ≡ map numbered_of ys
     → plain_breakpoints (listed_by xs) ≡ plain_breakpoints (listed_by ys)
 listed_same xs ys e =
-    let long : length xs ≡ length ys =
-    omega (arith, ap length e, length-map xs numbered_of, length-map ys numbered_of) in
-    sym (unnumbered (listed_by xs))
-    ∙ ap (λ l. map (λ (e : Numbered). e.breakpoint) l)
-    (numbers_same xs ys 0 (length xs) e ∙ ap (λ n. map numbered_of (by_number ys 0 n)) long)
-    ∙ unnumbered (listed_by ys)
+    let long : length xs ≡ length ys = omega (arith, ap length e, length-map xs numbered_of, length-map ys numbered_of)
+    in
+    cc (unnumbered (listed_by xs), numbers_same xs ys 0 (length xs) e, unnumbered (listed_by ys))
 
 -- ---- the same breakpoints have the same table
 
@@ -73,16 +64,10 @@ same_numbered n [] (y ∷ ys) first second e = cc
 same_numbered n (x ∷ xs) [] first second e = cc
 same_numbered n (x ∷ xs) (y ∷ ys) first second e =
     let parts = both (plain_breakpoint x) (plain_breakpoint y) (plain_breakpoints xs) (plain_breakpoints ys) e in
-    joined x.number y.number (plain_breakpoint x) (plain_breakpoint y) (map numbered_of xs) (map numbered_of ys)
-    (first.0 ∙ sym second.0) parts.0 (same_numbered (n + 1) xs ys first.2 second.2 parts.1)
+    grind (arith, common_steps, map, same_numbered (n + 1) xs ys first.2 second.2 parts.1)
   where
     both : (p q : PlainBreakpoint) (ps qs : List PlainBreakpoint) → p ∷ ps ≡ q ∷ qs → (p ≡ q) × (ps ≡ qs)
     both p q ps qs e = (cc, cc)
-
-    joined : (j k : ℕ) (p q : PlainBreakpoint) (es fs : List Numbered) → j ≡ k → p ≡ q → es ≡ fs
-        → ◌≡◌ {A = List Numbered} (record { number = j; breakpoint = p } ∷ es)
-        (record { number = k; breakpoint = q } ∷ fs)
-    joined j k p q es fs a b c = cc
 
 abbrev step_of : Numbered → ℕ
 step_of e = e.breakpoint.step
@@ -100,13 +85,7 @@ rising n (b ∷ bs) r = (r.0, rising b.step bs r.1)
 
 those_map : (s : ℕ) (bs : List Breakpoint) → filter (of s) (map numbered_of bs) ≡ map numbered_of (those_of s bs)
 those_map s [] = refl
-those_map s (b ∷ bs) = here (is_of s b) (those_map s bs)
-  where
-    here : (t : Bool) → filter (of s) (map numbered_of bs) ≡ map numbered_of (those_of s bs)
-        → cond t (numbered_of b ∷ filter (of s) (map numbered_of bs)) (filter (of s) (map numbered_of bs)) ≡ map
-        numbered_of (cond t (b ∷ those_of s bs) (those_of s bs))
-    here true e = ap (λ l. numbered_of b ∷ l) e
-    here false e = e
+those_map s (b ∷ bs) = grind (arith, common_steps, is_of, those_map s bs, filter, map, true, false)
 
 of_own : (s : ℕ) (e : Numbered) → s ≡ step_of e → of s e ≡ true
 of_own s e same = grind (arith, nat_tests)
@@ -122,9 +101,7 @@ filter_no s e es other = ap (λ t. cond t (e ∷ filter (of s) es) (filter (of s
 
 none_below : (s n : ℕ) (es : List Numbered) → s < n → Rising n es → filter (of s) es ≡ []
 none_below s n [] lt r = refl
-none_below s n (e ∷ es) lt r =
-    let low = r.0 in
-    filter_no s e es (λ same. omega (arith, same)) ∙ none_below s (step_of e) es (omega arith) r.1
+none_below s n (e ∷ es) lt r = grind (arith, common_steps, filter_no, none_below s (step_of e) es (omega arith) r.1)
 
 nothing : (e : Numbered) (es : List Numbered) → ◌≡◌ {A = List Numbered} [] (e ∷ es) → ⊥
 nothing e es is = cc
@@ -136,36 +113,23 @@ heads a b es fs e = (cc, cc)
 sorted_once : (n m : ℕ) (es fs : List Numbered) → Rising n es → Rising m fs
     → ((s : ℕ) → filter (of s) es ≡ filter (of s) fs) → es ≡ fs
 sorted_once n m [] [] r q same = refl
-sorted_once n m [] (b ∷ fs) r q same =
-    absurd (nothing b (filter (of (step_of b)) fs) (same (step_of b) ∙ filter_yes (step_of b) b fs refl))
+sorted_once n m [] (b ∷ fs) r q same = absurd (nothing b (filter _ fs) (same (step_of b) ∙ filter_yes _ b fs refl))
 sorted_once n m (a ∷ es) [] r q same =
     absurd (nothing a (filter (of (step_of a)) es) (sym (same (step_of a)) ∙ filter_yes (step_of a) a es refl))
-sorted_once n m (a ∷ es) (b ∷ fs) r q same =
-    by_order (sorted_once (step_of a) (step_of b) es fs r.1 q.1) (eqb_tells (step_of a) (step_of b))
+sorted_once n m (a ∷ es) (b ∷ fs) r q same = by_order (sorted_once _ _ es fs r.1 q.1) (eqb_tells _ _)
   where
     lower : (c d : Numbered) (cs ds : List Numbered) → Rising (step_of d) ds → step_of c < step_of d
         → filter (of (step_of c)) (c ∷ cs) ≡ filter (of (step_of c)) (d ∷ ds) → ⊥
-    lower c d cs ds r lt e =
-        let none : filter (of (step_of c)) (d ∷ ds) ≡ [] =
-        none_below (step_of c) (step_of d) (d ∷ ds) lt (omega arith, r) in
-        nothing c (filter (of (step_of c)) cs) (sym none ∙ sym e ∙ filter_yes (step_of c) c cs refl)
+    lower c d cs ds r lt e = grind (arith, common_steps, filter, none_below, nothing, filter_yes)
 
     rest : step_of a ≡ step_of b → (s : ℕ) → filter (of s) es ≡ filter (of s) fs
-    rest is s = by_step (eqb_tells s (step_of a))
-      where
-        by_step : ((nat_eq s (step_of a) ≡ true) × (s ≡ step_of a)) ⊎ ((nat_eq s (step_of a) ≡ false) × (s ≢ step_of a))
-            → filter (of s) es ≡ filter (of s) fs
-        by_step (inl own) =
-            (heads a b (filter (of s) es) (filter (of s) fs)
-            (sym (filter_yes s a es own.1) ∙ same s ∙ filter_yes s b fs (own.1 ∙ is))).1
-        by_step (inr other) = sym (filter_no s a es other.1) ∙ same s ∙ filter_no s b fs (λ e. other.1 (e ∙ sym is))
+    rest is s = grind (arith, common_steps, eqb_tells, true, false, filter, heads, filter_yes, filter_no)
 
     equal : (((s : ℕ) → filter (of s) es ≡ filter (of s) fs) → es ≡ fs) → step_of a ≡ step_of b → a ∷ es ≡ b ∷ fs
     equal once is =
-        let first : a ≡ b =
-        (heads a b (filter (of (step_of a)) es) (filter (of (step_of a)) fs)
-        (sym (filter_yes (step_of a) a es refl) ∙ same (step_of a) ∙ filter_yes (step_of a) b fs is)).0 in
-        ap (λ e. e ∷ es) first ∙ ap (λ l. b ∷ l) (once (rest is))
+        let first : a ≡ b = (heads a b (filter (of (step_of a)) es) (filter (of (step_of a)) fs) (sym (filter_yes
+        (step_of a) a es refl) ∙ same (step_of a) ∙ filter_yes (step_of a) b fs is)).0 in
+        cc (once (rest is))
 
     by_order : (((s : ℕ) → filter (of s) es ≡ filter (of s) fs) → es ≡ fs)
         → ((nat_eq (step_of a) (step_of b) ≡ true) × (step_of a ≡ step_of b))
@@ -202,21 +166,17 @@ pub none_listed : (ordered all : List Breakpoint) → IsArranged ordered all →
 none_listed [] all is e = refl
 none_listed (b ∷ bs) all is e =
     absurd (nothing (numbered_of b) (filter (of b.step) (map numbered_of bs))
-    (sym (of_listed (b ∷ bs) all is b.step ∙ ap (λ l. filter (of b.step) (map numbered_of l)) e)
-    ∙ filter_yes b.step (numbered_of b) (map numbered_of bs) refl))
+    (cc (of_listed (b ∷ bs) all is b.step, filter_yes b.step (numbered_of b) (map numbered_of bs) refl)))
 
 -- ---- the walk along two lists
 
 pub same_there : (xs ys : List Breakpoint) (i : ℕ) (x y : Breakpoint) → i < length xs → i < length ys
     → x ≡ get_or xs i x → y ≡ get_or ys i y → map numbered_of xs ≡ map numbered_of ys → numbered_of x ≡ numbered_of y
-same_there xs ys i x y lt lt' is is' same =
-    same_Some (numbered_of x) (numbered_of y) (sym (there xs i x lt is) ∙ ap (λ es. slice_get es i) same
-    ∙ there ys i y lt' is')
+same_there xs ys i x y lt lt' is is' same = same_Some _ _ (cc (there xs i x lt is, there ys i y lt' is'))
   where
     there : (xs : List Breakpoint) (i : ℕ) (x : Breakpoint) → i < length xs → x ≡ get_or xs i x
         → slice_get (map numbered_of xs) i ≡ Some (numbered_of x)
-    there xs i x lt is =
-        slice_get-map numbered_of xs i ∙ ap (option_map numbered_of) (slice_get-get_or xs i x lt ∙ ap Some (sym is))
+    there xs i x lt is = cc (slice_get-map numbered_of xs i, slice_get-get_or xs i x lt)
 
 -- ---- plans
 
@@ -227,9 +187,7 @@ pub plans_told : (p q : Inside) → IsTable p → IsTable q → (r : Bool)
     → Decides r (map numbered_of p.ordered.items ≡ map numbered_of q.ordered.items)
     → Decides r (plain_breakpoints (listed p).breakpoints ≡ plain_breakpoints (listed q).breakpoints)
 plans_told p q first second r told =
-    Decides-like r (listed_same p.ordered.items q.ordered.items)
-    (ordered_same p.ordered.items q.ordered.items (listed p).breakpoints (listed q).breakpoints (arranged p first)
-    (arranged q second)) told
+    grind (arith, common_steps, Decides-like, listed_same, ordered_same, listed, arranged)
 
 pub empty_told : (p : Inside) → IsTable p → (r : Bool) → r ≡ (vec_len p.ordered == 0)
     → Decides r ((listed p).breakpoints ≡ [])

@@ -1,6 +1,5 @@
 -- The steps of a unit, by their lines.
-use Rattle.std.proofs.Common.{◌≡◌, ℕ, zero, suc, ◌+◌, ◌<◌, ◌≤◌, Bool, true, false, inl, inr, List, [], ◌∷◌, length, map, cond, get_or, slice_get, Some, None, nat_le, nat_lt, refl, ap, sym, ◌∙◌, arith}
-use Rattle.std.specs.Prelude.{not, option_map}
+use Rattle.std.proofs.Common.{◌≡◌, ℕ, zero, suc, ◌<◌, ◌≤◌, Bool, true, false, inl, inr, List, [], ◌∷◌, length, map, cond, get_or, slice_get, Some, None, nat_le, nat_lt, refl, ap, sym, ◌∙◌, arith}
 use Rattle.std.specs.Bool.{then_some}
 use Rattle.std.specs.List.{position_or_len}
 use Rattle.std.specs.List.Sorted.{IsNonDecreasingBy, IsPartitionPoint}
@@ -48,9 +47,7 @@ not_later p q (inr a) = omega (arith, a.0)
 
 place_at : (main : Block) (ts : List StepAt) (i : ℕ) (s : Step) → Tells main ts i s
     → slice_get (map (λ (t : StepAt). t.place) ts) i ≡ Some s.place
-place_at main ts i s t =
-    slice_get-map (λ (x : StepAt). x.place) ts i ∙ ap (λ o. option_map (λ (x : StepAt). x.place) o) t.there
-    ∙ ap (λ p. Some p) (sym t.is.place)
+place_at main ts i s t = cc (slice_get-map (λ (x : StepAt). x.place) ts i, t.there, t.is.place)
 
 -- the lines rise along the table
 lines_rise : (main : Block) (ss : List Step) (ts : List StepAt) → AreSteps main ss ts
@@ -75,9 +72,7 @@ same_position : (main : Block) (line : ℕ) (ss : List Step) (ts : List StepAt) 
 same_position main line [] [] are = refl
 same_position main line [] (t ∷ ts) are = absurd are
 same_position main line (s ∷ ss) [] are = absurd are
-same_position main line (s ∷ ss) (t ∷ ts) are =
-    ap (λ (p : Place). cond (not (nat_le line p.line)) (1 + position_or_len (from_line line) ss) 0) are.0.place
-    ∙ ap (λ k. cond (not (from_line_at line t)) (1 + k) 0) (same_position main line ss ts are.1)
+same_position main line (s ∷ ss) (t ∷ ts) are = cc (are.0.place, same_position main line ss ts are.1)
 
 -- ---- the table of a unit
 
@@ -119,6 +114,4 @@ pub step_is : (u : Compiled) (line i : ℕ) → i ≤ length u.steps.items
     u.steps.items i →
     then_some (nat_lt i (length u.steps.items)) i ≡ step_from (program_of u) line
 step_is u line i le point =
-    some_if (nat_lt i (length u.steps.items)) i ∙ ap (λ k. cond (nat_lt i k) (Some i) None) (unit_length u)
-    ∙ sym (ap (λ k. cond (nat_lt k (length (steps (program_of u)))) (Some k) None)
-    (found u line i some_step le point))
+    cc (some_if (nat_lt i (length u.steps.items)) i, unit_length u, found u line i some_step le point)

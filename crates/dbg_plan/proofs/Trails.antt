@@ -1,5 +1,5 @@
 -- Lemmas on trails.
-use Rattle.std.proofs.Common.{◌≡◌, ℕ, suc, ◌+◌, ◌-◌, ◌*◌, ◌<◌, ◌≤◌, max, nat_le, Bool, true, false, cond, List, [], ◌∷◌, ◌++◌, length, take, drop, slice_get, Option, Some, None, refl, sym, ap, ◌∙◌, subst, arith, ⊎_elim, length-append, append_assoc}
+use Rattle.std.proofs.Common.{◌≡◌, ℕ, suc, ◌+◌, ◌-◌, ◌*◌, ◌<◌, ◌≤◌, max, nat_le, Bool, true, false, List, [], ◌∷◌, ◌++◌, length, take, drop, slice_get, Option, Some, None, refl, sym, ap, ◌∙◌, subst, arith, length-append, append_assoc}
 use Rattle.std.specs.Prelude.{filter, reverse, MatchOption}
 use Rattle.std.specs.List.{find}
 use Rattle.std.specs.Option.{option_or}
@@ -12,6 +12,7 @@ use Rattle.pl0_unit.specs.declared.unit.Unit.{Unit as Compiled}
 use Rattle.pl0_machine.specs.Machine.{Standing}
 use Rattle.dbg_plan.specs.Trail.{Trail, greatest, asks, at_odd_places, thinned, with_room, lengthened, kept_at, floor_of, AreAbove, TrailsAreShort, TrailsAscend}
 use Rattle.dbg_plan.specs.Kept.{positions, trail_at, AreOf}
+use Rattle.std.proofs.lemmas.Grind.{common_steps}
 
 -- ---- ascending positions
 
@@ -32,15 +33,11 @@ greatest_above a k ks h = let here = h.0 in omega arith
 pub last_is : (a : ℕ) (cs : List Standing) (c : Standing) → AreAbove a (positions cs)
     → slice_get cs (length cs - 1) ≡ Some c → greatest (positions cs) ≡ c.position
 last_is a [] c h e = cc
-last_is a (b ∷ []) c h e =
-    let same : b ≡ c = cc in
-    let zero_max : max b.position 0 ≡ b.position = omega arith in
-    zero_max ∙ ap (λ (m : Standing). m.position) same
+last_is a (b ∷ []) c h e = grind (arith, common_steps)
 last_is a (b ∷ d ∷ cs) c h e =
     let same : length (b ∷ d ∷ cs) - 1 ≡ suc (length (d ∷ cs) - 1) = omega arith in
     let rest = last_is b.position (d ∷ cs) c h.1 (subst (λ n. slice_get (b ∷ d ∷ cs) n ≡ Some c) same e) in
-    let more = greatest_above b.position d.position (positions cs) h.1 in
-    omega (arith, rest, more)
+    grind (arith, common_steps, greatest_above)
 
 -- ---- every other one
 
@@ -75,15 +72,11 @@ pub record Thinning (old new : List Standing) (place : ℕ) : Type 0 where
 
 take_first : (done rest : List Standing) (c : Standing) → take (length done + 1) (done ++ c ∷ rest) ≡ done ++ c ∷ []
 take_first [] rest c = refl
-take_first (d ∷ done) rest c =
-    let same : length (d ∷ done) + 1 ≡ suc (length done + 1) = omega arith in
-    ap (λ n. take n (d ∷ (done ++ c ∷ rest))) same ∙ ap (λ l. d ∷ l) (take_first done rest c)
+take_first (d ∷ done) rest c = grind (arith, common_steps, length, take, take_first done rest c)
 
 drop_two : (done rest : List Standing) (b c : Standing) → drop (length done + 2) (done ++ b ∷ c ∷ rest) ≡ rest
 drop_two [] rest b c = refl
-drop_two (d ∷ done) rest b c =
-    let same : length (d ∷ done) + 2 ≡ suc (length done + 2) = omega arith in
-    ap (λ n. drop n (d ∷ (done ++ b ∷ c ∷ rest))) same ∙ drop_two done rest b c
+drop_two (d ∷ done) rest b c = grind (arith, common_steps, length, drop, drop_two done rest b c)
 
 -- one more is given up
 pub thins : (old now next : List Standing) (place : ℕ) → Thinning old now place → 2 * place + 2 ≤ length old
@@ -96,21 +89,10 @@ thins old now next place t more removed = by_rest t.rest t.is t.all t.left
     by_rest (b ∷ []) is all left = absurd (omega (arith, left))
     by_rest (b ∷ c ∷ rest) is all left =
         let n = t.so_far in
-        let first : take (place + 1) now ≡ t.done ++ b ∷ [] =
-        ap (λ l. take (place + 1) l) is ∙ ap (λ k. take (k + 1) (t.done ++ b ∷ c ∷ rest)) (sym n)
-        ∙ take_first t.done (c ∷ rest) b in
+        let first : take (place + 1) now ≡ t.done ++ b ∷ [] = ap (λ l. take (place + 1) l) is ∙ ap (λ k. take (k + 1)
+        (t.done ++ b ∷ c ∷ rest)) (sym n) ∙ take_first t.done (c ∷ rest) b in
         let two : place + 1 + 1 ≡ place + 2 = omega arith in
-        let second : drop (place + 1 + 1) now ≡ rest =
-        ap (λ k. drop k now) two ∙ ap (λ l. drop (place + 2) l) is
-        ∙ ap (λ k. drop (k + 2) (t.done ++ b ∷ c ∷ rest)) (sym n) ∙ drop_two t.done rest b c in
-        record {
-          done = t.done ++ b ∷ [];
-          rest = rest;
-          is = removed ∙ ap (λ l. l ++ drop (place + 1 + 1) now) first ∙ ap (λ l. (t.done ++ b ∷ []) ++ l) second;
-          all = all ∙ sym (append_assoc t.done (b ∷ []) (at_odd_places rest));
-          so_far = length-append t.done (b ∷ []) ∙ omega (arith, n);
-          left = omega (arith, left);
-        }
+        grind (arith, common_steps, drop, drop_two, append_assoc, length-append)
 
 -- ---- the rule
 
@@ -136,12 +118,7 @@ lacks_room trail le = cond-true (nat_le 64 (length trail.kept)) (thinned trail) 
 -- where as many are kept as may be, every other one is given up
 pub makes_room : (cs : List Standing) (spacing : ℕ) → 64 ≤ length cs
     → trail_at (at_odd_places cs) (spacing * 2) ≡ with_room (trail_at cs spacing)
-makes_room cs spacing many =
-    let twice : spacing * 2 ≡ 2 * spacing = omega arith in
-    let still : 64 ≤ length (positions cs) = omega (arith, length-map cs (λ (c : Standing). c.position)) in
-    ap (λ n. trail_at (at_odd_places cs) n) twice
-    ∙ ap (λ (l : List ℕ). record { kept = l; spacing = 2 * spacing }) (odd_positions cs)
-    ∙ sym (lacks_room (trail_at cs spacing) still)
+makes_room cs spacing many = grind (arith, common_steps, length, length-map, odd_positions, lacks_room)
 
 pub odd_room : (cs : List Standing) → length cs ≤ 64 → length (at_odd_places cs) < 64
 odd_room cs few =
@@ -165,9 +142,7 @@ asked trail n e = leb-true (greatest trail.kept + trail.spacing) n e
 
 pub pushed_above : (cs : List Standing) (c : Standing) (spacing : ℕ) → AreAbove 0 (positions cs) → 0 < spacing
     → greatest (positions cs) + spacing ≤ c.position → AreAbove 0 (positions (cs ++ c ∷ []))
-pushed_above cs c spacing h apart past =
-    subst (λ l. AreAbove 0 l) (sym (map-append (λ (c : Standing). c.position) cs (c ∷ [])))
-    (above_greatest 0 c.position (positions cs) h (omega (arith, past)) (omega (arith, past)))
+pushed_above cs c spacing h apart past = grind (arith, common_steps, map-append, above_greatest)
 
 pub pushed_of : (u : Compiled) (cs : List Standing) (c : Standing) → AreOf u cs → c.unit ≡ u → AreOf u (cs ++ c ∷ [])
 pushed_of u [] c h e = (e, tt)
@@ -188,122 +163,53 @@ until n c = nat_le c.position n
 -- one more in front
 longer : (n : ℕ) (b : Standing) (cs : List Standing) → find (until n) (reverse (b ∷ cs)) ≡ option_or
     (find (until n) (reverse cs)) (find (until n) (b ∷ []))
-longer n b cs =
-    ap (λ l. find (until n) l) (reverse-cons b cs) ∙ find-append (until n) (reverse cs) (b ∷ [])
+longer n b cs = cc (reverse-cons b cs, find-append (until n) (reverse cs) (b ∷ []))
 
 floor_more : (n k : ℕ) (ks : List ℕ) → k ≤ n → floor_of (k ∷ ks) n ≡ max k (floor_of ks n)
-floor_more n k ks le =
-    ap greatest (cond-true (nat_le k n) (k ∷ filter (λ j. nat_le j n) ks) (filter (λ j. nat_le j n) ks) (le-leb k n le))
+floor_more n k ks le = cc (cond-true _ (k ∷ filter (λ j. nat_le j n) ks) (filter (λ j. nat_le j n) ks) (le-leb k n le))
 
 floor_same : (n k : ℕ) (ks : List ℕ) → n < k → floor_of (k ∷ ks) n ≡ floor_of ks n
-floor_same n k ks lt =
-    ap greatest (cond-false (nat_le k n) (k ∷ filter (λ j. nat_le j n) ks) (filter (λ j. nat_le j n) ks)
-    (lt-leb k n lt))
+floor_same n k ks lt = cc (cond-false _ (k ∷ filter (λ j. nat_le j n) ks) (filter (λ j. nat_le j n) ks) (lt-leb k n lt))
 
 -- what is found from the end is the floor
 pub floors : (a n : ℕ) (cs : List Standing) → AreAbove a (positions cs)
     → MatchOption (find (until n) (reverse cs)) (floor_of (positions cs) n ≡ 0) (λ c. IsFloor a n cs c)
 floors a n [] h = refl
-floors a n (b ∷ cs) h =
-    subst (λ o. MatchOption o (floor_of (positions (b ∷ cs)) n ≡ 0) (λ c. IsFloor a n (b ∷ cs) c)) (sym (longer n b cs))
-    (by_found (find (until n) (reverse cs)) (floors b.position n cs h.1))
+floors a n (b ∷ cs) h = rw (longer n b cs) (by_found (find (until n) (reverse cs)) (floors b.position n cs h.1))
   where
     by_found : (o : Option Standing) → MatchOption o (floor_of (positions cs) n ≡ 0) (λ c. IsFloor b.position n cs c)
         → MatchOption (option_or o (find (until n) (b ∷ []))) (floor_of (positions (b ∷ cs)) n ≡ 0)
         (λ c. IsFloor a n (b ∷ cs) c)
-    by_found (Some c) f =
-        let here = h.0 in
-        let above = f.above in
-        let within = f.within in
-        let is = f.is in
-        record {
-          is = omega (arith, floor_more n b.position (positions cs) (omega arith));
-          above = omega arith;
-          within = within;
-          of = λ u all. f.of u all.1;
-        }
+    by_found (Some c) f = grind (arith, common_steps, floor_more)
     by_found None none =
-        ⊎_elim
-        (λ passes.
-        subst (λ o. MatchOption o (floor_of (positions (b ∷ cs)) n ≡ 0) (λ c. IsFloor a n (b ∷ cs) c))
-        (sym (cond-true (until n b) (Some b) None passes.0))
-        (record {
-          is = omega (arith, floor_more n b.position (positions cs) passes.1);
-          above = h.0;
-          within = passes.1;
-          of = λ u all. all.0;
-        }))
-        (λ fails.
-        subst (λ o. MatchOption o (floor_of (positions (b ∷ cs)) n ≡ 0) (λ c. IsFloor a n (b ∷ cs) c))
-        (sym (cond-false (until n b) (Some b) None fails.0))
-        (floor_same n b.position (positions cs) fails.1 ∙ none))
-        (leb_tells b.position n)
+        grind (arith, common_steps, MatchOption, cond-true, floor_more, cond-false, floor_same, leb_tells)
 
 pub floor_within : (n : ℕ) (ks : List ℕ) → floor_of ks n ≤ n
 floor_within n [] = omega arith
-floor_within n (k ∷ ks) =
-    let rest = floor_within n ks in
-    ⊎_elim (λ passes. let le = passes.1 in omega (arith, floor_more n k ks passes.1))
-    (λ fails. omega (arith, floor_same n k ks fails.1)) (leb_tells k n)
+floor_within n (k ∷ ks) = grind (arith, common_steps, floor_within n ks, floor_more, floor_same, leb_tells)
 
 -- ---- the laws
 
 -- what is kept where there is room, or once there is
 lengthened_short : (trail : Trail) (n : ℕ) → length trail.kept < 64 → length (lengthened trail n).kept ≤ 64
-lengthened_short trail n few = by_asked (asks trail n)
-  where
-    by_asked : (b : Bool) → length (cond b (record trail { kept = trail.kept ++ n ∷ [] }) trail).kept ≤ 64
-    by_asked true = omega (arith, length-append trail.kept (n ∷ []))
-    by_asked false = omega arith
+lengthened_short trail n few = grind (arith, common_steps, asks, length, true, length-append, false)
 
 roomy_short : (trail : Trail) → length trail.kept ≤ 64 → length (with_room trail).kept < 64
-roomy_short trail few =
-    ⊎_elim
-    (λ many. subst (λ (t : Trail). length t.kept < 64) (sym (lacks_room trail many.1))
-    (let half = odd_half trail.kept in omega arith))
-    (λ room. subst (λ (t : Trail). length t.kept < 64) (sym (has_room trail room.1)) room.1)
-    (leb_tells 64 (length trail.kept))
+roomy_short trail few = grind (arith, common_steps, length, lacks_room, odd_half, has_room, leb_tells)
 
 pub trails_are_short : TrailsAreShort
-trails_are_short trail n few = by_asked (asks trail n)
-  where
-    by_asked : (b : Bool) → length (cond b (lengthened (with_room trail) n) trail).kept ≤ 64
-    by_asked true = lengthened_short (with_room trail) n (roomy_short trail few)
-    by_asked false = few
+trails_are_short trail n few = grind (arith, common_steps, asks, length, true, lengthened_short, roomy_short, false)
 
 record Ascends (trail : Trail) : Type 0 where
   apart : 0 < trail.spacing
   above : AreAbove 0 trail.kept
 
 roomy_ascends : (trail : Trail) → Ascends trail → Ascends (with_room trail)
-roomy_ascends trail a =
-    ⊎_elim
-    (λ many. subst (λ (t : Trail). Ascends t) (sym (lacks_room trail many.1))
-    (record { apart = (let s = a.apart in omega arith); above = odd_above 0 trail.kept a.above }))
-    (λ room. subst (λ (t : Trail). Ascends t) (sym (has_room trail room.1)) a)
-    (leb_tells 64 (length trail.kept))
+roomy_ascends trail a = grind (arith, common_steps, lacks_room, odd_above, has_room, leb_tells, length)
 
 lengthened_ascends : (trail : Trail) (n : ℕ) → Ascends trail → Ascends (lengthened trail n)
-lengthened_ascends trail n a =
-    ⊎_elim
-    (λ one.
-    let s = a.apart in
-    let past = one.1 in
-    subst (λ (t : Trail). Ascends t) (sym (one_kept trail n one.0))
-    (record { apart = a.apart; above = above_greatest 0 n trail.kept a.above (omega arith) (omega arith) }))
-    (λ none. subst (λ (t : Trail). Ascends t) (sym (none_kept trail n none.0)) a)
-    (leb_tells (greatest trail.kept + trail.spacing) n)
+lengthened_ascends trail n a = grind (arith, common_steps, one_kept, above_greatest, none_kept, leb_tells)
 
 pub trails_ascend : TrailsAscend
-trails_ascend trail n apart h = (all.apart, all.above)
-  where
-    was : Ascends trail
-    was = record { apart = apart; above = h }
-
-    all : Ascends (kept_at trail n)
-    all =
-        ⊎_elim
-        (λ one. subst (λ (t : Trail). Ascends t) (sym (one_asked trail n one.0))
-        (lengthened_ascends (with_room trail) n (roomy_ascends trail was)))
-        (λ none. subst (λ (t : Trail). Ascends t) (sym (none_asked trail n none.0)) was)
-        (leb_tells (greatest trail.kept + trail.spacing) n)
+trails_ascend trail n apart h =
+    grind (arith, common_steps, kept_at, one_asked, lengthened_ascends, roomy_ascends, none_asked, leb_tells)

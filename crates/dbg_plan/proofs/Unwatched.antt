@@ -1,6 +1,6 @@
 -- Where no breakpoint is met: none is due and none logged.
-use Rattle.std.proofs.Common.{◌≡◌, ℕ, ◌+◌, ◌<◌, Bool, true, false, cond, List, [], ◌∷◌, length, Option, Some, None, ap, sym, ◌∙◌, subst, refl}
-use Rattle.std.specs.Prelude.{◌&&◌, ◌||◌, is_none, unwrap_or, option_map, if◌then◌else◌}
+use Rattle.std.proofs.Common.{◌≡◌, ℕ, ◌+◌, ◌<◌, Bool, true, false, List, [], ◌∷◌, length, Option, Some, None, ap, sym, ◌∙◌, subst, refl, arith}
+use Rattle.std.specs.Prelude.{◌&&◌, is_none, unwrap_or, option_map, if◌then◌else◌}
 use Rattle.std.specs.List.{list_any, filter_map, enumerate_from, cons_option}
 use Rattle.std.proofs.lemmas.Bool.{or_from, or_parts}
 use Rattle.pl0_unit.specs.declared.unit.Unit.{Unit as Compiled}
@@ -17,6 +17,7 @@ use Rattle.dbg_plan.specs.Logs.{log_in, log_at}
 use Rattle.dbg_plan.specs.Counting.{MayBePlanOf}
 use Rattle.dbg_plan.specs.Debugged.{Debugged, machine_of, debugged_program, due_now, logs_now}
 use Rattle.dbg_plan.specs.Running.{has_hit, IsUndueAbove}
+use Rattle.std.proofs.lemmas.Grind.{common_steps}
 
 -- ---- what is known of a plan that is asked
 
@@ -29,12 +30,7 @@ fits_of u plan asked is may = subst (λ o. MayBePlanOf u o) is may
 pub among_those : (p : ℕ) (f : Breakpoint → Bool) (bs : List Breakpoint)
     → list_any (λ b. is_of p b && f b) bs ≡ list_any f (those_of p bs)
 among_those p f [] = refl
-among_those p f (b ∷ bs) = by_step (is_of p b) (among_those p f bs)
-  where
-    by_step : (v : Bool) → list_any (λ b. is_of p b && f b) bs ≡ list_any f (those_of p bs)
-        → ((v && f b) || list_any (λ b. is_of p b && f b) bs) ≡ list_any f (cond v (b ∷ those_of p bs) (those_of p bs))
-    by_step true e = ap (λ v. f b || v) e
-    by_step false e = e
+among_those p f (b ∷ bs) = grind (arith, common_steps, is_of, among_those p f bs, list_any, true, false)
 
 -- ---- no breakpoint is met there
 
@@ -60,9 +56,7 @@ module _ (m : Standing) (first : ℕ) where
 
 -- in the mode Continue such a position isn't due
 pub not_due : (d : Debugged) → has_hit d.breakpoints d.counted_from (machine_of d) ≡ false → due_now d Continue ≡ None
-not_due d none =
-    ap (λ hit. if hit then Some reason.Breakpoint else None)
-    (none_stops (machine_of d) d.counted_from d.breakpoints none)
+not_due d none = cc (none_stops (machine_of d) d.counted_from d.breakpoints none)
 
 depth_there : (o : Option Configuration) → unwrap_or (option_map length o) 0 ≡ length (frames_of o)
 depth_there None = refl

@@ -1,10 +1,10 @@
 -- What is bound has the value of the source.
-use Rattle.std.proofs.Common.{◌≡◌, ℕ, List, slice_get, Option, Some, None, IsSome, Ok, ℤ, pos, neg_ℤ, refl, sym, ap, ◌∙◌, subst}
+use Rattle.std.proofs.Common.{◌≡◌, ℕ, List, slice_get, Option, Some, None, IsSome, Ok, ℤ, pos, refl, sym, ap, ◌∙◌, subst, arith}
 use Rattle.std.specs.Prelude.{option_and_then}
 use Rattle.std.proofs.lemmas.Option.{slice_get-get_or}
 use Rattle.pl0_tree.specs.Tree.{Block, Expression, Variable, Number, Negate, Binary, Condition, Odd, Compare}
 use Rattle.pl0_tree.specs.Scope.{Meaning, AConstant, AVariable, AProcedure, Home, home}
-use Rattle.pl0_meaning.specs.Values.{Frame, Configuration, frame_at, declared_number, name_number, or_zero, after, checked, operation, comparison, is_odd, value, truth}
+use Rattle.pl0_meaning.specs.Values.{Frame, Configuration, frame_at, declared_number, name_number, or_zero, after, comparison, value, truth}
 use Rattle.pl0_unit.specs.Code.{level}
 use Rattle.pl0_meaning.specs.Frames.{AreLinked}
 use Rattle.pl0_meaning.proofs.Homes.{home_is}
@@ -17,6 +17,7 @@ use Rattle.pl0_machine.specs.declared.located.LocatedCondition.TheVariants as bo
 use Rattle.dbg_plan.specs.Bound.{IsDeclaredBound, IsNameBound, IsExpressionBound, IsConditionBound}
 use Rattle.pl0_machine.specs.LocatedValues.{located_value, located_truth, CanRead, CanTest}
 use Rattle.dbg_plan.proofs.ValuesLinks.{leads}
+use Rattle.std.proofs.lemmas.Grind.{common_steps}
 
 -- a bound expression can be read, and has this number
 abbrev pub Reads : Configuration → ℕ → LocatedExpression → ℤ → Type 0
@@ -28,8 +29,7 @@ reads_number c i b v w is same = subst (λ e. Reads c i e w) (sym is) (tt, ap Ok
 
 reads_variable : (c : Configuration) (i n k : ℕ) (b : LocatedExpression) (o : Option ℤ) → b ≡ bound.Variable n k
     → number_up c n k i ≡ o → IsSome o → Reads c i b (or_zero o)
-reads_variable c i n k b o is up some =
-    subst (λ e. Reads c i e (or_zero o)) (sym is) (subst (λ p. IsSome p) (sym up) some, ap (λ p. Ok (or_zero p)) up)
+reads_variable c i n k b o is up some = rw is (rw up some, cc)
 
 -- in frame i of a block q
 module _ (main : Block) (c : Configuration) (i : ℕ) (f : Frame) (linked : AreLinked main c) (at : frame_at c i ≡ Some f)
@@ -43,11 +43,9 @@ module _ (main : Block) (c : Configuration) (i : ℕ) (f : Frame) (linked : AreL
         let lt = variable_within main f.block h k r.frame home_of means (frame_of main c r.at r.frame linked r.there)
         r.block in
         let there = variable_found c i r.at k h.path r.frame r.is r.there in
-        let some : IsSome (slice_get r.frame.numbers k) =
-        subst (λ o. IsSome o) (sym (slice_get-get_or r.frame.numbers k (pos 0) lt)) refl in
-        subst (λ o. Reads c i b (or_zero o)) (sym there)
-        (reads_variable c i (level f.block h.path) k b (slice_get r.frame.numbers k) is
-        (leads main c f.block i f h.path linked at refl home_of.around k ∙ there) some)
+        let some : IsSome (slice_get r.frame.numbers k) = rw (slice_get-get_or r.frame.numbers k (pos 0) lt) refl in
+        rw there (reads_variable c i (level f.block h.path) k b (slice_get r.frame.numbers k) is (leads main c f.block i
+        f h.path linked at refl home_of.around k ∙ there) some)
 
     declared_reads : (x : List ℕ) (h : Home) (m : Meaning) (b : LocatedExpression) → home main f.block x ≡ Some h
         → h.declaration.meaning ≡ m → IsDeclaredBound main f.block h.path m b
@@ -67,41 +65,23 @@ module _ (main : Block) (c : Configuration) (i : ℕ) (f : Frame) (linked : AreL
     -- a name that is bound has its number
     pub name_reads : (x : List ℕ) (b : LocatedExpression) → IsNameBound main f.block (home main f.block x) b
         → Reads c i b (or_zero (name_number main c i x))
-    name_reads x b is =
-        subst (λ o. Reads c i b (or_zero (home_number (option_and_then (λ (g : Frame). home main g.block x) o))))
-        (sym at)
-        (home_reads x (home main f.block x) b refl is)
+    name_reads x b is = rw at (home_reads x (home main f.block x) b refl is)
 
     -- an expression that is bound has its value
     pub expression_reads : (e : Expression) (b : LocatedExpression) → IsExpressionBound main f.block e b → CanRead c i b
         × (located_value c i b ≡ value main c i e)
     expression_reads (Number n) b is = subst (λ e. CanRead c i e × (located_value c i e ≡ Ok n)) (sym is) (tt, refl)
     expression_reads (Variable x) b is = name_reads x.word b is
-    expression_reads (Negate e) (bound.Negate' p b) is =
-        let r = expression_reads e b is in (r.0, ap (λ v. after v (λ x. checked (neg_ℤ x))) r.1)
+    expression_reads (Negate e) (bound.Negate' p b) is = grind (arith, common_steps, expression_reads e b is, after)
     expression_reads (Negate e) b is = absurd is
     expression_reads (Binary op left right) (bound.Binary' op' p first r second) is =
-        let l = expression_reads left first is.1 in
-        let m = expression_reads right second is.2 in (
-          (l.0, m.0),
-          ap (λ v. after v (λ x. after (located_value c i second) (λ y. operation op' x y))) l.1
-              ∙ ap (λ w. after (value main c i left) (λ x. after w (λ y. operation op' x y))) m.1
-              ∙ ap (λ o. after (value main c i left) (λ x. after (value main c i right) (λ y. operation o x y))) is.0,
-        )
+        grind (arith, common_steps, expression_reads left first is.1, expression_reads right second is.2, after, value)
     expression_reads (Binary op left right) b is = absurd is
 
     -- a condition that is bound has its truth
     pub condition_reads : (t : Condition) (b : LocatedCondition) → IsConditionBound main f.block t b → CanTest c i b
         × (located_truth c i b ≡ truth main c i t)
-    condition_reads (Odd e) (bound_condition.Odd b) is =
-        let r = expression_reads e b is in (r.0, ap (λ v. after v (λ x. Ok (is_odd x))) r.1)
+    condition_reads (Odd e) (bound_condition.Odd b) is = grind (arith, common_steps, expression_reads, after)
     condition_reads (Compare relation left right) (bound_condition.Compare relation' first second) is =
-        let l = expression_reads left first is.1 in
-        let m = expression_reads right second is.2 in (
-          (l.0, m.0),
-          ap (λ v. after v (λ x. after (located_value c i second) (λ y. Ok (comparison relation' x y)))) l.1
-              ∙ ap (λ w. after (value main c i left) (λ x. after w (λ y. Ok (comparison relation' x y)))) m.1
-              ∙ ap (λ o. after (value main c i left) (λ x. after (value main c i right) (λ y. Ok (comparison o x y))))
-              is.0,
-        )
+        grind (arith, common_steps, expression_reads, after, comparison, value)
     condition_reads t b is = absurd is

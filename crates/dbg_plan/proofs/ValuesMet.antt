@@ -1,6 +1,5 @@
 -- A condition of the machine's next step, in the newest frame.
 use Rattle.std.proofs.Common.{◌≡◌, ℕ, zero, suc, ◌-◌, ◌<◌, Bool, true, List, [], ◌∷◌, ◌++◌, length, slice_get, Option, Some, None, Result, Ok, Err, refl, sym, ap, ◌∙◌, subst, arith}
-use Rattle.std.specs.Prelude.{option_map}
 use Rattle.std.specs.Option.{option_map_or}
 use Rattle.std.specs.Result.{result_unwrap_or}
 use Rattle.std.proofs.Math.Logic.{∥∥₁_elim}
@@ -23,10 +22,9 @@ use Rattle.dbg_plan.specs.declared.breakpoint.BoundCondition.{BoundCondition}
 use Rattle.dbg_plan.specs.declared.breakpoint.Breakpoint.{Breakpoint}
 use Rattle.dbg_plan.specs.declared.evaluation.EvalFault.{EvalFault}
 use Rattle.dbg_plan.specs.Bound.{IsConditionBound}
-use Rattle.dbg_plan.specs.Breakpoints.{text_condition, plain_breakpoint}
 use Rattle.dbg_plan.specs.Due.{true_or_faulty}
 use Rattle.dbg_plan.specs.Plans.{IsBoundAt}
-use Rattle.dbg_plan.specs.Counting.{holds_in, holds_now, IsMetHere}
+use Rattle.dbg_plan.specs.Counting.{holds_now, IsMetHere}
 use Rattle.dbg_plan.specs.Values.{answered}
 use Rattle.pl0_machine.specs.LocatedValues.{located_truth, CanRead, CanTest}
 use Rattle.dbg_plan.proofs.ValuesBound.{condition_reads}
@@ -74,8 +72,7 @@ some_step (t ∷ ss) (suc n) lt = some_step ss n (omega arith)
 pub stands_in : (main : Block) (f : Frame) (n : ℕ) → StandsBefore main f n → f.block ≡ step_path main n
 stands_in main f n st =
     let s = some_step (steps main) n st.within in
-    sym (next_path main f.block f.todo s.0 (sym st.next ∙ s.1))
-    ∙ ap (λ o. option_map_or (λ (u : StepAt). u.path) o []) (sym s.1)
+    cc (next_path main f.block f.todo s.0 (sym st.next ∙ s.1), s.1)
 
 -- ---- facts that have at most one proof
 
@@ -106,12 +103,10 @@ tested : (main : Block) (c : Configuration) (n top : ℕ) (guard : BoundConditio
 tested main [] n top guard linked next is at = absurd next
 tested main (f ∷ below) n top guard linked next is at =
     let here : length below ≡ length (f ∷ below) - 1 = omega arith in
-    let bound =
-    subst (λ q. IsConditionBound main q (plain_condition guard.condition) guard.located.value)
-    (sym (stands_in main f n next)) is in
-    subst (λ i. IsTested main (f ∷ below) i guard) (sym at)
-    (condition_reads main (f ∷ below) (length (f ∷ below) - 1) f linked
-    (frame_at-top f below (length (f ∷ below) - 1) here) (plain_condition guard.condition) guard.located.value bound)
+    let bound = subst (λ q. IsConditionBound main q (plain_condition guard.condition) guard.located.value) (sym
+    (stands_in main f n next)) is in
+    rw at (condition_reads main (f ∷ below) (length (f ∷ below) - 1) f linked (frame_at-top f below (length (f ∷ below)
+    - 1) here) (plain_condition guard.condition) guard.located.value bound)
 
 pub is_tested : (main : Block) (c : Configuration) (n top : ℕ) (guard : BoundCondition) → ∥ AreLinked main c ∥₁
     → IsNext main (top_of c) n → IsConditionBound main (step_path main n) (plain_condition guard.condition)
@@ -129,11 +124,7 @@ pub holds_told : (m : Standing) (b : Breakpoint) (guard : BoundCondition) (top :
     (result : Bool) → configuration m ≡ Some (frames m) → b.condition ≡ Some guard
     → IsTested (program m) (frames m) top guard → located_truth (frames m) top guard.located.value ≡ answered r
     → result ≡ result_unwrap_or r true → result ≡ holds_now m b
-holds_told m b guard top r result there is t value e =
-    e ∙ unless_faulty r
-    ∙ ap true_or_faulty (sym value ∙ t.1)
-    ∙ ap (λ g. holds_in (program m) (Some (frames m)) (option_map text_condition g)) (sym is)
-    ∙ ap (λ o. holds_in (program m) o (plain_breakpoint b).condition) (sym there)
+holds_told m b guard top r result there is t value e = cc (unless_faulty r, t.1)
 
 unless_fault : (r : Result Bool RunFault) → result_unwrap_or r true ≡ true_or_faulty r
 unless_fault (Ok b) = refl
@@ -143,11 +134,7 @@ unless_fault (Err fault) = refl
 pub holds_bound : (m : Standing) (b : Breakpoint) (guard : BoundCondition) (top : ℕ) → configuration m ≡ Some (frames m)
     → b.condition ≡ Some guard → IsTested (program m) (frames m) top guard
     → result_unwrap_or (located_truth (frames m) top guard.located.value) true ≡ holds_now m b
-holds_bound m b guard top there is t =
-    unless_fault (located_truth (frames m) top guard.located.value)
-    ∙ ap true_or_faulty t.1
-    ∙ ap (λ g. holds_in (program m) (Some (frames m)) (option_map text_condition g)) (sym is)
-    ∙ ap (λ o. holds_in (program m) o (plain_breakpoint b).condition) (sym there)
+holds_bound m b guard top there is t = cc (unless_fault (located_truth (frames m) top guard.located.value), t.1)
 
 -- a breakpoint's condition can be tested in the newest frame
 pub tested_here : (m : Standing) (b : Breakpoint) (guard : BoundCondition) (depth : ℕ) → IsMetHere m b

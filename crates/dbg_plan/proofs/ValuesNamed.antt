@@ -59,6 +59,4 @@ variable_up c i l level k v is r =
 
 pub variable_is : (c : Configuration) (i : ℕ) (l : Located) (level k : ℕ) (n v : ℤ) → l ≡ at.Variable level k
     → Reads c i (bound_of l) v → number_up c level k i ≡ Some n → n ≡ v
-variable_is c i l level k n v is r up =
-    same_ok n v
-    (ap (λ o. Ok (or_zero o)) (sym up) ∙ ap (λ (m : Located). located_value c i (bound_of m)) (sym is) ∙ r.1)
+variable_is c i l level k n v is r up = same_ok n v (cc r.1)

@@ -1,7 +1,7 @@
 -- What some texts of an editor read as.
 use Rattle.std.specs.Prelude.{◌≡◌, ◌≢◌, ◌<◌, ℕ, ℤ, zero, suc, ◌++◌, drop, length, false, nat_eq, List, [], ◌∷◌, slice_get, Some, None, pos, refl, codes, decimal}
-use Rattle.std.proofs.Common.{arith, ap, subst, sym, get_or, ◌∙◌}
-use Rattle.std.proofs.lemmas.Bool.{eq-eqb, true≢false}
+use Rattle.std.proofs.Common.{arith, ap, sym, get_or, ◌∙◌}
+use Rattle.std.proofs.lemmas.Bool.{eq-eqb}
 use Rattle.std.specs.Fmt.{digits}
 use Rattle.std.proofs.lemmas.Fmt.{decimal_injective, first_decimal}
 use Rattle.std.proofs.lemmas.List.Elements.{All-from_recursion, All-head, All-tail}
@@ -12,7 +12,7 @@ use Rattle.pl0_tree.specs.Tree.{Variable, Number, Compare, Expression}
 use Rattle.pl0_tree.specs.declared.fault.FaultKind.TheVariants.{BadCharacter}
 use Rattle.pl0_tree.specs.Tokens.{Token, Named, Numeral, EndOfText}
 use Rattle.pl0_tree.specs.Reading.{token_at, name_at, equal, ReadsExpression, unsigned, no_term, factors, no_factor, name, number, comparison}
-use Rattle.pl0_tree.specs.Scope.{AreLawfulOutside, IsLawfulOutside, condition_uses, use_of, IsRead}
+use Rattle.pl0_tree.specs.Scope.{AreLawfulOutside, condition_uses, use_of, IsRead}
 use Rattle.pl0_tree.specs.Faults.{IsConditionOf, IsExpressionOf, IsFirstExpressionFault, in_tokens, by_itself}
 use Rattle.pl0_tree.proofs.Unique.{condition_text_once}
 use Rattle.pl0_syntax.specs.Laws.{FaultExcludesExpressions}
@@ -24,33 +24,19 @@ use Rattle.dbg_plan.specs.WorkedText.{nested}
 use Rattle.dbg_plan.specs.Resolutions.{ReadsRule}
 use Rattle.dbg_plan.specs.WorkedReadings.{RulesRead, OthersAreNoRules, ConditionsRead, NamesAreOfTheBlock, MessagesRead, BracesClose, BracesAreNotDoubled, repeated, values, MessagesAreShort}
 use Rattle.dbg_plan.proofs.MessageParts.{continues, alone}
+use Rattle.std.proofs.lemmas.Grind.{common_steps}
 
 pub rules_read : RulesRead
 unfolding digits
-rules_read = (
-  (refl, omega arith, omega arith),
-  (refl, omega arith, omega arith),
-  refl,
-  (refl, omega arith, omega arith),
-  (refl, omega arith, omega arith),
-  (refl, omega arith, omega arith),
-  (refl, omega arith, omega arith),
-)
+rules_read = grind (arith, common_steps)
 
 -- ---- texts that are no rule
 
 -- what begins below `1`, after a percent sign too, is no rule
 low_is_none : (text : List ℕ) → get_or text 0 0 < 49 → (get_or text 0 0 ≡ 37 → get_or (drop 1 text) 0 0 < 49)
     → (rule : Rule) → ¬ ReadsRule text (Some rule)
-low_is_none text low next (From k) (is, some, fits) =
-    let first = first_decimal k some (omega arith) in
-    let begins = ap (λ t. get_or t 0 0) is in
-    absurd (omega (arith, low, first, begins))
-low_is_none text low next (Every k) (is, some, fits) =
-    let first = first_decimal k some (omega arith) in
-    let begins = next (ap (λ t. get_or t 0 0) is) in
-    let there = ap (λ t. get_or (drop 1 t) 0 0) is in
-    absurd (omega (arith, begins, first, there))
+low_is_none text low next (From k) (is, some, fits) = grind (arith, common_steps, first_decimal, get_or)
+low_is_none text low next (Every k) (is, some, fits) = grind (arith, common_steps, first_decimal, get_or, drop)
 
 high_is_none : (rule : Rule) → ¬ ReadsRule (codes "2147483648") (Some rule)
 unfolding digits
@@ -58,8 +44,7 @@ high_is_none (From k) (is, some, fits) =
     let spelled : decimal 2147483648 ≡ codes "2147483648" = refl in
     let same = decimal_injective 2147483648 k (omega arith) (omega arith) (spelled ∙ is) in
     absurd (omega (arith, same))
-high_is_none (Every k) (is, some, fits) =
-    let e : 50 ≡ 37 = ap (λ t. get_or t 0 0) is in absurd (omega (arith, e))
+high_is_none (Every k) (is, some, fits) = grind (arith, common_steps, get_or)
 
 pub others_are_no_rules : OthersAreNoRules
 others_are_no_rules = (
@@ -85,8 +70,7 @@ a_number = unsigned (factors number no_factor) no_term
 -- k is read in p, where it is a variable
 k_lawful : AreLawfulOutside nested (0 ∷ []) (use_of IsRead (called (codes "k") 1 1) ∷ [])
 k_lawful zero u is =
-    subst (IsLawfulOutside nested (0 ∷ [])) (same_Some (use_of IsRead (called (codes "k") 1 1)) u is)
-    (record { at = _; found = refl; allowed = tt })
+    rw (← (same_Some (use_of IsRead (called (codes "k") 1 1)) u is)) (record { at = _; found = refl; allowed = tt })
 k_lawful (suc i) u is = absurd cc
 
 k_is_one : IsConditionOf nested (0 ∷ []) (codes "k = 1")
@@ -113,8 +97,7 @@ just_k = record { short = omega arith; reads = (place 1 2, a_name); lawful = k_l
 
 -- two numbers that differ by computation
 differ : (a b : ℕ) → nat_eq a b ≡ false → a ≢ b
-differ a b not same =
-    let there = sym (eq-eqb a b same) ∙ not in true≢false there
+differ a b not same = grind (arith, common_steps, eq-eqb)
 
 pub messages_read : MessagesRead
 messages_read = (
@@ -145,8 +128,7 @@ not_braced (x ∷ y ∷ inner) rest is = absurd cc
 
 not_opened : (before inner rest : List ℕ) → Lacks 123 before → ¬ (codes "a {b" ≡ before ++ braced inner rest)
 not_opened [] inner rest lacks is = let e : 97 ≡ 123 = ap (λ bs. get_or bs 0 0) is in absurd (omega (arith, e))
-not_opened (x ∷ []) inner rest lacks is =
-    let e : 32 ≡ 123 = ap (λ bs. get_or bs 1 0) is in absurd (omega (arith, e))
+not_opened (x ∷ []) inner rest lacks is = grind (arith, common_steps, get_or)
 not_opened (x ∷ y ∷ []) inner rest lacks is = not_braced inner rest (ap (drop 3) is)
 not_opened (x ∷ y ∷ z ∷ before) inner rest lacks is =
     let brace : 123 ≡ z = ap (λ bs. get_or bs 2 0) is in

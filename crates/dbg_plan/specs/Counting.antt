@@ -1,5 +1,5 @@
 -- How arrivals are counted: of each breakpoint only what its rule needs to know.
-use Rattle.std.specs.Prelude.{◌≡◌, ℕ, ◌+◌, ◌-◌, ◌%◌, min, Bool, false, ◌&&◌, nat_le, nat_lt, is_none, if◌then◌else◌, List, [], ◌∷◌, ◌++◌, option_to_list, slice_index, slice_set, Option, Some, None}
+use Rattle.std.specs.Prelude.{◌≡◌, ℕ, ◌+◌, ◌-◌, ◌%◌, min, Bool, true, false, ◌&&◌, nat_le, nat_lt, is_none, if◌then◌else◌, List, [], ◌∷◌, ◌++◌, option_to_list, slice_index, slice_set, Option, Some, None}
 use Rattle.pl0_tree.specs.Tree.{Block}
 use Rattle.pl0_meaning.specs.Values.{Configuration}
 use Rattle.pl0_unit.specs.declared.unit.Unit.{Unit as Compiled}
@@ -18,6 +18,12 @@ abbrev pub passes : Option Rule → ℕ
 passes None = 0
 passes (Some (From k)) = k - 1
 passes (Some (Every k)) = k - 1
+
+-- whether the arrivals are counted anew after one that is due
+abbrev pub starts_over : Option Rule → Bool
+starts_over None = false
+starts_over (Some (From k)) = false
+starts_over (Some (Every k)) = true
 
 -- what is kept of a number of arrivals
 abbrev pub reduced : Option Rule → ℕ → ℕ

@@ -17,9 +17,11 @@ use Rattle.dbg_plan.specs.declared.mode.Reason.TheVariants as reason
 
 -- ---- arrivals
 
+-- the same line and column
 abbrev pub same_place : Place → Place → Bool
 same_place p q = nat_eq p.line q.line && nat_eq p.column q.column
 
+-- both are steps, of the same place
 abbrev pub same_step : Option StepAt → Option StepAt → Bool
 same_step (Some s) (Some t) = same_place s.place t.place
 same_step _ _ = false
@@ -43,10 +45,12 @@ holds main c (Some condition) = true_or_faulty (truth main c (length c - 1) cond
 abbrev pub arrives : Block → Breakpoint → Configuration → Bool
 arrives main b c = is_at main b.step c && holds main c b.condition
 
+-- the configuration is an arrival; where there is none, nothing arrives
 abbrev pub arrives_in : Block → Breakpoint → Option Configuration → Bool
 arrives_in main b None = false
 arrives_in main b (Some c) = arrives main b c
 
+-- position m is an arrival
 abbrev pub arrives_at : Block → Breakpoint → ℕ → Bool
 arrives_at main b m = arrives_in main b (at main m)
 
@@ -82,6 +86,7 @@ reason_of (Out d) depth = if nat_lt depth d then Some reason.Step else None
 reason_of StepBack depth = None
 reason_of Reverse depth = None
 
+-- how many frames are alive at position m, 0 where there is none
 abbrev pub depth_at : Block → ℕ → ℕ
 depth_at main m = unwrap_or (option_map length (at main m)) 0
 

@@ -45,6 +45,7 @@ logs main breakpoints t m = filter_map (log_at main t m) (enumerate_from 0 break
 
 -- ---- the text of a log
 
+-- what stands in the text for a value, or for the fault of its expression
 abbrev pub value_text : Result ℤ RunFault → List ℕ
 value_text (Ok z) = signed_decimal z
 value_text (Err Overflow) = codes "overflow"
@@ -60,6 +61,7 @@ filled (Text bytes ∷ parts) values = bytes ++ filled parts values
 filled (Value e ∷ parts) [] = filled parts []
 filled (Value e ∷ parts) (v ∷ values) = value_text v ++ filled parts values
 
+-- what a log says: the message with the values filled in, and a line feed
 abbrev pub log_text : List Part → List (Result ℤ RunFault) → List ℕ
 log_text parts values = filled parts values ++ 10 ∷ []
 

@@ -46,10 +46,12 @@ abbrev pub rule_text : Rule → List ℕ
 rule_text (From k) = decimal k
 rule_text (Every k) = 37 ∷ decimal k
 
+-- the number of a rule
 abbrev pub rule_number : Rule → ℕ
 rule_number (From k) = k
 rule_number (Every k) = k
 
+-- the text is no rule where it is empty, and else this one, with a number from 1 to 2^31 - 1
 abbrev pub ReadsRule : List ℕ → Option Rule → Type 0
 ReadsRule text None = text ≡ []
 ReadsRule text (Some rule) = (text ≡ rule_text rule) × (0 < rule_number rule) × (rule_number rule < 2 ^ 31)

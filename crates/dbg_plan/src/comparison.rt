@@ -9,7 +9,7 @@ ghost use Rattle.dbg_plan.specs.Comparisons.{expression_of, condition_of, Asks};
 ghost use Rattle.dbg_plan.specs.Table.{IsCounterOf, AreCountersOf};
 
 use crate::breakpoint::{BoundCondition, Breakpoint};
-use crate::counting::passes_of;
+use crate::counting::{passes_of, starts_over};
 use pl0_machine::{
     Comparison, Counter, LocatedCondition, LocatedExpression, Operand, Question, step_depth,
 };
@@ -50,6 +50,8 @@ fn counter_for(breakpoint: &Breakpoint) -> Result<Counter, AllocError>
         question,
         number: breakpoint.number,
         passes: passes_of(breakpoint.rule),
+        starts_over: starts_over(breakpoint.rule),
+        stops: breakpoint.message.is_none(),
     })
 }
 

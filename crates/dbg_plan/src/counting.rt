@@ -7,7 +7,7 @@ ghost use Rattle.dbg_plan.specs.Plans.{breakpoint_limit, listed_of};
 ghost use Rattle.dbg_plan.specs.declared.mode.Reason.TheVariants as reason;
 ghost use Rattle.dbg_plan.specs.Due.{reason_of, depth_at};
 ghost use Rattle.dbg_plan.specs.Debugged.{IsRunning};
-ghost use Rattle.dbg_plan.specs.Counting.{increased, passes, holds_now, counted, counted_at, those_due, any_stops, logged, logged_after, due_at, AreCounts, CountsOn, MayBePlanOf, IsMetHere};
+ghost use Rattle.dbg_plan.specs.Counting.{increased, passes, starts_over, holds_now, counted, counted_at, those_due, any_stops, logged, logged_after, due_at, AreCounts, CountsOn, MayBePlanOf, IsMetHere};
 
 use crate::breakpoint::{Breakpoint, Rule};
 use crate::evaluation::is_met;
@@ -27,6 +27,13 @@ pub fn passes_of(rule: Option<Rule>) -> u32
         Some(Rule::From(k)) => k.saturating_sub(1),
         Some(Rule::Every(k)) => k.saturating_sub(1),
     }
+}
+
+/// Whether the arrivals are counted anew after one that is due.
+pub fn starts_over(rule: Option<Rule>) -> bool
+    ensures { result ≡ starts_over rule }
+{
+    matches!(rule, Some(Rule::Every(_)))
 }
 
 /// Returns the count after one more arrival. The rule decides how far it counts.

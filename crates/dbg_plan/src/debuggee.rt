@@ -81,8 +81,9 @@ impl Debuggee {
     ghost use Rattle.pl0_meaning.specs.Values.{value};
     ghost use Rattle.pl0_machine.specs.Machine.{Stepped, outcome_of, frames, depth_of};
     ghost use Rattle.dbg_plan.specs.Plans.{IsPlanOf};
-    ghost use Rattle.dbg_plan.specs.Debugged.{machine_of, debugged_program, IsConsidered, IsNext, due_now, logs_now};
-    ghost use Rattle.dbg_plan.specs.Advances.{Advanced};
+    ghost use Rattle.dbg_plan.specs.Debugged.{machine_of, debugged_program, IsConsidered, IsNext, IsRunning, due_now, logs_now};
+    ghost use Rattle.dbg_plan.specs.Retreat.{last_due};
+    ghost use Rattle.dbg_plan.specs.Advances.{considered_at, Advanced};
     ghost use Rattle.dbg_plan.specs.Running.{RanFrom};
     ghost use Rattle.dbg_plan.specs.Quiet.{RanTo};
     ghost use Rattle.pl0_machine.specs.declared.outcome.StepOutcome.TheVariants.{Went};
@@ -284,6 +285,23 @@ impl Debuggee {
             StepOutcome::Done => Some(Advance::Done),
             StepOutcome::Fault(fault) => Some(Advance::Fault(fault)),
         }
+    }
+
+    /// Goes on to the position `limit`, where the program still runs, and considers each position on the way. Returns the
+    /// last one where a breakpoint stops the program; `found`, if there is none on the way.
+    pub fn search(&mut self, limit: u64, found: Option<u64>) -> Option<u64>
+        requires considered { IsConsidered self.old }
+        requires within { self.old.position ≤ limit }
+        requires runs { IsRunning (record (machine_of self.old) { position = limit }) }
+        ensures went { self.new ≡ considered_at self.old limit }
+        ensures considered { IsConsidered self.new }
+        ensures found { self.old.counted_from ≡ 0
+            → found ≡ last_due (debugged_program self.old) self.old.breakpoints (self.old.position + 1)
+            → result ≡ last_due (debugged_program self.old) self.old.breakpoints (limit + 1) }
+    {
+        configuration_laws();
+        let marks = marks_of(&self.plan);
+        self.machine.search(limit, marks, &mut self.counts, found)
     }
 
     /// Returns the value of an expression in a frame, which is alive. A name that the frame's block can't read counts as 0.

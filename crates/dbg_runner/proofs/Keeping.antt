@@ -3,7 +3,7 @@ use Rattle.dbg_runner.proofs.Common.{ap, arith, Block, Bool, Breakpoint, carried
 use Rattle.pl0_machine.specs.Machine.{program_of}
 use Rattle.dbg_plan.specs.declared.mode.Mode.TheVariants as mode
 use Rattle.dbg_runner.specs.declared.outcome.SliceOutcome.TheVariants as out
-use Rattle.dbg_runner.proofs.Alive.{runs_before}
+use Rattle.pl0_machine.proofs.Alive.{runs_before}
 
 pub lawful : (r : Reported) → IsKept r → IsLawfulReport (plain_report r)
 lawful r kept = record { program = program_of r.unit; reads = r.unit.tree.lawful; lawful = kept }

@@ -1,8 +1,6 @@
 -- The steps that a run which goes back runs again.
-use Rattle.std.specs.Prelude.{◌≡◌, ℕ, ◌+◌, ◌<◌, ◌≤◌, Bool, is_some, Option, None}
-use Rattle.dbg_plan.specs.declared.mode.Mode.TheVariants.{Continue}
-use Rattle.dbg_plan.specs.Due.{due}
-use Rattle.dbg_plan.specs.Debugged.{Debugged, debugged_program, IsConsidered, due_now}
+use Rattle.std.specs.Prelude.{ℕ, ◌+◌, Option}
+use Rattle.dbg_plan.specs.Debugged.{Debugged, debugged_program}
 use Rattle.dbg_plan.specs.Retreat.{last_due}
 use Rattle.dbg_plan.specs.Trail.{floor_of}
 
@@ -21,14 +19,3 @@ gone_back d to = moved d (floor_of d.trail.kept to) (floor_of d.trail.kept to)
 -- the last position up to p that is due, with d's plan and counts from 0
 abbrev pub last_due_up_to : Debugged → ℕ → Option ℕ
 last_due_up_to d p = last_due (debugged_program d) d.breakpoints (p + 1)
-
--- The debuggee went on to a position up to `limit`, and was due at none in between. The result says whether it is due
--- there.
-pub record Hopped (limit : ℕ) (old : Debugged) (result : Bool) (new : Debugged) : Type 0 where
-  pub is : new ≡ standing old new.position
-  pub considered : IsConsidered new
-  pub more : old.position < new.position
-  pub within : new.position ≤ limit
-  pub passed : (m : ℕ) → old.position < m → m < new.position
-      → due (debugged_program old) old.breakpoints old.counted_from Continue m ≡ None
-  pub due_is : result ≡ is_some (due_now new Continue)

@@ -21,10 +21,12 @@ pub data Direction : Type 0 where
   Onward : Direction
   Back : Direction
 
+-- back if the test holds
 abbrev pub back_if : Bool → Direction
 back_if true = Back
 back_if false = Onward
 
+-- which way a mode goes
 abbrev pub direction : Mode → Direction
 direction mode = back_if (goes_back mode)
 
@@ -55,6 +57,7 @@ pub record PlainReport : Type 0 where
   pub logs : List Log
   pub outcome : SliceOutcome
 
+-- the heading of a report
 abbrev pub heading_of : PlainReport → Heading
 heading_of r =
     record { run = r.run; text = r.text; plan = r.plan; counted_from = r.counted_from; mode = r.mode; start = r.start }

@@ -229,7 +229,7 @@ fn run_again(
     match way {
         Way::Searches(found) => search_on(debuggee, outputs, start, again, found),
         Way::Returns(to, _) => {
-            let steps = go_on(debuggee, outputs, to, SLICE_LIMIT);
+            let steps = go_on(debuggee, to, SLICE_LIMIT);
             (way, again + steps)
         }
     }
@@ -254,13 +254,13 @@ fn search_on(
 {
     let last = start - 1;
     let limit = last.min(again + SLICE_LIMIT);
-    let found = search(debuggee, outputs, limit, found);
+    let found = search(debuggee, limit, found);
     if limit < last {
         return (Way::Searches(found), limit);
     }
     let (to, reason) = stop_at(found);
     go_back(debuggee, outputs, to);
-    let steps = go_on(debuggee, outputs, to, again + SLICE_LIMIT - limit);
+    let steps = go_on(debuggee, to, again + SLICE_LIMIT - limit);
     (Way::Returns(to, reason), limit + steps)
 }
 

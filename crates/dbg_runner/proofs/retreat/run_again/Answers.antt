@@ -1,6 +1,6 @@
 use Rattle.dbg_runner.proofs.Common.{IsOn, debugged_program, subst}
 use Rattle.dbg_runner.specs.declared.retreat.Way.{Way}
-use Rattle.dbg_runner.proofs.Alive.{runs_before}
+use Rattle.pl0_machine.proofs.Alive.{runs_before}
 use Rattle.dbg_runner.proofs.retreat.run_again.Goals as goal
 
 pub go_on-steps-requires-clause-runs : goal.go_on-steps-requires-clause-runs

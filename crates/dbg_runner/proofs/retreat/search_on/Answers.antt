@@ -1,5 +1,5 @@
-use Rattle.dbg_runner.proofs.Common.{ap, arith, Debugged, gone_back, min-le_left, min-le_right, debugged_program, RunsAt, slice_limit, subst, sym, ◌+◌, ◌-◌, ◌∙◌}
-use Rattle.dbg_runner.proofs.Alive.{runs_before}
+use Rattle.dbg_runner.proofs.Common.{ap, arith, Debugged, gone_back, min-le_left, debugged_program, RunsAt, slice_limit, subst, sym, ◌+◌, ◌-◌, ◌∙◌}
+use Rattle.pl0_machine.proofs.Alive.{runs_before}
 use Rattle.dbg_runner.proofs.Returning.{floor_below, within_turn, turns}
 use Rattle.dbg_runner.proofs.retreat.search_on.Goals as goal
 
@@ -8,12 +8,6 @@ search-found-requires-clause-runs c =
     let least = min-le_left (c.args.start - 1) (c.args.again + slice_limit) in
     runs_before (debugged_program c.args.debuggee.now) c.min-limit.result c.args.start
     (omega (arith, c.min-limit.ensures, least)) c.requires.begun
-
-pub search-found-requires-clause-few : goal.search-found-requires-clause-few
-search-found-requires-clause-few c =
-    let least = min-le_right (c.args.start - 1) (c.args.again + slice_limit) in
-    let again = c.requires.on.2 in
-    omega (arith, c.min-limit.ensures, least, again)
 
 pub go_back-requires-clause-within : goal.go_back-requires-clause-within
 go_back-requires-clause-within c =

@@ -1,4 +1,4 @@
-use Rattle.std.proofs.Common.{◌≡◌, ◌+◌, ◌-◌, ◌≤◌, Some, length, option_map, sym, subst, arith}
+use Rattle.std.proofs.Common.{◌≡◌, ◌+◌, ◌-◌, ◌≤◌, length, option_map, sym, subst, arith}
 use Rattle.std.specs.Vec.{vec_capacity}
 use Rattle.pl0_machine.specs.declared.outcome.StepOutcome.TheVariants.{Went}
 use Rattle.pl0_machine.specs.Stretches.{RanOn}
