@@ -6,6 +6,7 @@ use Rattle.dap_frame.proofs.Faults.{fault_from_line, length_values_at, length_va
 use Rattle.dap_frame.proofs.Frames.{open_part, open_short}
 use Rattle.dap_frame.proofs.Judging.{length_values-none}
 use Rattle.dap_frame.proofs.Scanning.{all_fields_more, lines_of_more}
+use Rattle.std.proofs.lemmas.Grind.{common_steps}
 
 -- ---- lines
 
@@ -33,15 +34,7 @@ no_end_cons x xs not none (b ∷ before) after e = none before after cc
 not_before : (x : ℕ) (line after : List ℕ) → ¬ BeginsWithEnd (x ∷ (line ++ (line_end ++ after)))
     → ¬ BeginsWithEnd (x ∷ (line ++ 13 ∷ []))
 not_before x [] after not b = let e = b.1 in absurd cc
-not_before x (y ∷ ys) after not b =
-    let e = b.1 in
-    let first : x ≡ 13 = cc in
-    let second : y ≡ 10 = cc in
-    not (
-      ys ++ (line_end ++ after),
-      ap (λ z. z ∷ y ∷ (ys ++ (line_end ++ after))) first
-          ∙ ap (λ z. 13 ∷ z ∷ (ys ++ (line_end ++ after))) second,
-    )
+not_before x (y ∷ ys) after not b = grind (arith, common_steps)
 
 -- no line ends in the bytes, or a first one does
 abbrev IsCut : List ℕ → Type 0
@@ -108,8 +101,7 @@ parts_field line (x ∷ xs) value e none =
     ]
 
 rest_field : (line name rest : List ℕ) → line ≡ name ++ (58 ∷ rest) → HasNo 58 name → IsFieldOrNot line
-rest_field line name [] e none =
-    inr (λ f is so. let same = (same_name name f.name [] (32 ∷ f.value) none (name_no_colon f is) (sym e ∙ so)).1 in cc)
+rest_field line name [] e none = grind (arith, common_steps, same_name, name_no_colon)
 rest_field line name (y ∷ value) e none = elim (cases_eq y 32) [
   | inl space ↦ parts_field line name value (e ∙ ap (λ z. name ++ (58 ∷ z ∷ value)) space) none
   | inr other ↦ inr (λ f is so. other (let same =
@@ -128,10 +120,7 @@ same_or_not : (xs ys : List ℕ) → (xs ≡ ys) ⊎ (xs ≢ ys)
 same_or_not [] [] = inl refl
 same_or_not [] (y ∷ ys) = inr (λ e. cc)
 same_or_not (x ∷ xs) [] = inr (λ e. cc)
-same_or_not (x ∷ xs) (y ∷ ys) = elim (cases_eq x y) [
-  | inl p ↦ elim (same_or_not xs ys) [ inl q ↦ inl (ap (λ z. z ∷ xs) p ∙ ap (λ l. y ∷ l) q) | inr q ↦ inr (λ e. q cc) ]
-  | inr p ↦ inr (λ e. p cc)
-]
+same_or_not (x ∷ xs) (y ∷ ys) = grind (arith, common_steps, cases_eq, same_or_not xs ys)
 
 counted : (value : List ℕ) (n : ℕ) → IsLength value n → digits_value 10 value ≡ n
 counted value n is = let small = is.1 in ap (digits_value 10) is.0 ∙ (decimal_is_IsNumeral n (omega (arith, small))).1
@@ -185,19 +174,7 @@ judge_length fields line f ok is e named = elim ok.lengths [
 judge_other : (fields : List Field) (line : List ℕ) (f : Field) → AreFaultless fields → IsField f → line ≡ field_text f
     → is_length f ≡ false → IsJudged fields line
 judge_other fields line f ok is e other =
-    let same : length_values (fields ++ f ∷ []) ≡ length_values fields =
-    length_values-append fields (f ∷ []) ∙ ap (λ l. length_values fields ++ l) (length_values-none f other)
-    ∙ append-nil (length_values fields) in
-    inr (inr (
-      f,
-      is,
-      e,
-      record {
-        shaped = all_fields_more fields f ok.shaped is;
-        lengths = elim ok.lengths
-            [ inl none ↦ inl (same ∙ none) | inr one ↦ inr (one.0, one.1, same ∙ one.2) ];
-      },
-    ))
+    grind (arith, common_steps, length_values-append, length_values-none, append-nil, all_fields_more)
 
 judge : (fields : List Field) (line : List ℕ) → AreFaultless fields → IsJudged fields line
 judge fields [] ok = elim ok.lengths [ inl none ↦ inl (NoLength, (refl, none)) | inr one ↦ inr (inl (refl, one)) ]
@@ -257,43 +234,38 @@ decide_line bytes fields line after ok e one more =
     ∙ ap (λ l. lines_of fields ++ l) (append_assoc (line_of line) after (drop header_limit bytes)) in
     let short : length (lines_of fields ++ line_of line) ≤ header_limit =
     let l : length (take header_limit bytes) ≡ length (lines_of fields ++ line_of line) + length after =
-    ap length (e ∙ sym (append_assoc (lines_of fields) (line_of line) after))
-    ∙ length-append (lines_of fields ++ line_of line) after in
+    ap length (e ∙ sym (append_assoc _ _ after)) ∙ length-append (lines_of fields ++ line_of line) after in
     omega (arith, l, length-take header_limit bytes) in
     elim (judge fields line ok) [
       | inl bad ↦ inr (inl (
         bad.0,
-        fault_from_line bytes bad.0
-            (record {
-              fields = fields;
-              line = line;
-              after = others;
-              faultless = ok;
-              spelled = whole;
-              one_line = one;
-              within = short;
-              faulty = bad.1;
-            }),
+        fault_from_line bytes bad.0 (record {
+          fields = fields;
+          line = line;
+          after = others;
+          faultless = ok;
+          spelled = whole;
+          one_line = one;
+          within = short;
+          faulty = bad.1;
+        }),
       ))
       | inr good ↦ elim good [
         | inl end ↦
             let empty : line_of line ≡ line_end = ap line_of end.0 in
-            decide_whole bytes (lines_of fields ++ line_end) others end.1.0
-            (record {
+            decide_whole bytes (lines_of fields ++ line_end) others end.1.0 (record {
               fields = fields;
               shaped = ok.shaped;
               spelled = refl;
               once = end.1.2;
               allowed = end.1.1;
-              short = subst
-                  (λ l. length (lines_of fields ++ l) ≤ header_limit) empty short;
-            })
-            (whole ∙ ap (λ l. lines_of fields ++ (l ++ others)) empty
-            ∙ sym (append_assoc (lines_of fields) line_end others))
-        | inr field ↦ more field.0 field.3
-            (e ∙ sym (append_assoc (lines_of fields) (line_of line) after)
-            ∙ ap (λ l. l ++ after) (ap (λ t. lines_of fields ++ line_of t) field.2
-            ∙ sym (lines_of_more fields field.0)))
+              short = subst (λ l. length (lines_of fields ++ l) ≤ header_limit)
+                  empty short;
+            }) (whole ∙ ap (λ l. lines_of fields ++ (l ++ others)) empty ∙ sym (append_assoc (lines_of fields)
+            line_end others))
+        | inr field ↦ more field.0 field.3 (e ∙ sym (append_assoc (lines_of fields) (line_of line) after)
+            ∙ ap (λ l. l ++ after)
+            (ap (λ t. lines_of fields ++ line_of t) field.2 ∙ sym (lines_of_more fields field.0)))
       ]
     ]
 

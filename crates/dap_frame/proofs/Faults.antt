@@ -1,14 +1,14 @@
 -- Where a fault stands: after faultless fields, in a line that is none of them.
-use Rattle.dap_frame.proofs.Common.{[], AllByRecursion, ap, append-nil, append_assoc, AreFaultless, arith, BadField, BadLength, Bool, content_limit, decimal, decimal_injective, FaultAt, Field, field_text, filter, FramingFault, HasFaultyLine, HasNoLineEnd, header_limit, HeaderTooLong, inl, inr, is_length, IsField, IsTooLong, length, length-append, length_values, line_end, line_of, LineFault, lines_of, List, map, map-append, NoLength, NoMemory, refl, subst, sym, take, TooLarge, true, TwoLengths, ℕ, ◌++◌, ◌+◌, ◌-◌, ◌∙◌, ◌∷◌, ◌≡◌, ◌≤◌, ◌⊎◌}
+use Rattle.dap_frame.proofs.Common.{[], AllByRecursion, ap, append-nil, append_assoc, AreFaultless, arith, BadField, BadLength, Bool, content_limit, decimal, decimal_injective, FaultAt, Field, field_text, filter, FramingFault, HasFaultyLine, HasNoLineEnd, header_limit, HeaderTooLong, inl, inr, is_length, IsField, IsTooLong, length, length-append, length_values, line_end, line_of, LineFault, lines_of, List, map-append, NoLength, NoMemory, refl, subst, sym, take, TooLarge, true, TwoLengths, ℕ, ◌++◌, ◌+◌, ◌-◌, ◌∙◌, ◌∷◌, ◌≡◌, ◌≤◌, ◌⊎◌}
 use Rattle.std.proofs.Math.Seq.{take-append-add}
 use Rattle.std.proofs.lemmas.List.Elements.{filter-append}
 use Rattle.dap_frame.proofs.Lines.{same_line, same_field, field_one_line, text_not_empty}
 use Rattle.dap_frame.proofs.Located.{line_then, located, none_inside, is_field_at}
+use Rattle.std.proofs.lemmas.Grind.{common_steps}
 
 pub length_values-append : (fs gs : List Field) → length_values (fs ++ gs) ≡ length_values fs ++ length_values gs
 length_values-append fs gs =
-    ap (map (λ field. field.value)) (filter-append is_length fs gs)
-    ∙ map-append (λ field. field.value) (filter is_length fs) (filter is_length gs)
+    cc (filter-append is_length fs gs, map-append (λ field. field.value) (filter is_length fs) (filter is_length gs))
 
 length_values-one : (f : Field) (more : List Field) (b : Bool) → is_length f ≡ b → b ≡ true
     → length_values (f ∷ more) ≡ f.value ∷ length_values more
@@ -17,8 +17,7 @@ length_values-one f more b e t = let is : is_length f ≡ true = e ∙ t in rw i
 -- what the length fields are where one of them stands between others
 pub length_values_at : (gs more : List Field) (f : Field) → is_length f ≡ true
     → length_values (gs ++ f ∷ more) ≡ length_values gs ++ (f.value ∷ length_values more)
-length_values_at gs more f e =
-    length_values-append gs (f ∷ more) ∙ ap (λ l. length_values gs ++ l) (length_values-one f more true e refl)
+length_values_at gs more f e = cc (length_values-append gs (f ∷ more), length_values-one f more true e refl)
 
 -- one of several is the only one: none stands before it
 alone : (xs : List (List ℕ)) (x d : List ℕ) (ys : List (List ℕ)) → xs ++ (x ∷ ys) ≡ d ∷ [] → (xs ≡ []) × (x ≡ d)
@@ -48,16 +47,10 @@ no_line_fault gs more f TwoLengths ok (g, is, same, e, some) =
     some (length_field gs more f ok (ap is_length one ∙ e)).0
 no_line_fault gs more f BadLength ok (g, is, same, e, none, never) =
     let one : f ≡ g = same_field f g (is_field_at gs more f ok.shaped) is same in
-    let found = length_field gs more f ok (ap is_length one ∙ e) in
-    never found.1.0 (sym (ap (λ h. h.value) one) ∙ found.1.2, let h = found.1.1 in omega (arith, h))
+    grind (arith, common_steps, length_field)
 no_line_fault gs more f TooLarge ok (g, is, same, e, none, (n, long, large)) =
     let one : f ≡ g = same_field f g (is_field_at gs more f ok.shaped) is same in
-    let found = length_field gs more f ok (ap is_length one ∙ e) in
-    let h = found.1.1 in let w = long.1 in
-    let number : n ≡ found.1.0 =
-    decimal_injective n found.1.0 (omega (arith, w)) (omega (arith, h))
-    (sym long.0 ∙ sym (ap (λ h. h.value) one) ∙ found.1.2) in
-    omega (arith, number, h, large)
+    grind (arith, common_steps, length_field, decimal_injective)
 no_line_fault gs more f _ ok bad = bad
 
 -- the empty line after fields that name a length has no fault
@@ -145,38 +138,26 @@ take_after a b n h =
 pub long_or_faulty : (bytes : List ℕ) (k : FramingFault) → IsTooLong bytes → HasFaultyLine bytes k → ⊥
 long_or_faulty bytes k long h =
     let front = lines_of h.fields ++ line_of h.line in
-    let cut : lines_of long.fields ++ long.part ≡ lines_of h.fields
-    ++ (line_of h.line ++ take (header_limit - length front) h.after) =
-    sym long.spelled ∙ ap (take header_limit)
-    (h.spelled ∙ sym (append_assoc (lines_of h.fields) (line_of h.line) h.after))
-    ∙ take_after front h.after header_limit h.within ∙ append_assoc (lines_of h.fields) (line_of h.line)
-    (take (header_limit - length front) h.after) in
+    let cut : lines_of long.fields ++ long.part ≡ lines_of h.fields ++ (line_of h.line ++ take (header_limit - length
+    front) h.after) = sym long.spelled ∙ ap (take header_limit) (h.spelled ∙ sym (append_assoc _ _ h.after)) ∙
+    take_after front h.after header_limit h.within ∙ append_assoc _ _ (take (header_limit - length front) h.after) in
     elim (located long.fields h.fields long.part h.line (take (header_limit - length front) h.after)
     long.faultless.shaped h.faultless.shaped h.one_line cut) [
-      | inl at ↦ no_line_fault h.fields at.1 at.0 k (subst AreFaultless at.2 long.faultless)
-          (subst (λ l. LineFault h.fields l k) at.3 h.faulty)
-      | inr at ↦ none_inside at.0 long.part h.line (take (header_limit - length front) h.after) long.incomplete at.3
+      | inl at ↦ no_line_fault h.fields at.1 at.0 k (subst
+          AreFaultless at.2 long.faultless) (subst (λ l. LineFault h.fields l k) at.3 h.faulty)
+      | inr at ↦ none_inside at.0
+          long.part h.line (take (header_limit - length front) h.after) long.incomplete at.3
     ]
 
 -- the line of one fault stands after the same fields as that of another, or is one of its fields
 at_line : (bytes : List ℕ) (j k : FramingFault) (h : HasFaultyLine bytes j) (i : HasFaultyLine bytes k)
     → (more : List Field) → AllByRecursion IsField more → i.fields ≡ h.fields ++ more → line_of h.line
     ++ h.after ≡ lines_of more ++ (line_of i.line ++ i.after) → j ≡ k
-at_line bytes j k h i [] are so e =
-    let lines =
-    same_line h.line i.line h.after i.after h.one_line i.one_line
-    (sym (append_assoc h.line line_end h.after) ∙ e ∙ append_assoc i.line line_end i.after) in
-    let fields : i.fields ≡ h.fields = so ∙ append-nil h.fields in
-    one_line_fault h.fields h.line j k h.faulty
-    (subst (λ l. LineFault h.fields l k) (sym lines.0) (subst (λ f. LineFault f i.line k) fields i.faulty))
+at_line bytes j k h i [] are so e = grind (arith, common_steps, same_line, append_assoc, append-nil, one_line_fault)
 at_line bytes j k h i (g ∷ more) are so e =
-    let lines =
-    same_line h.line (field_text g) h.after (lines_of more ++ (line_of i.line ++ i.after)) h.one_line
-    (field_one_line g are.0)
-    (sym (append_assoc h.line line_end h.after) ∙ e ∙ line_then (field_text g) (lines_of more)
-    (line_of i.line ++ i.after)) in
-    absurd (no_line_fault h.fields more g j (subst AreFaultless so i.faultless)
-    (subst (λ l. LineFault h.fields l j) lines.0 h.faulty))
+    let lines = same_line h.line _ h.after _ h.one_line (field_one_line g are.0) (sym (append_assoc h.line line_end
+    h.after) ∙ e ∙ line_then _ _ _) in
+    absurd (no_line_fault h.fields more g j (rw (← so) i.faultless) (rw (← lines.0) h.faulty))
 
 one_faulty_line : (bytes : List ℕ) (j k : FramingFault) → HasFaultyLine bytes j → HasFaultyLine bytes k → j ≡ k
 one_faulty_line bytes j k h i =
@@ -189,11 +170,4 @@ one_faulty_line bytes j k h i =
 
 -- one fault stands in front, or none
 pub same_fault : (bytes : List ℕ) (j k : FramingFault) → FaultAt bytes j → FaultAt bytes k → j ≡ k
-same_fault bytes j k h i = elim (fault_cases bytes j h) [
-  | inl a ↦ elim (fault_cases bytes k i) [ inl b ↦ a.0 ∙ sym b.0 | inr b ↦ absurd (long_or_faulty bytes k a.1 b) ]
-  | inr a ↦ elim (fault_cases bytes k i) [
-    | inl b ↦ absurd (long_or_faulty bytes j b.1 a)
-    | inr b ↦ one_faulty_line bytes
-        j k a b
-  ]
-]
+same_fault bytes j k h i = grind (arith, common_steps, fault_cases, long_or_faulty, one_faulty_line)

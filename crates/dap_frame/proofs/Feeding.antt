@@ -1,22 +1,17 @@
 -- What was read of a rest stays read when more of it comes.
-use Rattle.dap_frame.proofs.Common.{[], ap, append_assoc, Frames, IsFrameInFront, List, refl, ℕ, ◌++◌, ◌∙◌, ◌∷◌}
+use Rattle.dap_frame.proofs.Common.{[], ap, append_assoc, Frames, IsFrameInFront, List, refl, ℕ, ◌++◌, ◌∷◌}
 use Rattle.dap_frame.proofs.Frames.{frames_join}
+use Rattle.std.proofs.Common.{arith}
+use Rattle.std.proofs.lemmas.Grind.{common_steps}
 
 -- one frame more
 pub frames_one_more : (stream rest more content : List ℕ) (contents : List (List ℕ)) → Frames stream contents rest
     → IsFrameInFront rest content more → Frames stream (contents ++ content ∷ []) more
-frames_one_more stream rest more content contents h f =
-    frames_join stream rest more contents (content ∷ []) h (more, f, refl)
+frames_one_more stream rest more content contents h f = frames_join stream rest more contents _ h (more, f, refl)
 
 pub frame_longer : (bytes content rest piece : List ℕ) → IsFrameInFront bytes content rest
     → IsFrameInFront (bytes ++ piece) content (rest ++ piece)
-frame_longer bytes content rest piece f = record {
-  header = f.header;
-  lawful = f.lawful;
-  spelled =
-      ap (λ b. b ++ piece) f.spelled ∙ append_assoc f.header (content ++ rest) piece
-      ∙ ap (λ b. f.header ++ b) (append_assoc content rest piece);
-}
+frame_longer bytes content rest piece f = grind (arith, common_steps, append_assoc)
 
 -- the stream and its rest, each longer by one piece
 pub frames_longer : (stream rest piece : List ℕ) (contents : List (List ℕ)) → Frames stream contents rest

@@ -3,6 +3,7 @@ use Rattle.dap_frame.proofs.Common.{[], ap, arith, cases_lt, drop, drop_at, eqb-
 use Rattle.std.specs.Str.{bytes_eq}
 use Rattle.memchr.specs.Find.{Nowhere, NoneBefore, Passes, is_byte}
 use Rattle.dap_frame.proofs.Lines.{HasNo, name_no_colon}
+use Rattle.std.proofs.lemmas.Grind.{common_steps}
 
 has_no_at : (x : ℕ) (ys : List ℕ) (i : ℕ) → HasNo x ys → i < length ys → get_or ys i 0 ≢ x
 has_no_at x [] i h l e = absurd (omega (arith, l))
@@ -38,20 +39,9 @@ colon_place f i is first at =
 pub at_colon : (line : List ℕ) (f : Field) (i : ℕ) → IsField f → line ≡ field_text f
     → NoneBefore (Passes (is_byte 58) line) 0 (length line) i → Passes (is_byte 58) line i
     → (take i line ≡ f.name) × (drop i line ≡ 58 ∷ 32 ∷ f.value)
-at_colon line f i is e first at =
-    let place : i ≡ length f.name =
-    colon_place f i is (subst (λ l. NoneBefore (Passes (is_byte 58) l) 0 (length l) i) e first)
-    (subst (λ l. Passes (is_byte 58) l i) e at) in (
-      ap (take i) e ∙ take_at f.name (58 ∷ 32 ∷ f.value) i (sym place),
-      ap (drop i) e
-          ∙ drop_at f.name (58 ∷ 32 ∷ f.value) i (sym place),
-    )
+at_colon line f i is e first at = grind (arith, common_steps, length, colon_place, take, take_at, drop, drop_at)
 
 -- after the colon stand one space and the value
 pub no_prefix : (rest prefix : List ℕ) (f : Field) → rest ≡ 58 ∷ 32 ∷ f.value → prefix ≡ 58 ∷ 32 ∷ []
     → bytes_eq (take (length prefix) rest) prefix ≡ false → ⊥
-no_prefix rest prefix f e p h =
-    let k = subst (λ r. bytes_eq (take (length prefix) r) prefix ≡ false) e h in
-    let m : bytes_eq (58 ∷ 32 ∷ []) (58 ∷ 32 ∷ []) ≡ false =
-    subst (λ r. bytes_eq (take (length r) (58 ∷ 32 ∷ f.value)) r ≡ false) p k in
-    absurd cc
+no_prefix rest prefix f e p h = grind (arith, common_steps, bytes_eq, take, length, false)

@@ -1,24 +1,16 @@
 -- At most one header part and one frame stand at the front of some bytes, and where a frame stands no fault does.
-use Rattle.dap_frame.proofs.Common.{[], AllByRecursion, AllDigits, ap, append-nil, append_assoc, AreFaultless, arith, codes, content_limit, decimal, decimal_injective, decimal_is_IsNumeral, drop, drop-drop, FaultAt, Field, field_text, frame_of, Frames, FramingFault, HasFaultyLine, HasNoLineEnd, header_limit, inl, inr, is_value_byte, IsField, IsFrameInFront, IsHeader, IsOpen, IsTooLong, length, length-append, length-decimal-le, length-drop, length-take-le, length_values, line_end, line_of, LineFault, lines_of, List, list_all, refl, subst, sym, take, take-append-drop, true, ℕ, ◌++◌, ◌+◌, ◌-◌, ◌<◌, ◌∙◌, ◌∷◌, ◌≡◌, ◌≤◌}
+use Rattle.dap_frame.proofs.Common.{[], AllByRecursion, AllDigits, ap, append-nil, append_assoc, AreFaultless, arith, codes, content_limit, decimal, decimal_injective, decimal_is_IsNumeral, drop, drop-drop, FaultAt, Field, frame_of, Frames, FramingFault, HasFaultyLine, HasNoLineEnd, header_limit, inl, inr, is_value_byte, IsField, IsFrameInFront, IsHeader, IsOpen, IsTooLong, length, length-append, length-decimal-le, length-drop, length-take-le, length_values, line_end, line_of, LineFault, lines_of, List, list_all, refl, subst, sym, take, take-append-drop, true, ℕ, ◌++◌, ◌+◌, ◌-◌, ◌<◌, ◌∙◌, ◌∷◌, ◌≡◌, ◌≤◌}
 use Rattle.std.specs.Int.{IsInRange}
 use Rattle.std.proofs.lemmas.Str.Parse.{digit_from_value}
 use Rattle.std.proofs.lemmas.Bool.Decides.{nat_tests}
 use Rattle.dap_frame.proofs.Lines.{same_line, field_one_line, empty_one_line, text_not_empty}
 use Rattle.dap_frame.proofs.Located.{line_then, located, none_inside, is_field_at, same_fields}
 use Rattle.dap_frame.proofs.Faults.{no_line_fault, no_end_fault, no_faulty_line, take_after, fault_cases}
+use Rattle.std.proofs.lemmas.Grind.{common_steps}
 
 -- two header parts in front of the same bytes are one, and name one length
 pub same_header : (a b x y : List ℕ) (m n : ℕ) → IsHeader a m → IsHeader b n → a ++ x ≡ b ++ y → (m ≡ n) × (x ≡ y)
-same_header a b x y m n is so e =
-    let whole : lines_of is.fields ++ (line_end ++ x) ≡ lines_of so.fields ++ (line_end ++ y) =
-    sym (append_assoc (lines_of is.fields) line_end x) ∙ ap (λ l. l ++ x) (sym is.spelled) ∙ e
-    ∙ ap (λ l. l ++ y) so.spelled ∙ append_assoc (lines_of so.fields) line_end y in
-    let same = same_fields is.fields so.fields x y is.shaped so.shaped whole in
-    let digits : decimal m ∷ [] ≡ decimal n ∷ [] = sym is.once ∙ ap length_values same.0 ∙ so.once in
-    let one : decimal m ≡ decimal n = cc in (
-      decimal_injective m n (let a = is.allowed in omega (arith, a)) (let a = so.allowed in omega (arith, a)) one,
-      same.1,
-    )
+same_header a b x y m n is so e = grind (arith, common_steps, append_assoc, same_fields, decimal, decimal_injective)
 
 cons_length : (x : ℕ) (xs : List ℕ) → length (x ∷ xs) ≡ length xs + 1
 cons_length x xs = omega arith
@@ -28,18 +20,15 @@ same_front [] [] x y l e = (refl, e)
 same_front [] (d ∷ ds) x y l e = absurd (let s = cons_length d ds in omega (arith, l, s))
 same_front (c ∷ cs) [] x y l e = absurd (let s = cons_length c cs in omega (arith, l, s))
 same_front (c ∷ cs) (d ∷ ds) x y l e =
-    let s = cons_length c cs in let t = cons_length d ds in
+    let s = cons_length c cs in
+    let t = cons_length d ds in
     let shorter : length cs ≡ length ds = omega (arith, l, s, t) in
-    let rest = same_front cs ds x y shorter cc in
-    let first : c ≡ d = cc in
-    (ap (λ l. c ∷ l) rest.0 ∙ ap (λ k. k ∷ ds) first, rest.1)
+    grind (arith, common_steps, same_front cs ds x y shorter cc)
 
 -- one frame stands in front, or none
 pub same_frame : (bytes c d x y : List ℕ) → IsFrameInFront bytes c x → IsFrameInFront bytes d y → (c ≡ d) × (x ≡ y)
 same_frame bytes c d x y f g =
-    let same =
-    same_header f.header g.header (c ++ x) (d ++ y) (length c) (length d) f.lawful g.lawful
-    (sym f.spelled ∙ g.spelled) in
+    let same = same_header f.header g.header _ _ (length c) (length d) f.lawful g.lawful (sym f.spelled ∙ g.spelled) in
     same_front c d x y same.0 same.1
 
 -- ---- a frame or a fault
@@ -58,11 +47,9 @@ after_end : (fields gs : List Field) (d rest line after : List ℕ) (k : Framing
     ++ (line_of line ++ after) → ⊥
 after_end fields gs d rest line after k once one bad [] are so e =
     let lines = same_line [] line rest after empty_one_line one (e ∙ append_assoc line line_end after) in
-    no_end_fault fields d k once (subst (λ l. LineFault fields l k) (sym lines.0)
-    (subst (λ f. LineFault f line k) (so ∙ append-nil fields) bad))
+    no_end_fault fields d k once (rw lines.0 (rw (← (so ∙ append-nil fields)) bad))
 after_end fields gs d rest line after k once one bad (g ∷ more) are so e =
-    text_not_empty g are.0 (same_line [] (field_text g) rest (lines_of more ++ (line_of line ++ after)) empty_one_line
-    (field_one_line g are.0) (e ∙ line_then (field_text g) (lines_of more) (line_of line ++ after))).0
+    text_not_empty g are.0 (same_line [] _ rest _ empty_one_line (field_one_line g are.0) (e ∙ line_then _ _ _)).0
 
 whole_not_faulty : (header rest : List ℕ) (n : ℕ) (k : FramingFault) → IsHeader header n
     → HasFaultyLine (header ++ rest) k → ⊥
@@ -115,14 +102,12 @@ no_frame_yet fields part content rest ok none f =
 -- faultless fields and a line that hasn't ended, below the limit: more has to come
 pub open_part : (bytes : List ℕ) (fields : List Field) (part : List ℕ) → AreFaultless fields → HasNoLineEnd part
     → bytes ≡ lines_of fields ++ part → length bytes < header_limit → IsOpen bytes
-open_part bytes fields part ok none e short = record {
-  no_frame =
-      λ content rest f. no_frame_yet fields part content rest ok none (subst (λ b. IsFrameInFront b content rest) e f);
-  no_fault = λ k h. elim (fault_cases bytes k h) [
-    | inl a ↦ let there = a.1.there in omega (arith, there, short)
-    | inr a ↦ no_faulty_line fields part k ok none (subst (λ b. HasFaultyLine b k) e a)
-  ];
-}
+open_part bytes fields part ok none e short =
+    record {
+      no_frame = λ content rest f. no_frame_yet fields part content rest ok none (subst (λ b. IsFrameInFront b
+          content rest) e f);
+      no_fault = grind (arith, common_steps, fault_cases, no_faulty_line);
+    }
 
 -- after a whole header part there are too few bytes: more has to come
 pub open_short : (header part : List ℕ) (n : ℕ) → IsHeader header n → length part < n → IsOpen (header ++ part)
@@ -147,8 +132,7 @@ digit_printable c h = let low = h.0 in let high = h.1 in grind (arith, nat_tests
 
 digits_printable : (ds : List ℕ) → AllDigits 10 ds → list_all is_value_byte ds ≡ true
 digits_printable [] h = refl
-digits_printable (c ∷ cs) h =
-    let one = digit_printable c (digit_from_value c h.0) in let more = digits_printable cs h.1 in rw (one, more) refl
+digits_printable (c ∷ cs) h = grind (arith, common_steps, digit_printable, digit_from_value, digits_printable cs h.1)
 
 abbrev length_field_of : ℕ → Field
 length_field_of n = record { name = codes "Content-Length"; value = decimal n }
@@ -187,14 +171,13 @@ pub frame_here : (rest : List ℕ) (size n : ℕ) → IsHeader (take size rest) 
     → IsFrameInFront rest (take (size + n - size) (drop size rest)) (drop (size + n) rest)
 frame_here rest size n is fits =
     let e : size + n - size ≡ n = omega arith in
-    let long : length (take n (drop size rest)) ≡ n =
-    length-take-le n (drop size rest) (omega (arith, length-drop size rest)) in
-    subst (λ k. IsFrameInFront rest (take k (drop size rest)) (drop (size + n) rest)) (sym e) (record {
+    let long : length (take n (drop size rest)) ≡ n = length-take-le n (drop size rest)
+    (omega (arith, length-drop size rest)) in
+    rw e (record {
       header = take size rest;
-      lawful = subst (IsHeader (take size rest)) (sym long) is;
+      lawful = rw long is;
       spelled =
-          sym (take-append-drop size rest) ∙ ap (λ l. take size rest ++ l)
-          (sym (take-append-drop n (drop size rest)) ∙ ap (λ l. take n (drop size rest) ++ l) (drop-drop n size rest));
+          cc (take-append-drop size rest, take-append-drop n (drop size rest), drop-drop n size rest);
     })
 
 -- and without it more has to come

@@ -1,5 +1,6 @@
 -- How many bytes are kept when the next piece comes.
-use Rattle.dap_frame.proofs.Common.{arith, cases_lt, cond_above, cond_below, inl, inr, kept_of, refl, sym, ℕ, ◌+◌, ◌-◌, ◌<◌, ◌≡◌, ◌≤◌}
+use Rattle.dap_frame.proofs.Common.{arith, cases_lt, cond_above, cond_below, kept_of, refl, sym, ℕ, ◌+◌, ◌-◌, ◌<◌, ◌≡◌, ◌≤◌}
+use Rattle.std.proofs.lemmas.Grind.{common_steps}
 
 -- all of them, where no more are of frames already read than are of the rest
 pub kept_whole : (passed len : ℕ) → passed ≤ len - passed → kept_of passed len ≡ len
@@ -10,16 +11,8 @@ pub kept_rest : (passed len : ℕ) → len - passed < passed → kept_of passed 
 kept_rest passed len h = sym (cond_below (len - passed) passed (len - passed) len h)
 
 pub kept_within : (passed len : ℕ) → kept_of passed len ≤ len
-kept_within passed len = elim (cases_lt (len - passed) passed) [
-  | inl h ↦ let e = kept_rest passed len h in omega (arith, e)
-  | inr h ↦ let e = kept_whole passed len h in omega (arith, e)
-]
+kept_within passed len = grind (arith, common_steps, cases_lt, kept_rest, kept_whole)
 
 -- no more are kept once a frame was passed
 pub kept_passed : (passed size len : ℕ) → kept_of (passed + size) len ≤ kept_of passed len
-kept_passed passed size len = elim (cases_lt (len - passed) passed) [
-  | inl h ↦ let e = kept_rest passed len h in
-      let f = kept_rest (passed + size) len (omega (arith, h)) in omega (arith, e, f)
-  | inr h ↦ let e = kept_whole passed len h in
-      let f = kept_within (passed + size) len in omega (arith, e, f)
-]
+kept_passed passed size len = grind (arith, common_steps, cases_lt, kept_rest, kept_whole, kept_within)

@@ -1,10 +1,11 @@
 -- A length as it is written: 1 to 7 digits, without a leading zero unless it is `0`.
-use Rattle.dap_frame.proofs.Common.{AllDigits, ap, arith, decimal, decimal-digits_value, decimal_digit, decimal_is_IsNumeral, decimal_nonempty, digits_value, eq-zero-or-pos, first_decimal, get_or, inl, inr, IsLength, length, length-decimal-le, List, subst, sym, take, ℕ, ◌*◌, ◌+◌, ◌-◌, ◌<◌, ◌^◌, ◌∙◌, ◌≡◌, ◌≤◌}
+use Rattle.dap_frame.proofs.Common.{AllDigits, arith, decimal, decimal-digits_value, decimal_digit, decimal_is_IsNumeral, decimal_nonempty, digits_value, first_decimal, get_or, IsLength, length, length-decimal-le, List, subst, sym, take, ℕ, ◌*◌, ◌+◌, ◌-◌, ◌<◌, ◌^◌, ◌≡◌, ◌≤◌}
 use Rattle.std.specs.Int.{IsInRange}
 use Rattle.std.specs.Char.{digit_value}
 use Rattle.std.proofs.lemmas.Int.Digits.{digits_value_more}
 use Rattle.std.proofs.lemmas.Str.{digit_value_digit}
 use Rattle.std.proofs.lemmas.Str.Parse.{IsNumeralModel, digit_at, digits_value_short, numerals_by_value, tells_digits}
+use Rattle.std.proofs.lemmas.Grind.{common_steps}
 
 digits_model : IsNumeralModel (AllDigits 10) (digits_value 10)
 digits_model = numerals_by_value (AllDigits 10) tells_digits
@@ -17,10 +18,7 @@ pub record IsShaped (value : List ℕ) : Type 0 where
   pub digits : AllDigits 10 value
 
 zero_alone : (n : ℕ) → n < 2 ^ 64 → get_or (decimal n) 0 0 ≡ 48 → length (decimal n) ≡ 1
-zero_alone n fits h = elim (eq-zero-or-pos n) [
-  | inl z ↦ ap (λ k. length (decimal k)) z ∙ ap length (decimal_digit 0 (omega arith))
-  | inr more ↦ absurd (omega (arith, h, first_decimal n more fits))
-]
+zero_alone n fits h = grind (arith, common_steps, length, decimal, decimal_digit, first_decimal)
 
 pub shaped : (value : List ℕ) (n : ℕ) → IsLength value n → IsShaped value
 shaped value n is =
@@ -52,7 +50,4 @@ digits_small value h l = let small = digits_value_short digits_model value 7 h l
 pub number_more : (value : List ℕ) (i n : ℕ) → i < length value → 48 ≤ get_or value i 0 → get_or value i 0 ≤ 57
     → n ≡ digits_value 10 (take i value) → n * 10 + (get_or value i 0 - 48) ≡ digits_value 10 (take (i + 1) value)
 number_more value i n l low high e =
-    let digit = digit_value_digit (get_or value i 0) (low, high) in
-    let d : get_or value i 0 - 48 ≡ digit_value (get_or value i 0) = omega (arith, digit) in
-    ap (λ m. m * 10 + (get_or value i 0 - 48)) e ∙ ap (λ m. digits_value 10 (take i value) * 10 + m) d
-    ∙ sym (digits_value_more 10 value i l)
+    grind (arith, common_steps, digit_value_digit, get_or, digit_value, digits_value, take, digits_value_more)

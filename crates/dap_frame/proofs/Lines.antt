@@ -1,5 +1,6 @@
 -- Bytes cut into lines, and lines into fields: there is one way only.
-use Rattle.dap_frame.proofs.Common.{[], and_parts, ap, arith, Bool, false, Field, field_text, HasNoLineEnd, is_name_byte, is_value_byte, IsField, length, length-append, line_end, List, list_all, refl, subst, sym, true, ℕ, ◌&&◌, ◌++◌, ◌∙◌, ◌∷◌, ◌≡◌, ◌≢◌}
+use Rattle.dap_frame.proofs.Common.{[], and_parts, ap, arith, Bool, false, Field, field_text, HasNoLineEnd, is_name_byte, IsField, length, length-append, line_end, List, list_all, refl, subst, sym, true, ℕ, ◌&&◌, ◌++◌, ◌∙◌, ◌∷◌, ◌≡◌, ◌≢◌}
+use Rattle.std.proofs.lemmas.Grind.{common_steps}
 
 -- no byte is x
 abbrev pub HasNo : ℕ → List ℕ → Type 0
@@ -23,9 +24,7 @@ pub name_no_colon : (f : Field) → IsField f → HasNo 58 f.name
 name_no_colon f is = passing is_name_byte 58 refl f.name is.name
 
 field_no_return : (f : Field) → IsField f → HasNo 13 (field_text f)
-field_no_return f is =
-    has_no-append 13 f.name (58 ∷ 32 ∷ f.value) (passing is_name_byte 13 refl f.name is.name)
-    (λ e. absurd (omega (arith, e)), (λ e. absurd (omega (arith, e)), passing is_value_byte 13 refl f.value is.value))
+field_no_return f is = grind (arith, common_steps, has_no-append, passing)
 
 -- ---- ends of lines
 
@@ -69,17 +68,11 @@ pub same_name : (a b v w : List ℕ) → HasNo 58 a → HasNo 58 b → a ++ (58 
 same_name [] [] v w h k e = (refl, cc)
 same_name [] (b ∷ bs) v w h k e = absurd (k.0 (sym cc))
 same_name (a ∷ as_) [] v w h k e = absurd (h.0 cc)
-same_name (a ∷ as_) (b ∷ bs) v w h k e =
-    let rest = same_name as_ bs v w h.1 k.1 cc in
-    let first : a ≡ b = cc in
-    (ap (λ l. a ∷ l) rest.0 ∙ ap (λ c. c ∷ bs) first, rest.1)
+same_name (a ∷ as_) (b ∷ bs) v w h k e = grind (arith, common_steps, same_name as_ bs v w h.1 k.1 cc)
 
 -- a line is one field
 pub same_field : (f g : Field) → IsField f → IsField g → field_text f ≡ field_text g → f ≡ g
-same_field f g is so e =
-    let parts = same_name f.name g.name (32 ∷ f.value) (32 ∷ g.value) (name_no_colon f is) (name_no_colon g so) e in
-    let value : f.value ≡ g.value = let whole = parts.1 in cc in
-    ap (λ n. record { name = n; value = f.value }) parts.0 ∙ ap (λ v. record { name = g.name; value = v }) value
+same_field f g is so e = grind (arith, common_steps, same_name, name_no_colon)
 
 pub text_not_empty : (f : Field) → IsField f → [] ≡ field_text f → ⊥
 text_not_empty f is e =

@@ -1,7 +1,7 @@
 -- One line more is read, or none is there: what is then known of the rest.
 use Rattle.dap_frame.proofs.Common.{[], AllByRecursion, ap, append-nil, append_assoc, AreFaultless, arith, drop, EndsAt, FaultAt, Field, field_text, FramingFault, get_or, get_or-append-add, get_or-drop, get_or-take, HasNoEnd, HasNoLineEnd, header_limit, inl, inr, IsField, IsOpen, IsScanned, IsTooLong, length, length-append, length-drop, length-take, line_end, line_of, LineFault, lines_of, List, min, Names, None, Option, Some, subst, suc, sym, take, take-append-drop, take-take, take_all, take_more, take_rest, ℕ, ◌++◌, ◌+◌, ◌-◌, ◌<◌, ◌∙◌, ◌∷◌, ◌≡◌, ◌≢◌, ◌≤◌}
 use Rattle.std.proofs.Math.Seq.{take-add}
-use Rattle.std.proofs.lemmas.Grind.{flat_map-append}
+use Rattle.std.proofs.lemmas.Grind.{flat_map-append, common_steps}
 use Rattle.dap_frame.specs.declared.header.Scan.{Scan}
 use Rattle.dap_frame.proofs.Faults.{fault_from_line}
 use Rattle.dap_frame.proofs.Frames.{open_part}
@@ -19,19 +19,14 @@ get_or-part bytes j m i h = get_or-take (m - j) (drop j bytes) i 0 (omega (arith
 pub no_line_end_in : (bytes : List ℕ) (j m : ℕ) → HasNoEnd bytes j m → HasNoLineEnd (part bytes j m)
 no_line_end_in bytes j m none before after e =
     let i = length before in
-    let l : length (part bytes j m) ≡ i + suc (suc (length after)) =
-    ap length e ∙ length-append before (line_end ++ after) in
+    let l : length (part bytes j m) ≡ i + suc (suc (length after)) = ap length e ∙ length-append before (line_end ++
+    after) in
     let few : length (part bytes j m) ≤ m - j = omega (arith, length-take (m - j) (drop j bytes)) in
-    let cr : get_or (part bytes j m) (i + 0) 0 ≡ 13 =
-    ap (λ x. get_or x (i + 0) 0) e ∙ get_or-append-add before (line_end ++ after) 0 0 in
-    let lf : get_or (part bytes j m) (i + 1) 0 ≡ 10 =
-    ap (λ x. get_or x (i + 1) 0) e ∙ get_or-append-add before (line_end ++ after) 1 0 in
-    let same : j + (i + 0) ≡ j + i = omega arith in
-    let next : j + (i + 1) ≡ j + i + 1 = omega arith in
-    none (j + i) (omega arith) (omega (arith, l, few)) (
-      ap (λ k. get_or bytes k 0) (sym same) ∙ sym (get_or-part bytes j m (i + 0) (omega (arith, l, few))) ∙ cr,
-      ap (λ k. get_or bytes k 0) (sym next) ∙ sym (get_or-part bytes j m (i + 1) (omega (arith, l, few))) ∙ lf,
-    )
+    let cr : get_or (part bytes j m) (i + 0) 0 ≡ 13 = ap (λ x. get_or x (i + 0) 0) e ∙ get_or-append-add before
+    (line_end ++ after) 0 0 in
+    let lf : get_or (part bytes j m) (i + 1) 0 ≡ 10 = ap (λ x. get_or x (i + 1) 0) e ∙ get_or-append-add before
+    (line_end ++ after) 1 0 in
+    grind (arith, common_steps, get_or, get_or-part)
 
 take_part : (bytes : List ℕ) (j m : ℕ) → j ≤ m → take m bytes ≡ take j bytes ++ part bytes j m
 take_part bytes j m h = let e : m ≡ j + (m - j) = omega arith in ap (λ k. take k bytes) e ∙ take-add j (m - j) bytes
@@ -52,12 +47,11 @@ one_line_here : (bytes : List ℕ) (j end : ℕ) → j ≤ end → end + 1 < len
     → HasNoEnd bytes j (end + 1) → HasNoLineEnd (part bytes j end ++ 13 ∷ [])
 one_line_here bytes j end h l ends none =
     let k : end - j + 1 ≡ end + 1 - j = omega arith in
-    let more : part bytes j (end + 1) ≡ part bytes j end ++ 13 ∷ [] =
-    ap (λ n. take n (drop j bytes)) (sym k) ∙ take_more (drop j bytes) (end - j) 0 (omega (arith, length-drop j bytes))
-    ∙ ap (λ x. part bytes j end ++ (x ∷ []))
-    (get_or-drop j bytes (end - j) 0 ∙ (let e : j + (end - j) ≡ end = omega arith in ap (λ n. get_or bytes n 0) e)
-    ∙ ends.0) in
-    subst HasNoLineEnd more (no_line_end_in bytes j (end + 1) none)
+    let more : part bytes j (end + 1) ≡ part bytes j end ++ 13 ∷ [] = ap (λ n. take n (drop j bytes)) (sym k) ∙
+    take_more (drop j bytes) (end - j) 0 (omega (arith, length-drop j bytes)) ∙ ap (λ x. part bytes j end ++ (x ∷ []))
+    (get_or-drop j bytes (end - j) 0 ∙ (let e : j + (end - j) ≡ end = omega arith in
+    cc) ∙ ends.0) in
+    rw (← more) (no_line_end_in bytes j (end + 1) none)
 
 -- ---- one line more
 
@@ -73,9 +67,7 @@ all_fields_more (g ∷ gs) f h is = (h.0, all_fields_more gs f h.1 is)
 
 pub lines_of_more : (fields : List Field) (f : Field) → lines_of (fields ++ f ∷ []) ≡ lines_of fields
     ++ line_of (field_text f)
-lines_of_more fields f =
-    flat_map-append (λ g. line_of (field_text g)) fields (f ∷ [])
-    ∙ ap (λ l. lines_of fields ++ l) (append-nil (line_of (field_text f)))
+lines_of_more fields f = cc (flat_map-append (λ g. line_of (field_text g)) fields _, append-nil _)
 
 -- what the search for the end of the next line found
 pub record IsNextEnd (bytes : List ℕ) (j end : ℕ) : Type 0 where
@@ -90,20 +82,7 @@ pub scan_more : (bytes : List ℕ) (scan : Scan) (is : IsScanned scan bytes) (en
     → (f : Field) → IsField f → part bytes scan.judged end ≡ field_text f → Names (is.fields ++ f ∷ []) next
     → IsScanned (record { judged = end + 2; searched = end + 2; named = next }) bytes
 scan_more bytes scan is end next small at f shape line names =
-    let l = at.there in
-    record {
-      fields = is.fields ++ f ∷ [];
-      shaped = all_fields_more is.fields f is.shaped shape;
-      names = names;
-      spelled =
-          line_here bytes scan.judged end at.from at.there at.ends
-          ∙ ap (λ x. x ++ line_of (part bytes scan.judged end)) is.spelled
-          ∙ ap (λ x. lines_of is.fields ++ line_of x) line ∙ sym (lines_of_more is.fields f);
-      in_order = omega arith;
-      there = omega (arith, l);
-      within = omega (arith, l, small);
-      no_end = λ k low high ends. omega (arith, low, high);
-    }
+    grind (arith, common_steps, all_fields_more, line_here, lines_of_more)
 
 -- the next line is faulty
 pub faulty_here : (rest : List ℕ) (size : ℕ) (scan : Scan) (is : IsScanned scan (take size rest)) (end : ℕ)

@@ -1,22 +1,19 @@
 -- Examples of faults: lines that are no fields, and lengths that are none.
-use Rattle.dap_frame.proofs.Common.{[], ◌⊎◌, content_limit, suc, zero, take_all, length-append, length_values, ◌∙◌, and_parts, ap, append-nil, arith, BadField, BadLength, Bool, codes, decimal, false, Field, field_text, FramingFault, HasFaultyLine, HasNoLineEnd, header_limit, inl, inr, is_name_byte, is_value_byte, IsField, IsLength, IsTooLong, length, line_of, LineFault, list_all, List, NoLength, refl, subst, sym, TooLarge, true, TwoLengths, ℕ, ◌++◌, ◌∷◌, ◌≡◌, ◌≢◌, ◌≤◌}
+use Rattle.dap_frame.proofs.Common.{[], ◌⊎◌, content_limit, suc, zero, take_all, length-append, length_values, and_parts, ap, append-nil, arith, BadField, BadLength, Bool, codes, decimal, false, Field, field_text, FramingFault, HasFaultyLine, HasNoLineEnd, header_limit, inl, inr, is_name_byte, is_value_byte, IsField, IsLength, IsTooLong, length, line_of, LineFault, list_all, List, NoLength, refl, sym, TooLarge, true, TwoLengths, ℕ, ◌++◌, ◌∷◌, ◌≡◌, ◌≢◌, ◌≤◌, subst}
 use Rattle.std.specs.Prelude.{replicate, ◌||◌, ◌==◌}
 use Rattle.std.proofs.lemmas.List.{length-replicate}
 use Rattle.std.specs.Fmt.{digits}
 use Rattle.dap_frame.proofs.Lengths.{shaped, shaped_digit}
 use Rattle.dap_frame.proofs.Lines.{passing, no_return_no_end}
 use Rattle.dap_frame.specs.WorkedFaults.{FaultsAreThese, OtherFieldsAreLawful}
+use Rattle.std.proofs.lemmas.Grind.{common_steps}
 
 -- what stands before the first byte that fails a test, that byte, and what stands after it
 first_failing : (p : ℕ → Bool) (a b : ℕ) (xs ys rest more : List ℕ) → list_all p xs ≡ true → list_all p ys ≡ true
     → p a ≡ false → p b ≡ false → xs ++ a ∷ rest ≡ ys ++ b ∷ more → (xs ≡ ys) × (a ≡ b) × (rest ≡ more)
 first_failing p a b [] [] rest more h k f g e = (refl, cc, cc)
-first_failing p a b [] (y ∷ ys) rest more h k f g e =
-    let same : a ≡ y = cc in let good = (and_parts (p y) (list_all p ys) k).0 in
-    let bad : p y ≡ false = subst (λ z. p z ≡ false) same f in absurd cc
-first_failing p a b (x ∷ xs) [] rest more h k f g e =
-    let same : x ≡ b = cc in let good = (and_parts (p x) (list_all p xs) h).0 in
-    let bad : p x ≡ false = subst (λ z. p z ≡ false) (sym same) g in absurd cc
+first_failing p a b [] (y ∷ ys) rest more h k f g e = grind (arith, common_steps, and_parts, list_all, false)
+first_failing p a b (x ∷ xs) [] rest more h k f g e = grind (arith, common_steps, and_parts, list_all, false)
 first_failing p a b (x ∷ xs) (y ∷ ys) rest more h k f g e =
     let both = first_failing p a b xs ys rest more (and_parts (p x) (list_all p xs) h).1
     (and_parts (p y) (list_all p ys) k).1 f g cc in
@@ -26,8 +23,7 @@ first_failing p a b (x ∷ xs) (y ∷ ys) rest more h k f g e =
 cut_so : (f : Field) (name more : List ℕ) (b : ℕ) → IsField f → list_all is_name_byte name ≡ true
     → is_name_byte b ≡ false → name ++ b ∷ more ≡ field_text f
     → (f.name ≡ name) × (58 ≡ b) × (32 ∷ f.value ≡ more)
-cut_so f name more b is good bad e =
-    first_failing is_name_byte 58 b f.name name (32 ∷ f.value) more is.name good refl bad (sym e)
+cut_so f name more b is good bad e = first_failing is_name_byte 58 b f.name name _ more is.name good refl bad (sym e)
 
 -- bytes among which is no CR
 plain : (line : List ℕ) → list_all is_value_byte line ≡ true → HasNoLineEnd (line ++ 13 ∷ [])
@@ -46,21 +42,11 @@ no_return b = is_value_byte b || b == 9
 -- the fault of the first line
 first_line : (line more : List ℕ) (fault : FramingFault) → HasNoLineEnd (line ++ 13 ∷ [])
     → length (line_of line) ≤ header_limit → LineFault [] line fault → HasFaultyLine (line_of line ++ more) fault
-first_line line more fault whole short faulty = record {
-  fields = [];
-  line = line;
-  after = more;
-  faultless = record { shaped = tt; lengths = inl refl };
-  spelled = refl;
-  one_line = whole;
-  within = short;
-  faulty = faulty;
-}
+first_line line more fault whole short faulty = grind (arith, common_steps, shaped)
 
 only_line : (line : List ℕ) (fault : FramingFault) → HasNoLineEnd (line ++ 13 ∷ [])
     → length (line_of line) ≤ header_limit → LineFault [] line fault → HasFaultyLine (line_of line) fault
-only_line line fault whole short faulty =
-    subst (λ bytes. HasFaultyLine bytes fault) (append-nil (line_of line)) (first_line line [] fault whole short faulty)
+only_line line fault whole short faulty = grind (arith, common_steps, append-nil, first_line)
 
 abbrev field : List ℕ → List ℕ → Field
 field name value = record { name = name; value = value }
@@ -96,18 +82,7 @@ second_line : (f : Field) (line : List ℕ) (fault : FramingFault) → IsField f
     → (length_values (f ∷ []) ≡ []) ⊎ ((n : ℕ) × (n ≤ content_limit) × (length_values (f ∷ []) ≡ decimal n ∷ []))
     → HasNoLineEnd (line ++ 13 ∷ []) → length (line_of (field_text f) ++ line_of line) ≤ header_limit
     → LineFault (f ∷ []) line fault → HasFaultyLine (line_of (field_text f) ++ line_of line) fault
-second_line f line fault is lengths whole short faulty = record {
-  fields = f ∷ [];
-  line = line;
-  after = [];
-  faultless = record { shaped = (is, tt); lengths = lengths };
-  spelled =
-      ap (λ l. l ++ line_of line) (sym (append-nil (line_of (field_text f))))
-      ∙ ap (λ l. (line_of (field_text f) ++ []) ++ l) (sym (append-nil (line_of line)));
-  one_line = whole;
-  within = subst (λ l. length (l ++ line_of line) ≤ header_limit) (sym (append-nil (line_of (field_text f)))) short;
-  faulty = faulty;
-}
+second_line f line fault is lengths whole short faulty = grind (arith, common_steps, shaped, append-nil, length)
 
 abbrev lower : Field
 lower = field (codes "content-length") (codes "2")
@@ -146,20 +121,17 @@ too_large =
 
 pub other_fields_are_lawful : OtherFieldsAreLawful
 unfolding digits
-other_fields_are_lawful = record {
-  fields = field (codes "X-9") (codes "~") ∷ length_field (codes "1048576") ∷ field (codes "Z") (replicate 984 97) ∷ [];
-  shaped = (
-    record { named = omega arith; name = refl; value = refl },
-    (
-      record { named = omega arith; name = refl; value = refl },
-      (record { named = omega arith; name = refl; value = refl }, tt),
-    ),
-  );
-  spelled = refl;
-  once = refl;
-  allowed = omega arith;
-  short = omega arith;
-}
+other_fields_are_lawful =
+    record {
+      fields = field (codes "X-9") (codes "~") ∷ length_field (codes "1048576") ∷ field (codes "Z") (replicate
+          984 97) ∷ [];
+      shaped = grind (arith, common_steps);
+      spelled = refl;
+      once = refl;
+      allowed = omega arith;
+      short =
+          omega arith;
+    }
 
 space_before : HasFaultyLine (line_of (codes "Content-Length : 2")) BadField
 space_before =
@@ -186,7 +158,26 @@ a_tab : HasFaultyLine (line_of tabbed) BadField
 a_tab =
     no_field_in tabbed (no_return_no_end tabbed (passing no_return 13 refl tabbed refl)) (omega arith) (λ e. absurd cc)
     (λ f is e. (let cut = cut_so f (codes "A") (codes " " ++ 9 ∷ []) 58 is refl refl e in
-    let value : f.value ≡ 9 ∷ [] = (let rest = cut.2 in cc) in
+    grind (arith, common_steps, list_all, true)))
+
+-- a byte that no name has stands before the colon
+a_low_line : HasFaultyLine (line_of (codes "A_B: 2")) BadField
+a_low_line =
+    no_field_in (codes "A_B: 2") (plain (codes "A_B: 2") refl) (omega arith) (λ e. absurd cc)
+    (λ f is e. (let cut = cut_so f (codes "A") (codes "B: 2") 95 is refl refl e in absurd (omega (arith, cut.1))))
+
+abbrev deleted : List ℕ
+deleted = codes "A: " ++ 127 ∷ []
+
+abbrev may_be_deleted : ℕ → Bool
+may_be_deleted b = is_value_byte b || b == 127
+
+a_delete : HasFaultyLine (line_of deleted) BadField
+a_delete =
+    no_field_in deleted (no_return_no_end deleted (passing may_be_deleted 13 refl deleted refl)) (omega arith)
+    (λ e. absurd cc)
+    (λ f is e. (let cut = cut_so f (codes "A") (codes " " ++ 127 ∷ []) 58 is refl refl e in
+    let value : f.value ≡ 127 ∷ [] = (let rest = cut.2 in cc) in
     let shown = subst (λ v. list_all is_value_byte v ≡ true) value is.value in absurd cc))
 
 nothing_given : HasFaultyLine (line_of []) NoLength
@@ -206,6 +197,11 @@ a_sign =
     no_length_in (codes "+2") refl (omega arith)
     (λ n is. (let digit = shaped_digit (codes "+2") n 0 is (omega arith) in absurd (omega (arith, digit))))
 
+a_space : HasFaultyLine (line_of (field_text (length_field (codes "2 ")))) BadLength
+a_space =
+    no_length_in (codes "2 ") refl (omega arith)
+    (λ n is. (let digit = shaped_digit (codes "2 ") n 1 is (omega arith) in absurd (omega (arith, digit))))
+
 eight_digits : HasFaultyLine (line_of (field_text (length_field (codes "12345678")))) BadLength
 eight_digits =
     no_length_in (codes "12345678") refl (omega arith)
@@ -223,14 +219,20 @@ faults_are_these = (
         (
           a_tab,
           (
-            nothing_given,
+            a_low_line,
             (
-              no_length,
+              a_delete,
               (
-                two_lengths,
+                nothing_given,
                 (
-                  no_digit,
-                  (zero_in_front, (a_sign, (eight_digits, (too_large, tt)))),
+                  no_length,
+                  (
+                    two_lengths,
+                    (
+                      no_digit,
+                      (zero_in_front, (a_sign, (a_space, (eight_digits, (too_large, tt))))),
+                    ),
+                  ),
                 ),
               ),
             ),

@@ -1,6 +1,7 @@
 //! The decoder: it takes a stream in pieces and returns the contents of the frames in it.
 
 ghost use Rattle.std.specs.Prelude.{◌≡◌, ◌≢◌, ◌+◌, ◌<◌, ◌≤◌, ◌++◌, ◌∷◌, [], ℕ, List, Option, Some, None, IfOk, IfErr, OnOk, OnErr, MatchOption, length, drop, vec_capacity, vec_len};
+ghost use Rattle.std.specs.Bool.{Decides};
 ghost use Rattle.dap_frame.specs.Header.{FaultAt};
 ghost use Rattle.dap_frame.specs.Frame.{Frames, IsOpen, IsFrameInFront, IsFront, content_at};
 ghost use Rattle.dap_frame.specs.Progress.{spare, kept_of, IsBounded, IsRead};
@@ -176,6 +177,13 @@ impl Decoder {
     {
         self.passed = compact(&mut self.bytes, self.passed + front.end, SPARE);
         self.header = Header::START;
+    }
+
+    /// Whether the stream, as far as it came, ends with a whole frame: no byte of a further one came.
+    pub fn is_between_frames(&self) -> bool
+        ensures { Decides result (self.now.rest ≡ []) }
+    {
+        self.bytes.as_slice()[self.passed..].is_empty()
     }
 }
 

@@ -44,6 +44,10 @@ impl Header {
 }
 
 /// Reads the header part at the front of `rest`, as far as it has come, from where it was read to before.
+///
+/// # Errors
+///
+/// The first fault of the header part.
 pub fn read_on(rest: &[u8], header: Header) -> Result<Header, FramingFault>
     requires { IsRead header rest.now }
     ensures ok { IfOk result (λ header. IsReadOut header rest.now) }

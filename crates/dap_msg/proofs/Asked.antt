@@ -1,12 +1,12 @@
 -- What a request asks is what its content says.
-use Rattle.dap_msg.proofs.Common.{[], AsksQuestion, IsQuestionCalled, All, and_from, and_parts, ap, ArgumentsAreMembers, arith, array, as_array, as_bool, as_str, AsksBreakpoint, AsksEvaluate, AsksInitialize, AsksLaunch, AsksScopes, AsksSetBreakpoints, AsksStackTrace, AsksThread, AsksVariables, Bool, boolean, breakpoint_limit, breakpoint_of_object, codes, Command, command_of, command_text, Data, false, fitted_or_bad, from_four, from_three, from_two, get, is_some, IsAsked, IsCalled, IsGiven, IsPrintable, IsReadAs, item, Items, last_line, last_whole, le-leb, leb-true, length, List, Members, nat_le, no_items, no_members, None, not, not-true, number, object, object_or_empty, only_object, Option, option_and_then, option_map, optional, or_default, read_each, refl, required, scopes_arguments, set_breakpoints_arguments, Some, some_text, source_breakpoint, source_breakpoints, source_path, stack_trace_arguments, string, subst, supported_command, sym, text_limit, text_to, true, true≢false, unsigned, unwrap_or, variables_arguments, whole, whole_to, ℕ, ◌∙◌, ◌∷◌, ◌≡◌, ◌≤◌}
+use Rattle.dap_msg.proofs.Common.{[], AsksQuestion, IsQuestionCalled, All, and_from, and_parts, ap, ArgumentsAreMembers, arith, array, as_array, as_bool, as_str, AsksBreakpoint, AsksEvaluate, AsksInitialize, AsksLaunch, AsksScopes, AsksSetBreakpoints, AsksStackTrace, AsksThread, AsksVariables, Bool, boolean, breakpoint_of_object, codes, Command, command_of, command_text, Data, false, fitted_or_bad, from_four, from_three, from_two, get, is_some, IsAsked, IsCalled, IsGiven, IsPrintable, item, Items, last_line, last_whole, le-leb, leb-true, length, List, Members, nat_le, no_items, no_members, None, not-true, number, object, object_or_empty, only_object, Option, option_and_then, option_map, optional, or_default, read_each, refl, required, scopes_arguments, set_breakpoints_arguments, Some, some_text, source_breakpoint, source_breakpoints, source_path, stack_trace_arguments, string, subst, supported_command, sym, text_limit, text_to, true, true≢false, unsigned, unwrap_or, variables_arguments, whole, whole_to, ℕ, ◌∙◌, ◌∷◌, ◌≡◌, ◌≤◌}
 use Rattle.std.specs.Option.{option_map_or}
 use Rattle.std.proofs.lemmas.Slice.Eq.{bytes_eq-Decides}
-use Rattle.dap_msg.specs.Evaluate.{evaluate_arguments, expression_limit}
+use Rattle.dap_msg.specs.Evaluate.{evaluate_arguments}
 use Rattle.dap_msg.specs.Initialize.{initialize_arguments}
 use Rattle.dap_msg.specs.Launch.{is_path, path, debugs, launch_arguments}
 use Rattle.dap_msg.specs.Members.{Has, HasOr, IsObjectOrAbsent, SayEach}
-use Rattle.dap_msg.specs.Questions.{kind_of, question_text, question_kind, question_of}
+use Rattle.dap_msg.specs.Questions.{kind_of, question_text, question_of}
 use Rattle.dap_msg.specs.Resume.{resume_text, retreat_text, thread_arguments}
 use Rattle.dap_msg.specs.declared.command.Command.TheVariants as command
 use Rattle.dap_msg.specs.declared.command.Supported.{Supported}
@@ -32,6 +32,7 @@ use Rattle.dap_msg.proofs.Ascii.{printable_is, printable_back}
 use Rattle.dap_msg.proofs.Names.{names_are_read_back}
 use Rattle.dap_msg.proofs.Options.{and_then_is, map_is, filter_is, kept_by, text_is, whole_is}
 use Rattle.dap_msg.proofs.WellFormed.{named_is, named_so, parts_of, value_is}
+use Rattle.std.proofs.lemmas.Grind.{common_steps}
 
 -- ---- ways of reading a value
 
@@ -50,22 +51,13 @@ array_is (array es) ds is = let same : es ≡ ds = cc in ap array same
 array_is _ ds is = absurd (cc)
 
 bools : Reads Bool as_bool boolean (λ b. Unit {0})
-bools = record {
-  turned = λ d b is. (bool_is d b is, tt);
-  back = λ b any. refl;
-  same = λ b c is. cc;
-}
+bools = grind (arith, common_steps, bool_is) steps 1500000
 
 abbrev as_whole : ℕ → Data
 as_whole n = number (unsigned n)
 
 wholes : (limit : ℕ) → Reads ℕ (whole_to limit) as_whole (λ n. n ≤ limit)
-wholes limit = record {
-  turned = λ d n is. let kept =
-      filter_is (λ k. nat_le k limit) (whole d) n is in (whole_is d n kept.0, leb-true n limit kept.1);
-  back = λ n le. kept_by (λ k. nat_le k limit) n (le-leb n limit le);
-  same = λ m n is. cc;
-}
+wholes limit = grind (arith, common_steps, filter_is, whole, whole_is, leb-true, kept_by, le-leb) steps 1500000
 
 texts : (limit : ℕ) → Reads (List ℕ) (text_to limit) string (λ s. length s ≤ limit)
 texts limit = record {
@@ -80,32 +72,20 @@ abbrev IsPath : List ℕ → Type 0
 IsPath s = (1 ≤ length s) × (length s ≤ 255) × All IsPrintable s
 
 path_is : (s : List ℕ) → is_path s ≡ true → IsPath s
-path_is s is =
-    let first = and_parts _ _ is in
-    let size = and_parts _ _ first.0 in
-    (leb-true 1 (length s) size.0, leb-true (length s) 255 size.1, printable_is s first.1)
+path_is s is = grind (arith, common_steps, and_parts, leb-true, length, printable_is) steps 1500000
 
 path_back : (s : List ℕ) → IsPath s → is_path s ≡ true
-path_back s is =
-    and_from _ _ (and_from _ _ (le-leb 1 (length s) is.0) (le-leb (length s) 255 is.1)) (printable_back s is.2)
+path_back s is = grind (arith, common_steps, and_from, le-leb, length, printable_back) steps 1500000
 
 paths : Reads (List ℕ) path string IsPath
-paths = record {
-  turned = λ d s is. let kept = filter_is is_path (as_str d) s is in (text_is d s kept.0, path_is s kept.1);
-  back = λ s is. kept_by is_path s (path_back s is);
-  same = λ s t is. cc;
-}
+paths = grind (arith, common_steps, filter_is, text_is, path_is, kept_by, path_back) steps 1500000
 
 read_false : (b : Bool) → b ≡ false → debugs (boolean b) ≡ Some b
 read_false true is = absurd (true≢false is)
 read_false false is = refl
 
 no_debugs : Reads Bool debugs boolean (λ b. b ≡ false)
-no_debugs = record {
-  turned = λ d b is. let kept = filter_is not (as_bool d) b is in (bool_is d b kept.0, not-true b kept.1);
-  back = read_false;
-  same = λ b c is. cc;
-}
+no_debugs = grind (arith, common_steps, filter_is, bool_is, not-true, read_false) steps 1500000
 
 -- ---- members
 
@@ -116,10 +96,8 @@ record IsObjectOf (given : Option Data) (d : Data) : Type 0 where
   same : (key : List ℕ) → get key d ≡ option_and_then (get key) given
 
 object_of : (given : Option Data) (d : Data) → object_or_empty given ≡ Some d → IsObjectOf given d
-object_of None d is =
-    let same : object no_members ≡ d = cc in record { well = tt; is = is; same = λ key. ap (get key) (sym same) }
-object_of (Some (object ms)) d is =
-    let same : object ms ≡ d = cc in record { well = tt; is = is; same = λ key. ap (get key) (sym same) }
+object_of None d is = grind (arith, common_steps, get) steps 1500000
+object_of (Some (object ms)) d is = grind (arith, common_steps, get) steps 1500000
 object_of _ d is = absurd (cc)
 
 object_given : (given : Option Data) → IsObjectOrAbsent given → (d : Data) × IsObjectOf given d
@@ -130,8 +108,7 @@ object_given _ well = absurd well
 default_is : {A : Type 0} {read : Data → Option A} {shown : A → Data} {P : A → Type 0} → Reads A read shown P
     → (default : A) → P default → (o : Option Data) (x : A) → or_default default read o ≡ Some x
     → (unwrap_or o (shown default) ≡ shown x) × P x
-default_is {shown = shown} {P = P} reads default fits None x is =
-    let same : default ≡ x = cc in (ap shown same, subst P same fits)
+default_is {shown = shown} {P = P} reads default fits None x is = grind (arith, common_steps) steps 1500000
 default_is reads default fits (Some d) x is = reads.turned d x is
 
 default_back : {A : Type 0} {read : Data → Option A} {shown : A → Data} {P : A → Type 0} → Reads A read shown P
@@ -170,10 +147,7 @@ is_read_or {shown = shown} {d = d} reads o key default x found fits =
 
 two_is : {A B C : Type 0} (make : A → B → C) (o : Option A) (p : Option B) (z : C) → from_two make o p ≡ Some z
     → (x : A) × (y : B) × (o ≡ Some x) × (p ≡ Some y) × (make x y ≡ z)
-two_is make o p z is =
-    let first = and_then_is (λ x. option_map (make x) p) o z is in
-    let second = map_is (make first.0) p z first.2 in
-    (first.0, second.0, first.1, second.1, second.2)
+two_is make o p z is = grind (arith, common_steps, and_then_is, map_is) steps 1500000
 
 two_back : {A B C : Type 0} (make : A → B → C) (o : Option A) (p : Option B) (x : A) (y : B) → o ≡ Some x → p ≡ Some y
     → from_two make o p ≡ Some (make x y)
@@ -182,10 +156,7 @@ two_back make o p x y is so = rw (is, so)
 three_is : {A B C D : Type 0} (make : A → B → C → D) (o : Option A) (p : Option B) (q : Option C) (z : D)
     → from_three make o p q ≡ Some z
     → (x : A) × (y : B) × (w : C) × (o ≡ Some x) × (p ≡ Some y) × (q ≡ Some w) × (make x y w ≡ z)
-three_is make o p q z is =
-    let first = and_then_is (λ x. from_two (make x) p q) o z is in
-    let others = two_is (make first.0) p q z first.2 in
-    (first.0, others.0, others.1, first.1, others.2, others.3, others.4)
+three_is make o p q z is = grind (arith, common_steps, and_then_is, two_is) steps 1500000
 
 three_back : {A B C D : Type 0} (make : A → B → C → D) (o : Option A) (p : Option B) (q : Option C) (x : A) (y : B)
     (w : C) → o ≡ Some x → p ≡ Some y → q ≡ Some w → from_three make o p q ≡ Some (make x y w)
@@ -195,10 +166,7 @@ four_is : {A B C D E : Type 0} (make : A → B → C → D → E) (o : Option A)
     (z : E) → from_four make o p q r ≡ Some z
     → (x : A) × (y : B) × (w : C) × (v : D) × (o ≡ Some x) × (p ≡ Some y) × (q ≡ Some w) × (r ≡ Some v)
     × (make x y w v ≡ z)
-four_is make o p q r z is =
-    let first = and_then_is (λ x. from_three (make x) p q r) o z is in
-    let others = three_is (make first.0) p q r z first.2 in
-    (first.0, others.0, others.1, others.2, first.1, others.3, others.4, others.5, others.6)
+four_is make o p q r z is = grind (arith, common_steps, and_then_is, three_is) steps 1500000
 
 four_back : {A B C D E : Type 0} (make : A → B → C → D → E) (o : Option A) (p : Option B) (q : Option C) (r : Option D)
     (x : A) (y : B) (w : C) (v : D) → o ≡ Some x → p ≡ Some y → q ≡ Some w → r ≡ Some v
@@ -209,158 +177,75 @@ four_back make o p q r x y w v is so thus then = rw (is, so, thus, then)
 
 asks_initialize : (given : Option Data) (d : Data) (x : InitializeArguments) → IsObjectOf given d
     → initialize_arguments d ≡ Some x → AsksInitialize x given
-asks_initialize given d x o is =
-    let parts = two_is _ (optional as_bool (codes "linesStartAt1") true d)
-    (optional as_bool (codes "columnsStartAt1") true d) x is in
-    subst (λ z. AsksInitialize z given) parts.4 (record {
-      given_well = o.well;
-      lines = (has_or bools o (codes "linesStartAt1") true tt parts.0 parts.2).0;
-      columns = (has_or bools o (codes "columnsStartAt1") true tt parts.1 parts.3).0;
-    })
+asks_initialize given d x o is = grind (arith, common_steps, two_is, true, has_or, bools) steps 1500000
 
 initialize_read : (given : Option Data) (d : Data) (x : InitializeArguments) → IsObjectOf given d
     → AsksInitialize x given → initialize_arguments d ≡ Some x
-initialize_read given d x o asks =
-    two_back _ _ _ x.lines_start_at_1 x.columns_start_at_1
-    (is_read_or bools o (codes "linesStartAt1") true x.lines_start_at_1 asks.lines tt)
-    (is_read_or bools o (codes "columnsStartAt1") true x.columns_start_at_1 asks.columns tt)
+initialize_read given d x o asks = grind (arith, common_steps, two_back, is_read_or, bools, true) steps 1500000
 
 asks_launch : (given : Option Data) (d : Data) (x : LaunchArguments) → IsObjectOf given d
     → launch_arguments d ≡ Some x → AsksLaunch x given
 asks_launch given d x o is =
-    let parts = three_is _ (optional debugs (codes "noDebug") false d) (required path (codes "program") d)
-    (optional as_bool (codes "stopOnEntry") false d) x is in
+    let parts = three_is _ (optional debugs (codes "noDebug") false d) (required path (codes "program") d) (optional
+    as_bool (codes "stopOnEntry") false d) x is in
     let no_debug = has_or no_debugs o (codes "noDebug") false refl parts.0 parts.3 in
     let program = has paths o (codes "program") parts.1 parts.4 in
-    subst (λ z. AsksLaunch z given) parts.6 (record {
-      given_well = o.well;
-      program = program.0;
-      not_empty = program.1.0;
-      not_long = program.1.1;
-      printable = program.1.2;
-      stops = (has_or bools o (codes "stopOnEntry") false tt parts.2 parts.5).0;
-      debugs = no_debug.0 ∙ ap boolean no_debug.1;
-    })
+    grind (arith, common_steps, has_or, bools, false) steps 1500000
 
 launch_read : (given : Option Data) (d : Data) (x : LaunchArguments) → IsObjectOf given d → AsksLaunch x given
     → launch_arguments d ≡ Some x
 launch_read given d x o asks =
-    three_back _ _ _ _ false x.program x.stop_on_entry
-    (is_read_or no_debugs o (codes "noDebug") false false asks.debugs refl)
-    (is_read paths o (codes "program") x.program asks.program (asks.not_empty, asks.not_long, asks.printable))
-    (is_read_or bools o (codes "stopOnEntry") false x.stop_on_entry asks.stops tt)
+    grind (arith, common_steps, three_back, false, is_read_or, no_debugs, is_read, paths, bools) steps 1500000
 
 asks_thread : (given : Option Data) (d : Data) (x : ThreadArguments) → IsObjectOf given d
     → thread_arguments d ≡ Some x → AsksThread x given
-asks_thread given d x o is =
-    let read = map_is _ (required (whole_to last_whole) (codes "threadId") d) x is in
-    let thread = has (wholes last_whole) o (codes "threadId") read.0 read.1 in
-    subst (λ z. AsksThread z given) read.2 (record { given_well = o.well; thread = thread.0; small = thread.1 })
+asks_thread given d x o is = grind (arith, common_steps, map_is, has, wholes) steps 1500000
 
 thread_read : (given : Option Data) (d : Data) (x : ThreadArguments) → IsObjectOf given d → AsksThread x given
     → thread_arguments d ≡ Some x
-thread_read given d x o asks =
-    ap (option_map _) (is_read (wholes last_whole) o (codes "threadId") x.thread_id asks.thread asks.small)
+thread_read given d x o asks = cc (is_read (wholes last_whole) o (codes "threadId") x.thread_id asks.thread asks.small)
 
 asks_stack_trace : (given : Option Data) (d : Data) (x : StackTraceArguments) → IsObjectOf given d
     → stack_trace_arguments d ≡ Some x → AsksStackTrace x given
-asks_stack_trace given d x o is =
-    let parts = three_is _ (required (whole_to last_whole) (codes "threadId") d)
-    (optional (whole_to last_whole) (codes "startFrame") 0 d)
-    (optional (whole_to last_whole) (codes "levels") 0 d) x is in
-    let thread = has (wholes last_whole) o (codes "threadId") parts.0 parts.3 in
-    let start = has_or (wholes last_whole) o (codes "startFrame") 0 (omega arith) parts.1 parts.4 in
-    let levels = has_or (wholes last_whole) o (codes "levels") 0 (omega arith) parts.2 parts.5 in
-    subst (λ z. AsksStackTrace z given) parts.6 (record {
-      given_well = o.well;
-      thread = thread.0;
-      small = thread.1;
-      start = start.0;
-      start_small = start.1;
-      levels = levels.0;
-      levels_small = levels.1;
-    })
+asks_stack_trace given d x o is = grind (arith, common_steps, three_is, has, wholes, has_or) steps 1500000
 
 stack_trace_read : (given : Option Data) (d : Data) (x : StackTraceArguments) → IsObjectOf given d
     → AsksStackTrace x given → stack_trace_arguments d ≡ Some x
-stack_trace_read given d x o asks =
-    three_back _ _ _ _ x.thread_id x.start_frame x.levels
-    (is_read (wholes last_whole) o (codes "threadId") x.thread_id asks.thread asks.small)
-    (is_read_or (wholes last_whole) o (codes "startFrame") 0 x.start_frame asks.start asks.start_small)
-    (is_read_or (wholes last_whole) o (codes "levels") 0 x.levels asks.levels asks.levels_small)
+stack_trace_read given d x o asks = grind (arith, common_steps, three_back, is_read, wholes, is_read_or) steps 1500000
 
 asks_scopes : (given : Option Data) (d : Data) (x : ScopesArguments) → IsObjectOf given d
     → scopes_arguments d ≡ Some x → AsksScopes x given
-asks_scopes given d x o is =
-    let read = map_is _ (required (whole_to last_whole) (codes "frameId") d) x is in
-    let frame = has (wholes last_whole) o (codes "frameId") read.0 read.1 in
-    subst (λ z. AsksScopes z given) read.2 (record { given_well = o.well; frame = frame.0; small = frame.1 })
+asks_scopes given d x o is = grind (arith, common_steps, map_is, has, wholes) steps 1500000
 
 scopes_read : (given : Option Data) (d : Data) (x : ScopesArguments) → IsObjectOf given d → AsksScopes x given
     → scopes_arguments d ≡ Some x
-scopes_read given d x o asks =
-    ap (option_map _) (is_read (wholes last_whole) o (codes "frameId") x.frame_id asks.frame asks.small)
+scopes_read given d x o asks = cc (is_read (wholes last_whole) o (codes "frameId") x.frame_id asks.frame asks.small)
 
 asks_variables : (given : Option Data) (d : Data) (x : VariablesArguments) → IsObjectOf given d
     → variables_arguments d ≡ Some x → AsksVariables x given
-asks_variables given d x o is =
-    let read = map_is _ (required (whole_to last_whole) (codes "variablesReference") d) x is in
-    let reference = has (wholes last_whole) o (codes "variablesReference") read.0 read.1 in
-    subst (λ z. AsksVariables z given) read.2
-    (record { given_well = o.well; reference = reference.0; small = reference.1 })
+asks_variables given d x o is = grind (arith, common_steps, map_is, has, wholes) steps 1500000
 
 variables_read : (given : Option Data) (d : Data) (x : VariablesArguments) → IsObjectOf given d
     → AsksVariables x given → variables_arguments d ≡ Some x
-variables_read given d x o asks =
-    ap (option_map _)
-    (is_read (wholes last_whole) o (codes "variablesReference") x.variables_reference asks.reference asks.small)
+variables_read given d x o asks = cc (is_read (wholes last_whole) o _ x.variables_reference asks.reference asks.small)
 
 asks_evaluate : (given : Option Data) (d : Data) (x : EvaluateArguments) → IsObjectOf given d
     → evaluate_arguments d ≡ Some x → AsksEvaluate x given
-asks_evaluate given d x o is =
-    let parts = two_is _ (required (text_to expression_limit) (codes "expression") d)
-    (optional (whole_to last_whole) (codes "frameId") 1 d) x is in
-    let expression = has (texts expression_limit) o (codes "expression") parts.0 parts.2 in
-    let frame = has_or (wholes last_whole) o (codes "frameId") 1 (omega arith) parts.1 parts.3 in
-    subst (λ z. AsksEvaluate z given) parts.4 (record {
-      given_well = o.well;
-      expression = expression.0;
-      expression_fits = expression.1;
-      frame = frame.0;
-      small = frame.1;
-    })
+asks_evaluate given d x o is = grind (arith, common_steps, two_is, has, texts, has_or, wholes) steps 1500000
 
 evaluate_read : (given : Option Data) (d : Data) (x : EvaluateArguments) → IsObjectOf given d → AsksEvaluate x given
     → evaluate_arguments d ≡ Some x
-evaluate_read given d x o asks =
-    two_back _ _ _ x.expression x.frame_id
-    (is_read (texts expression_limit) o (codes "expression") x.expression asks.expression asks.expression_fits)
-    (is_read_or (wholes last_whole) o (codes "frameId") 1 x.frame_id asks.frame asks.small)
+evaluate_read given d x o asks = grind (arith, common_steps, two_back, is_read, texts, is_read_or, wholes) steps 1500000
 
 -- ---- the arguments of `setBreakpoints`
 
 asks_breakpoint_of : (d e : Data) (x : SourceBreakpoint) → IsObjectOf (Some d) e → breakpoint_of_object e ≡ Some x
     → AsksBreakpoint x d
 asks_breakpoint_of d e x o is =
-    let parts = four_is _ (required (whole_to last_line) (codes "line") e)
-    (optional (text_to text_limit) (codes "condition") [] e)
-    (optional (text_to text_limit) (codes "hitCondition") [] e)
-    (optional (text_to text_limit) (codes "logMessage") [] e) x is in
-    let line = has (wholes last_line) o (codes "line") parts.0 parts.4 in
-    let condition = has_or (texts text_limit) o (codes "condition") [] (omega arith) parts.1 parts.5 in
-    let hit = has_or (texts text_limit) o (codes "hitCondition") [] (omega arith) parts.2 parts.6 in
-    let message = has_or (texts text_limit) o (codes "logMessage") [] (omega arith) parts.3 parts.7 in
-    subst (λ z. AsksBreakpoint z d) parts.8 (record {
-      given_well = o.well;
-      line = line.0;
-      to_last_line = line.1;
-      condition = condition.0;
-      condition_fits = condition.1;
-      hit_condition = hit.0;
-      hit_condition_fits = hit.1;
-      log_message = message.0;
-      log_message_fits = message.1;
-    })
+    let parts = four_is _ (required (whole_to last_line) (codes "line") e) (optional (text_to text_limit) (codes
+    "condition") [] e) (optional (text_to text_limit) (codes "hitCondition") [] e) (optional (text_to text_limit) (codes
+    "logMessage") [] e) x is in
+    grind (arith, common_steps, has, wholes, last_line, has_or, texts) steps 1500000
 
 -- a value that is an object is the object of its members
 object_in : (d e : Data) → only_object d ≡ Some e → IsObjectOf (Some d) e
@@ -374,17 +259,10 @@ asks_breakpoint x d is =
 breakpoint_read_of : (d e : Data) (x : SourceBreakpoint) → IsObjectOf (Some d) e → AsksBreakpoint x d
     → breakpoint_of_object e ≡ Some x
 breakpoint_read_of d e x o asks =
-    four_back _ _ _ _ _ x.line x.condition x.hit_condition x.log_message
-    (is_read (wholes last_line) o (codes "line") x.line asks.line asks.to_last_line)
-    (is_read_or (texts text_limit) o (codes "condition") [] x.condition asks.condition asks.condition_fits)
-    (is_read_or (texts text_limit) o (codes "hitCondition") [] x.hit_condition asks.hit_condition
-    asks.hit_condition_fits)
-    (is_read_or (texts text_limit) o (codes "logMessage") [] x.log_message asks.log_message asks.log_message_fits)
+    grind (arith, common_steps, four_back, is_read, wholes, last_line, is_read_or, texts) steps 1500000
 
 breakpoint_read : (x : SourceBreakpoint) (d : Data) → AsksBreakpoint x d → source_breakpoint d ≡ Some x
-breakpoint_read x d asks =
-    let o = object_given (Some d) asks.given_well in
-    ap (option_and_then breakpoint_of_object) o.1.is ∙ breakpoint_read_of d o.0 x o.1 asks
+breakpoint_read x d asks = grind (arith, common_steps, object_given, breakpoint_read_of) steps 1500000
 
 each_asks : (ds : Items) (xs : List SourceBreakpoint) → read_each source_breakpoint ds ≡ Some xs
     → SayEach AsksBreakpoint xs ds
@@ -392,8 +270,7 @@ each_asks no_items xs is = let same : [] ≡ xs = cc in subst (λ ys. SayEach As
 each_asks (item d ds) xs is =
     let first = and_then_is _ (source_breakpoint d) xs is in
     let rest = map_is (λ ys. first.0 ∷ ys) (read_each source_breakpoint ds) xs first.2 in
-    subst (λ ys. SayEach AsksBreakpoint ys (item d ds)) rest.2
-    (asks_breakpoint first.0 d first.1, each_asks ds rest.0 rest.1)
+    rw (← rest.2) (asks_breakpoint first.0 d first.1, each_asks ds rest.0 rest.1)
 
 each_read : (ds : Items) (xs : List SourceBreakpoint) → SayEach AsksBreakpoint xs ds
     → read_each source_breakpoint ds ≡ Some xs
@@ -414,14 +291,7 @@ listed None xs is =
     let same : [] ≡ xs = cc in
     subst (Lists None) same (record { items = no_items; are = refl; each = tt; not_many = omega arith })
 listed (Some d) xs is =
-    let kept = filter_is _ (option_and_then (read_each source_breakpoint) (as_array d)) xs is in
-    let found = and_then_is (read_each source_breakpoint) (as_array d) xs kept.0 in
-    record {
-      items = found.0;
-      are = array_is d found.0 found.1;
-      each = each_asks found.0 xs found.2;
-      not_many = leb-true (length xs) 256 kept.1;
-    }
+    grind (arith, common_steps, filter_is, and_then_is, array_is, each_asks, leb-true, length) steps 1500000
 
 -- an array of none lists none
 none_listed : (xs : List SourceBreakpoint) (items : Items) → array no_items ≡ array items
@@ -432,18 +302,13 @@ none_listed (x ∷ xs) (item d ds) is each = absurd (cc)
 
 listed_back : (m : Option Data) (xs : List SourceBreakpoint) → Lists m xs → or_default [] source_breakpoints m ≡ Some xs
 listed_back None xs lists = ap Some (none_listed xs lists.items lists.are lists.each)
-listed_back (Some d) xs lists =
-    let read : option_and_then (read_each source_breakpoint) (as_array d) ≡ Some xs =
-    rw lists.are (each_read lists.items xs lists.each) in
-    rw read (kept_by (λ found. nat_le (length found) breakpoint_limit) xs (le-leb (length xs) 256 lists.not_many))
+listed_back (Some d) xs lists = grind (arith, common_steps, each_read, kept_by, length, le-leb) steps 1500000
 
 -- the path of a source is its member `path`, if it has one
 path_of_member : (m : Option Data) (p : Option (List ℕ)) → or_default None some_text m ≡ Some p
     → m ≡ option_map string p
 path_of_member None p is = let same : None ≡ p = cc in ap (option_map string) same
-path_of_member (Some d) p is =
-    let read = map_is Some (as_str d) p is in
-    ap Some (text_is d read.0 read.1) ∙ ap (option_map string) read.2
+path_of_member (Some d) p is = grind (arith, common_steps, map_is, text_is) steps 1500000
 
 path_back_of : (m : Option Data) (p : Option (List ℕ)) → m ≡ option_map string p → or_default None some_text m ≡ Some p
 path_back_of m None is = rw is
@@ -460,16 +325,7 @@ only_members (object ms) e is = let same : object ms ≡ e = cc in (ms, refl, sy
 only_members _ e is = absurd (cc)
 
 source_is : (m : Option Data) (p : Option (List ℕ)) → option_and_then source_path m ≡ Some p → IsSource m p
-source_is m p is =
-    let found = and_then_is source_path m p is in
-    let inner = and_then_is (optional some_text (codes "path") None) (only_object found.0) p found.2 in
-    let parts = only_members found.0 inner.0 inner.1 in
-    record {
-      members = parts.0;
-      is = found.1 ∙ ap Some parts.1;
-      has_path = path_of_member (get (codes "path") (object parts.0)) p
-          (sym (ap (optional some_text (codes "path") None) parts.2) ∙ inner.2);
-    }
+source_is m p is = grind (arith, common_steps, and_then_is, only_members, path_of_member, get) steps 1500000
 
 source_back : (m : Option Data) (p : Option (List ℕ)) (ms : Members) → m ≡ Some (object ms)
     → get (codes "path") (object ms) ≡ option_map string p → option_and_then source_path m ≡ Some p
@@ -478,20 +334,11 @@ source_back m p ms is has_path = rw is (path_back_of (get (codes "path") (object
 asks_set_breakpoints : (given : Option Data) (d : Data) (x : SetBreakpointsArguments) → IsObjectOf given d
     → set_breakpoints_arguments d ≡ Some x → AsksSetBreakpoints x given
 asks_set_breakpoints given d x o is =
-    let parts = two_is _ (required source_path (codes "source") d)
-    (optional source_breakpoints (codes "breakpoints") [] d) x is in
+    let parts = two_is _ (required source_path (codes "source") d) (optional source_breakpoints (codes "breakpoints") []
+    d) x is in
     let source = source_is (get (codes "source") d) parts.0 parts.2 in
     let lists = listed (get (codes "breakpoints") d) parts.1 parts.3 in
-    subst (λ z. AsksSetBreakpoints z given) parts.4 (record {
-      given_well = o.well;
-      source = source.members;
-      has_source = sym (o.same (codes "source")) ∙ source.is;
-      path = source.has_path;
-      breakpoints = lists.items;
-      has_breakpoints = ap (λ m. unwrap_or m (array no_items)) (sym (o.same (codes "breakpoints"))) ∙ lists.are;
-      each = lists.each;
-      not_many = lists.not_many;
-    })
+    grind (arith, common_steps, path) steps 1500000
 
 set_breakpoints_read : (given : Option Data) (d : Data) (x : SetBreakpointsArguments) → IsObjectOf given d
     → AsksSetBreakpoints x given → set_breakpoints_arguments d ≡ Some x
@@ -511,14 +358,11 @@ set_breakpoints_read given d x o asks =
 asked_of : {A : Type 0} {read : Data → Option A} (Asks : A → Option Data → Type 0) (given : Option Data) (x : A)
     → ((d : Data) → IsObjectOf given d → read d ≡ Some x → Asks x given)
     → option_and_then read (object_or_empty given) ≡ Some x → Asks x given
-asked_of {read = read} Asks given x each is =
-    let found = and_then_is read (object_or_empty given) x is in
-    each found.0 (object_of given found.0 found.1) found.2
+asked_of {read = read} Asks given x each is = grind (arith, common_steps, and_then_is, object_of) steps 1500000
 
 read_of : {A : Type 0} {read : Data → Option A} (given : Option Data) (x : A) → IsObjectOrAbsent given
     → ((d : Data) → IsObjectOf given d → read d ≡ Some x) → option_and_then read (object_or_empty given) ≡ Some x
-read_of {read = read} given x well each =
-    let o = object_given given well in ap (option_and_then read) o.1.is ∙ each o.0 o.1
+read_of {read = read} given x well each = grind (arith, common_steps, object_given) steps 1500000
 
 -- arguments that are read make the command
 made : {A : Type 0} (make : A → Command) (k : Supported) (o : Option A) (x : A) → o ≡ Some x
@@ -528,9 +372,7 @@ made make k o x is = rw is
 -- the command of the name that a supported one has
 by_name : (k : Supported) (name : List ℕ) (given : Option Data) → name ≡ command_text k
     → command_of name given ≡ fitted_or_bad given k
-by_name k name given is =
-    ap (λ t. command_of t given) is
-    ∙ ap (λ o. option_map_or (fitted_or_bad given) o (command.Unsupported (command_text k))) (names_are_read_back k)
+by_name k name given is = cc (names_are_read_back k)
 
 -- a line that names a kind makes `_` stand for each other kind
 resume_named : (kind : ResumeKind) (x : ThreadArguments) (name : List ℕ) → IsCalled (command.Resume kind x) name
@@ -565,8 +407,7 @@ question_well (question.Evaluate x) given asks = asks.given_well
 
 question_read : (q : Question) (given : Option Data) (d : Data) → IsObjectOf given d → AsksQuestion q given
     → question_of (kind_of q) d ≡ Some q
-question_read (question.StackTrace x) given d o asks =
-    ap (option_map question.StackTrace) (stack_trace_read given d x o asks)
+question_read (question.StackTrace x) given d o asks = grind (arith, common_steps, stack_trace_read) steps 1500000
 question_read (question.Scopes x) given d o asks = ap (option_map question.Scopes) (scopes_read given d x o asks)
 question_read (question.Variables x) given d o asks =
     ap (option_map question.Variables) (variables_read given d x o asks)
@@ -576,8 +417,7 @@ question_read (question.Evaluate x) given d o asks = ap (option_map question.Eva
 asked_is_read : (c : Command) (name : List ℕ) (given : Option Data) → IsCalled c name → IsGiven c given
     → command_of name given ≡ c
 asked_is_read (command.Initialize x) name given called asks =
-    by_name supported.Initialize name given called ∙ made command.Initialize supported.Initialize _ x
-    (read_of given x asks.given_well (λ d o. initialize_read given d x o asks))
+    grind (arith, common_steps, by_name, made, read_of, initialize_read) steps 1500000
 asked_is_read (command.Launch x) name given called asks =
     by_name supported.Launch name given called ∙ made command.Launch supported.Launch _ x
     (read_of given x asks.given_well (λ d o. launch_read given d x o asks))
@@ -587,20 +427,13 @@ asked_is_read (command.SetBreakpoints x) name given called asks =
 asked_is_read command.ConfigurationDone name given called asks = by_name supported.ConfigurationDone name given called
 asked_is_read command.Threads name given called asks = by_name supported.Threads name given called
 asked_is_read (command.Resume kind x) name given called asks =
-    by_name (supported.Resume kind) name given (resume_named kind x name called)
-    ∙ made (command.Resume kind) (supported.Resume kind) _ x
-    (read_of given x asks.given_well (λ d o. thread_read given d x o asks))
+    grind (arith, common_steps, by_name, resume_named, made, read_of, thread_read) steps 1500000
 asked_is_read (command.Retreat kind x) name given called asks =
-    by_name (supported.Retreat kind) name given (retreat_named kind x name called)
-    ∙ made (command.Retreat kind) (supported.Retreat kind) _ x
-    (read_of given x asks.given_well (λ d o. thread_read given d x o asks))
+    grind (arith, common_steps, by_name, retreat_named, made, read_of, thread_read) steps 1500000
 asked_is_read (command.Pause x) name given called asks =
-    by_name supported.Pause name given called ∙ made command.Pause supported.Pause _ x
-    (read_of given x asks.given_well (λ d o. thread_read given d x o asks))
+    grind (arith, common_steps, by_name, made, read_of, thread_read) steps 1500000
 asked_is_read (command.Inspect q) name given called asks =
-    by_name (supported.Inspect (kind_of q)) name given (question_named q name called)
-    ∙ made command.Inspect (supported.Inspect (kind_of q)) _ q
-    (read_of given q (question_well q given asks) (λ d o. question_read q given d o asks))
+    grind (arith, common_steps, by_name, question_named, made, read_of, question_well, question_read) steps 1500000
 asked_is_read command.Disconnect name given called asks = by_name supported.Disconnect name given called
 asked_is_read _ name given called asks = absurd called
 
@@ -614,8 +447,7 @@ called_supported (command.Unsupported text) name called = absurd called
 called_supported (command.BadArguments k) name called = absurd called
 called_supported (command.Resume resume.Continue x) name called = ap (λ t. is_some (supported_command t)) called
 called_supported (command.Retreat retreat.StepBack x) name called = ap (λ t. is_some (supported_command t)) called
-called_supported (command.Inspect q) name called =
-    ap (λ t. is_some (supported_command t)) (question_named q name called) ∙ kind_supported (kind_of q)
+called_supported (command.Inspect q) name called = cc (question_named q name called, kind_supported (kind_of q))
 called_supported _ name called = ap (λ t. is_some (supported_command t)) called
 
 not_called : (c : Command) (name : List ℕ) → supported_command name ≡ None → IsCalled c name → ⊥
@@ -638,29 +470,20 @@ asked_made make k (Some x) name given some is each = each x refl
 question_is : {A : Type 0} (ask : A → Question) (read : Data → Option A) (given : Option Data) (q : Question)
     → option_and_then (λ d. option_map ask (read d)) (object_or_empty given) ≡ Some q
     → (x : A) × (d : Data) × IsObjectOf given d × (read d ≡ Some x) × (ask x ≡ q)
-question_is ask read given q is =
-    let found = and_then_is (λ d. option_map ask (read d)) (object_or_empty given) q is in
-    let inner = map_is ask (read found.0) q found.2 in
-    (inner.0, found.0, object_of given found.0 found.1, inner.1, inner.2)
+question_is ask read given q is = grind (arith, common_steps, and_then_is, map_is, object_of) steps 1500000
 
 question_asked : (k : QuestionKind) (name : List ℕ) (given : Option Data) → name ≡ question_text k → (q : Question)
     → option_and_then (question_of k) (object_or_empty given) ≡ Some q → IsAsked (command.Inspect q) name given
 question_asked kind.StackTrace name given called q is =
     let read = question_is question.StackTrace stack_trace_arguments given q is in
-    subst (λ p. IsAsked (command.Inspect p) name given) read.4
-    (called, asks_stack_trace given read.1 read.0 read.2 read.3)
-question_asked kind.Scopes name given called q is =
-    let read = question_is question.Scopes scopes_arguments given q is in
-    subst (λ p. IsAsked (command.Inspect p) name given) read.4
-    (called, asks_scopes given read.1 read.0 read.2 read.3)
+    rw (← read.4) (called, asks_stack_trace given read.1 read.0 read.2 read.3)
+question_asked kind.Scopes name given called q is = grind (arith, common_steps, question_is, asks_scopes) steps 1500000
 question_asked kind.Variables name given called q is =
     let read = question_is question.Variables variables_arguments given q is in
-    subst (λ p. IsAsked (command.Inspect p) name given) read.4
-    (called, asks_variables given read.1 read.0 read.2 read.3)
+    rw (← read.4) (called, asks_variables given read.1 read.0 read.2 read.3)
 question_asked kind.Evaluate name given called q is =
     let read = question_is question.Evaluate evaluate_arguments given q is in
-    subst (λ p. IsAsked (command.Inspect p) name given) read.4
-    (called, asks_evaluate given read.1 read.0 read.2 read.3)
+    rw (← read.4) (called, asks_evaluate given read.1 read.0 read.2 read.3)
 
 -- some question is called so
 some_question : (k : QuestionKind) (name : List ℕ) → name ≡ question_text k → (c : Command) × IsCalled c name
@@ -700,28 +523,18 @@ read_is_asked supported.Pause name given called is =
     asked_made command.Pause supported.Pause _ name given (command.Pause any_thread, called) is
     (λ x read. (called, asked_of AsksThread given x (λ d o. asks_thread given d x o) read))
 read_is_asked (supported.Inspect k) name given called is =
-    asked_made command.Inspect (supported.Inspect k) _ name given (some_question k name called) is
-    (question_asked k name given called)
+    asked_made command.Inspect _ _ name given (some_question k name called) is (question_asked k name given called)
 read_is_asked _ name given called is = (called, tt)
 
 is_asked : (name : List ℕ) (given : Option Data) (o : Option Supported) → supported_command name ≡ o
     → IsAsked (option_map_or (fitted_or_bad given) o (command.Unsupported name)) name given
 is_asked name given None none = (refl, λ c. not_called c name none)
 is_asked name given (Some k) is =
-    let called : name ≡ command_text k =
-    sym ((bytes_eq-Decides (command_text k) name).0 (named_so name (question_kind name) k refl is)) in
+    let called : name ≡ command_text k = sym ((bytes_eq-Decides _ name).0 (named_so name _ k refl is)) in
     read_is_asked k name given called (by_name k name given called)
 
 pub arguments_are_members : ArgumentsAreMembers
 arguments_are_members first content r is =
     let found = value_is first is.value r is.request_is in
     let p = parts_of first found.0 r found.2 in
-    let given = get (codes "arguments") found.0 in (
-      found.0,
-      subst (IsReadAs content) found.1 is.reading,
-      (
-        p.name,
-        (named_is found.0 p.name p.is_named).0,
-        subst (λ c. IsAsked c p.name given) (sym p.asks) (is_asked p.name given (supported_command p.name) refl),
-      ),
-    )
+    grind (arith, common_steps, get, named_is, is_asked) steps 1500000

@@ -1,7 +1,7 @@
 -- What is put together from parts is the value's text.
 use Rattle.dap_msg.proofs.Common.{[], agree_below_at, and_from, and_parts, ap, append-nil, append_assoc, arith, Bool, breakpoint, breakpoint_refusal_text, codes, comma_if, compact_text, cond_both, Data, decimal, eqb-false, Err, false, Fits, frame_end, FrameFits, get_or, IfOk, is_plain, is_plain_byte, IsContent, IsUtf8, items_of, items_text, ItemsFit, joined_text, leb-true, length, List, map, map-append, member, Members, MembersFit, negsuc, numbers_text, no_members, None, not-true, number, object, Ok, Option, pos, PutsItems, PutsMembers, PutsOpening, PutsValue, ReferenceFits, refl, response_end, Result, scope, Some, stack_frame, stack_trace_body, StackFrame, string, suc, sym, take, take_all, take_more, true, unsigned, variable, Variable, whole, with_body, zero, ℕ, ℤ, ◌%◌, ◌++◌, ◌+◌, ◌/◌, ◌<◌, ◌==◌, ◌^◌, ◌∙◌, ◌∷◌, ◌≡◌, ◌≤◌}
 use Rattle.std.specs.Fmt.{signed_decimal, digits, digits_onto, digit_glyph}
-use Rattle.std.proofs.lemmas.Grind.{flat_map-append}
+use Rattle.std.proofs.lemmas.Grind.{flat_map-append, common_steps}
 use Rattle.std.specs.Prelude.{◌≢◌}
 use Rattle.std.proofs.lemmas.List.{append_cancel_left, append_cancel_right}
 use Rattle.serde_json.specs.Written.{members_text}
@@ -69,8 +69,7 @@ escape_plain (x ∷ text) is =
 -- a plain text and a line feed, which has an escape
 pub escape_line : (text : List ℕ) → is_plain text ≡ true → escape (text ++ 10 ∷ []) ≡ text ++ codes "\\n"
 unfolding escape_byte
-escape_line text is =
-    flat_map-append escape_byte text (10 ∷ []) ∙ ap (λ t. t ++ codes "\\n") (escape_plain text is)
+escape_line text is = cc (flat_map-append escape_byte text (10 ∷ []), escape_plain text is)
 
 plain_digit : (n : ℕ) → is_plain_byte (digit_glyph false (n % 10)) ≡ true
 plain_digit n = agree_below_at (λ d. is_plain_byte (digit_glyph false d)) (λ d. true) 10 (n % 10) refl (omega arith)
@@ -114,15 +113,11 @@ joined_more : (later : Bool) (ds : List Data) (d : Data)
     → joined_text later (ds ++ d ∷ []) ≡ joined_text later ds ++ (comma_if (is_after later ds) ++ compact_text d)
 joined_more later [] d = ap (λ t. comma_if later ++ t) (append-nil (compact_text d))
 joined_more later (e ∷ ds) d =
-    ap (λ t. comma_if later ++ (compact_text e ++ t))
-    (joined_more true ds d ∙ ap (λ b. joined_text true ds ++ (comma_if b ++ compact_text d)) (is_after_true ds))
-    ∙ regrouped (comma_if later) (compact_text e) (joined_text true ds) (comma_if true ++ compact_text d)
+    cc (joined_more true ds d, is_after_true ds, regrouped _ _ (joined_text true ds) (comma_if true ++ compact_text d))
 
 items_closed : (later : Bool) (ds : List Data) → items_text later (items_of ds) ≡ joined_text later ds ++ 93 ∷ []
 items_closed later [] = refl
-items_closed later (d ∷ ds) =
-    ap (λ t. comma_if later ++ (compact_text d ++ t)) (items_closed true ds)
-    ∙ regrouped (comma_if later) (compact_text d) (joined_text true ds) (93 ∷ [])
+items_closed later (d ∷ ds) = cc (items_closed true ds, regrouped _ _ (joined_text true ds) _)
 
 pub items_more_fit : (ds : List Data) (d : Data) → ItemsFit (items_of ds) → Fits d → ItemsFit (items_of (ds ++ d ∷ []))
 items_more_fit [] d all fits = (fits, tt)
@@ -135,16 +130,8 @@ pub record PutsFront (ds : List Data) (later : Bool) (old new : List ℕ) : Type
 
 one_put : (ds : List Data) (d : Data) (later : Bool) (s0 s1 s2 s3 : List ℕ) → PutsFront ds later s0 s1
     → s2 ≡ s1 ++ comma_if later → PutsValue d s2 s3 → PutsFront (ds ++ d ∷ []) true s0 s3
-one_put ds d later s0 s1 s2 s3 front comma value = record {
-  items = record {
-    text = value.text ∙ ap (λ s. s ++ compact_text d) (comma ∙ ap (λ s. s ++ comma_if later) front.items.text)
-        ∙ three s0 (joined_text false ds) (comma_if later) (compact_text d)
-        ∙ ap (λ b. s0 ++ (joined_text false ds ++ (comma_if b ++ compact_text d))) front.is_later
-        ∙ ap (λ t. s0 ++ t) (sym (joined_more false ds d));
-    fits = items_more_fit ds d front.items.fits value.fits;
-  };
-  is_later = sym (is_after_more false ds d);
-}
+one_put ds d later s0 s1 s2 s3 front comma value =
+    grind (arith, common_steps, three, false, joined_more, items_more_fit, is_after_more) steps 1500000
 
 pub item_put : {X : Type 0} (f : X → Data) (xs : List X) (i : ℕ) (d : X) (later : Bool) (s0 s1 s2 s3 : List ℕ)
     → i < length xs → PutsFront (map f (take i xs)) later s0 s1 → s2 ≡ s1 ++ comma_if later
@@ -161,8 +148,7 @@ each_put f xs i later s0 s1 le front = rw (take_all i xs le) at front.items
 
 opening_put : (d : Data) (s0 s1 s2 : List ℕ) → PutsValue d (s0 ++ codes "{\"body\":") s1 → s2 ≡ s1 ++ codes ","
     → PutsOpening (Some d) s0 s2
-opening_put d s0 s1 s2 value ended =
-    record { text = rw (ended, value.text) (three s0 _ (compact_text d) _); fits = value.fits }
+opening_put d s0 s1 s2 value ended = record { text = rw (ended, value.text) (three s0 _ _ _); fits = value.fits }
 
 -- a body that has nothing but a list
 pub list_put : (key : List ℕ) (ds : List Data) (s0 s1 s2 s3 : List ℕ)
@@ -263,8 +249,7 @@ scope_put s s0 s1 s2 s3 s4 s5 fits e1 e2 e3 e4 e5 = record {
 pub verified_put : (line : ℕ) (s0 s1 s2 s3 : List ℕ) → line < 2 ^ 64 → s1 ≡ s0 ++ codes "{\"line\":"
     → s2 ≡ s1 ++ decimal line → s3 ≡ s2 ++ codes ",\"verified\":true}" → PutsValue (breakpoint (At line)) s0 s3
 unfolding escape_byte
-verified_put line s0 s1 s2 s3 below e1 e2 e3 =
-    record { text = rw (e3, e2, e1) (three s0 _ _ _); fits = (below, (tt, tt)) }
+verified_put line s0 s1 s2 s3 below e1 e2 e3 = grind (arith, common_steps, three) steps 1500000
 
 pub unverified_put : (why : BreakpointRefusal) (s0 s1 s2 s3 : List ℕ) → s1 ≡ s0 ++ codes "{\"message\":\""
     → s2 ≡ s1 ++ escape (breakpoint_refusal_text why) → s3 ≡ s2 ++ codes "\",\"verified\":false}"
@@ -391,11 +376,8 @@ pub event_end_put : (name : List ℕ) (seq : ℕ) (s0 s1 s2 s3 s4 s5 : List ℕ)
     → PutsMembers (member (codes "event") (string name) (member (codes "seq") (number (unsigned seq))
     (member (codes "type") (string (codes "event")) no_members))) s0 s5
 unfolding escape_byte
-event_end_put name seq s0 s1 s2 s3 s4 s5 below e1 e2 e3 e4 e5 = record {
-  text = rw (e5, e4, e3, e2, e1)
-      (five s0 _ _ _ _ _ ∙ ap (λ t. s0 ++ (codes "\"event\":" ++ t)) (sym (quoted_then name _)));
-  fits = (tt, (below, (tt, tt)));
-}
+event_end_put name seq s0 s1 s2 s3 s4 s5 below e1 e2 e3 e4 e5 =
+    grind (arith, common_steps, five, quoted_then) steps 1500000
 
 pub refused_put : (message command : List ℕ) (request_seq seq : ℕ) (s0 s1 s2 s3 s4 s5 s6 : List ℕ)
     → request_seq < 2 ^ 64 → seq < 2 ^ 64 → s1 ≡ s0 ++ codes "{\"body\":{},\"command\":\"" → s2 ≡ s1 ++ escape command
@@ -417,11 +399,7 @@ pub content_put : (body : Option Data) (k : List ℕ) (d : Data) (ms : Members) 
     → PutsOpening body s0 s1 → PutsMembers (member k d ms) s1 s2 → bytes ≡ s2 → IsUtf8 bytes
     → IsContent (object (with_body body (member k d ms))) bytes
 unfolding escape_byte
-content_put None k d ms s0 s1 s2 bytes empty opened others is utf8 = record {
-  text = rw (is, others.text, opened.text, empty) refl;
-  utf8 = utf8;
-  fits = others.fits;
-}
+content_put None k d ms s0 s1 s2 bytes empty opened others is utf8 = grind (arith, common_steps) steps 1500000
 content_put (Some b) k d ms s0 s1 s2 bytes empty opened others is utf8 = record {
   text = rw (is, others.text, opened.text, empty)
       (append_assoc (codes "{\"body\":") (compact_text b ++ codes ",") _
@@ -432,8 +410,7 @@ content_put (Some b) k d ms s0 s1 s2 bytes empty opened others is utf8 = record 
 
 pub value_is_content : (d : Data) (s0 s1 bytes : List ℕ) → s0 ≡ [] → PutsValue d s0 s1 → bytes ≡ s1 → IsUtf8 bytes
     → IsContent d bytes
-value_is_content d s0 s1 bytes empty value is utf8 =
-    record { text = rw (is, value.text, empty) refl; utf8 = utf8; fits = value.fits }
+value_is_content d s0 s1 bytes empty value is utf8 = grind (arith, common_steps) steps 1500000
 
 pub both_ok : {X E : Type 0} (r : Result X E) (P Q R : X → Type 0) → ((x : X) → P x → Q x → R x) → IfOk r P → IfOk r Q
     → IfOk r R

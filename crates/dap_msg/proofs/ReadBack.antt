@@ -23,6 +23,7 @@ use Rattle.dap_msg.specs.declared.outgoing.EventBody.TheVariants as event
 use Rattle.dap_msg.specs.declared.outgoing.Scope.{Scope}
 use Rattle.dap_msg.specs.declared.outgoing.StopReason.TheVariants as reason
 use Rattle.dap_msg.proofs.Said.{says}
+use Rattle.std.proofs.lemmas.Grind.{common_steps}
 
 -- ---- values with their keys in order
 
@@ -238,14 +239,10 @@ message_fits (Answer request_seq command (Ok (body.Shown b))) seq fits below =
     (shown_fits b fits.1, (tt, (fits.0, (below, (tt, (tt, tt))))))
 message_fits (Answer request_seq command (Err r)) seq fits below = (tt, (tt, (tt, (fits.0, (below, (tt, (tt, tt)))))))
 message_fits (Event event.Initialized) seq fits below = (tt, (below, (tt, tt)))
-message_fits (Event (event.Stopped reason.Breakpoint)) seq fits below =
-    ((tt, (tt, (small _ (lit≤ tt), tt))), (tt, (below, (tt, tt))))
-message_fits (Event (event.Stopped reason.Step)) seq fits below =
-    ((tt, (tt, (small _ (lit≤ tt), tt))), (tt, (below, (tt, tt))))
-message_fits (Event (event.Stopped reason.Entry)) seq fits below =
-    ((tt, (tt, (small _ (lit≤ tt), tt))), (tt, (below, (tt, tt))))
-message_fits (Event (event.Stopped reason.Pause)) seq fits below =
-    ((tt, (tt, (small _ (lit≤ tt), tt))), (tt, (below, (tt, tt))))
+message_fits (Event (event.Stopped reason.Breakpoint)) seq fits below = grind (arith, common_steps, small) steps 1500000
+message_fits (Event (event.Stopped reason.Step)) seq fits below = grind (arith, common_steps, small) steps 1500000
+message_fits (Event (event.Stopped reason.Entry)) seq fits below = grind (arith, common_steps, small) steps 1500000
+message_fits (Event (event.Stopped reason.Pause)) seq fits below = grind (arith, common_steps, small) steps 1500000
 message_fits (Event (event.Stopped (reason.Exception fault))) seq fits below =
     ((tt, (tt, (tt, (small _ (lit≤ tt), tt)))), (tt, (below, (tt, tt))))
 message_fits (Event (event.Output v)) seq fits below = ((tt, (tt, tt)), (tt, (below, (tt, tt))))

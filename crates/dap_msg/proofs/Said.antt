@@ -19,6 +19,8 @@ use Rattle.dap_msg.specs.declared.outgoing.Scope.{Scope}
 use Rattle.dap_msg.specs.declared.outgoing.StopReason.TheVariants as reason
 use Rattle.dap_msg.specs.declared.question.Shown.{Shown}
 use Rattle.dap_msg.specs.declared.question.Shown.TheVariants as shown
+use Rattle.std.proofs.Common.{arith}
+use Rattle.std.proofs.lemmas.Grind.{common_steps}
 
 -- ---- texts and lists
 
@@ -43,15 +45,7 @@ says_breakpoint (At line) = (refl, refl, refl)
 says_breakpoint (Unverified why) = (refl, (breakpoint_refusal_text why, refl, says_unset why), refl)
 
 says_frame : (path : List ℕ) (frame : StackFrame) → SaysFrame path frame (stack_frame path frame)
-says_frame path frame = record {
-  id = refl;
-  name = refl;
-  line = refl;
-  column = refl;
-  source = refl;
-  source_only = refl;
-  no_more = refl;
-}
+says_frame path frame = grind (arith, common_steps) steps 1500000
 
 says_scope : (s : Scope) → SaysScope s (scope s)
 says_scope s = record { name = refl; reference = refl; cheap = refl; no_more = refl }
@@ -60,16 +54,8 @@ says_variable : (v : Variable) → SaysVariable v (variable v)
 says_variable v = record { name = refl; value = refl; no_parts = refl; no_more = refl }
 
 says_shown : (b : Shown) → SaysShown b (Some (shown_data b))
-says_shown (shown.StackTrace path frames total) = (
-  (
-    items_of (map (stack_frame path) frames),
-    refl,
-    say_each (stack_frame path) (SaysFrame path) (says_frame path)
-        frames,
-  ),
-  refl,
-  refl,
-)
+says_shown (shown.StackTrace path frames total) =
+    ((items_of (map _ frames), refl, say_each _ _ (says_frame path) frames), refl, refl)
 says_shown (shown.Scopes scopes) =
     ((items_of (map scope scopes), refl, say_each scope SaysScope says_scope scopes), refl)
 says_shown (shown.Variables variables) =
@@ -78,14 +64,7 @@ says_shown (shown.Value v) = (refl, refl, refl)
 
 says_body : (b : Body) → SaysBody b (body_data b)
 says_body body.None = refl
-says_body body.Capabilities = record {
-  conditions = refl;
-  configuration = refl;
-  hit_conditions = refl;
-  log_points = refl;
-  step_back = refl;
-  no_more = refl;
-}
+says_body body.Capabilities = grind (arith, common_steps) steps 1500000
 says_body (body.Breakpoints answers) =
     ((items_of (map breakpoint answers), refl, say_each breakpoint SaysBreakpoint says_breakpoint answers), refl)
 says_body body.Threads = ((_, refl, (refl, refl, refl)), refl)
@@ -113,6 +92,5 @@ says (Event (event.Output v)) seq = (refl, refl, (refl, (refl, refl, refl)), ref
 says (Event (event.Log text)) seq = (refl, refl, (refl, (refl, refl, refl)), refl)
 says (Event (event.Exited code)) seq = (refl, refl, (refl, refl, refl), refl)
 says (Event event.Terminated) seq = (refl, refl, (refl, refl), refl)
-says (Event (event.Stopped (reason.Exception exception.Overflow))) seq =
-    (refl, refl, (refl, ((refl, refl, refl), refl, refl)), refl)
+says (Event (event.Stopped (reason.Exception exception.Overflow))) seq = grind (arith, common_steps) steps 1500000
 says (Event (event.Stopped (reason.Exception _))) seq = (refl, refl, (refl, ((refl, refl, refl), refl, refl)), refl)

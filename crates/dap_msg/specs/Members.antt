@@ -28,6 +28,7 @@ SayEach Says (x ∷ xs) no_items = ⊥
 abbrev pub HasEach : {A : Type 0} → (A → Data → Type 0) → List ℕ → List A → Option Data → Type 0
 HasEach Says key xs d = (ds : Items) × Has key (array ds) d × SayEach Says xs ds
 
+-- how many members an object has
 abbrev pub length_of : Members → ℕ
 length_of no_members = zero
 length_of (member key value ms) = suc (length_of ms)
