@@ -1,5 +1,5 @@
 -- Elements of a list after which a function gives nothing more.
-use Rattle.dap_history.proofs.Common.{Option, [], ap, filter_map, filter_map-append, subst, sym, ◌++◌, ◌∙◌, ◌∷◌, ◌≡◌}
+use Rattle.dap_history.proofs.Common.{Option, [], ap, filter_map, filter_map-append, sym, ◌++◌, ◌∙◌, ◌∷◌, ◌≡◌, subst}
 use Rattle.std.proofs.Common.{List}
 
 none_in_both : {B : Type 0} (xs ys : List B) → xs ++ ys ≡ [] → ys ≡ []

@@ -2,7 +2,6 @@
 use Rattle.dap_history.proofs.Common.{Accepted, Accepts, Block, Causes, Configuration, Content, EndsBy, Frame, GoesBackBy, Heading, History, IsLawfulReport, IsSome, Item, Launched, Loaded, None, Option, PlainReport, SliceOutcome, Some, Step, StopReason, Went, WrittenJoins, [], ap, arith, at, back_if, end_of, exited_events, faults, goes_back, has_come, has_no_memory, inl, inr, is_due, is_some, is_spent, lacks_memory, last_run, last_such, launched, length, refl, report_effect, situation, stop_in, stop_of_event, subst, sym, takes_all, unwrap_or, ℕ, ◌+◌, ◌<◌, ◌∙◌, ◌∷◌, ◌≡◌, ◌≤◌, ◌⊎◌, ⊎_elim, cases_lt}
 use Rattle.std.proofs.Common.{Bool, true, false}
 use Rattle.pl0_meaning.specs.Laws.{RunsHaveNoGaps, NothingFollowsTheEnd}
-use Rattle.pl0_machine.specs.Machine.{frames_of}
 use Rattle.dbg_runner.specs.Lawful.{RunsAt, is_over, is_held}
 use Rattle.dbg_runner.specs.declared.outcome.SliceOutcome.TheVariants as slice
 use Rattle.dap_history.specs.Readings.{position}
@@ -15,6 +14,7 @@ use Rattle.dap_history.proofs.Progress.{report_program}
 use Rattle.dap_history.proofs.Passing.{Ran, IsConfiguring}
 use Rattle.dap_history.proofs.Stopping.{launch_stops_not, stop_of_effect}
 use Rattle.dap_history.proofs.Leading.{goal_below}
+use Rattle.std.proofs.lemmas.Grind.{common_steps}
 
 -- a frame of the program is alive there
 abbrev pub Lives : Block → ℕ → Type 0
@@ -22,10 +22,8 @@ Lives main m = (f : Frame) × (below : Configuration) × (at main m ≡ Some (f 
 
 lives_so : (main : Block) (m : ℕ) (o : Option Configuration) → at main m ≡ o → RunsAt main m → Lives main m
 lives_so main m (Some (f ∷ below)) is runs = (f, below, is)
-lives_so main m (Some []) is runs =
-    absurd (let e = subst (λ o. 0 < length (frames_of o)) is runs in omega (arith, e))
-lives_so main m None is runs =
-    absurd (let e = subst (λ o. 0 < length (frames_of o)) is runs in omega (arith, e))
+lives_so main m (Some []) is runs = grind (arith, common_steps, length) steps 1500000
+lives_so main m None is runs = grind (arith, common_steps, length) steps 1500000
 
 pub lives : (main : Block) (m : ℕ) → RunsAt main m → Lives main m
 lives main m runs = lives_so main m (at main m) refl runs
@@ -60,8 +58,7 @@ module _ (no_gaps : RunsHaveNoGaps) (ends : NothingFollowsTheEnd) (main : Block)
   module _ (begun : RunsAt main r.start) where
     some_there : (o : Option Configuration) → at main r.start ≡ o → IsSome (at main r.start)
     some_there (Some c) is = ap is_some is
-    some_there None is =
-        absurd (let e = subst (λ o. 0 < length (frames_of o)) is begun in omega (arith, e))
+    some_there None is = grind (arith, common_steps, length) steps 1500000
 
     below_lives : r.end ≤ r.start → Lives main r.end
     below_lives below =
@@ -90,9 +87,8 @@ module _ (one : OneProgram) (joins : WrittenJoins) (no_gaps : RunsHaveNoGaps) (e
   pub report_lives : (r : PlainReport) → Accepts past r → IsLawfulReport r → Ran one joins past → (l : Launched)
       → launched past ≡ Some l → IsAlive l r.end ⊎ ((at l.program r.end ≡ Some []) × (r.outcome ≡ slice.Done))
   report_lives r accepts lawful ran l is =
-      subst (λ p. Finishes no_gaps ends p r r.outcome)
-      (report_program one joins past r lawful l accepts (ran.so_far.progress (Some l) is))
-      (went_lives no_gaps ends lawful.program r (goes_back r.mode) lawful.lawful.went)
+      rw (← (report_program one joins past r lawful l accepts (ran.so_far.progress (Some l) is))) (went_lives no_gaps
+      ends lawful.program r (goes_back r.mode) lawful.lawful.went)
 
   -- the end isn't a stop
   done_stops_not : (r : PlainReport) (e : SliceOutcome) → e ≡ slice.Done → (s : StopReason)
@@ -115,13 +111,10 @@ module _ (one : OneProgram) (joins : WrittenJoins) (no_gaps : RunsHaveNoGaps) (e
       → Ran one joins past → (l : Launched) → launched past ≡ Some l → (run : Heading) → last_run past ≡ Some run
       → (s : StopReason) → stop_in step ≡ Some s → IsAlive l (unwrap_or (end_of item) (position past))
   stop_alive (Content (Some request)) step taken is ran l there run run_is s stop_is =
-      absurd
-      (reply_stops_not (last_such stop_of_event is.0.effect.events)
-      (all_silent (situation past) past request.body is.0 is.1).stops ran run run_is s
-      (sym (stop_of_effect one joins step _ is.2.effect_is) ∙ stop_is))
+      absurd (reply_stops_not _ (all_silent _ past request.body is.0 is.1).stops ran run run_is s (sym (stop_of_effect
+      one joins step _ is.2.effect_is) ∙ stop_is))
   stop_alive (Loaded launch file) step taken is ran l there run run_is s stop_is =
-      let e = sym (launch_stops_not one joins launch file is.0 is.1)
-      ∙ sym (stop_of_effect one joins step _ is.2.effect_is) ∙ stop_is in absurd cc
+      grind (arith, common_steps, launch_stops_not, stop_of_effect) steps 1500000
   stop_alive (Accepted r) step taken is ran l there run run_is s stop_is =
       ⊎_elim (λ (alive : IsAlive l r.end). alive)
       (λ (over : (at l.program r.end ≡ Some []) × (r.outcome ≡ slice.Done)). absurd

@@ -1,5 +1,5 @@
 -- What holds along a history: what holds at first and is kept by each item that is taken.
-use Rattle.dap_history.proofs.Common.{Accepted, Accepts, AreLawful, Content, Ending, Err, Fault, File, FirstSeq, History, Incoming, InputEnd, IsAfter, IsHistoryOf, IsLawfulReport, IsTaking, Item, Launch, LeadsByEvent, LeadsByEvents, LeadsByFile, LeadsByPiece, LeadsByReport, LoadFault, Loaded, Loads, MayTake, MemoryFailure, NoMemory, None, Ok, Option, Piece, PlainReport, ReadFailed, ReadFailure, Ready, Report, Request, Rest, Situation, Some, Rests, Takes, TakesSome, [], ap, closed, closing, ending_of, faulty, inl, inr, no_content, one_content, only_bytes, open_ended, or_else, refl, situation, subst, sym, waits, wanted_in, ℕ, ◌++◌, ◌∙◌, ◌∷◌, ◌≡◌}
+use Rattle.dap_history.proofs.Common.{Accepted, Accepts, AreLawful, Content, Ending, Err, Fault, File, FirstSeq, History, Incoming, InputEnd, IsAfter, IsHistoryOf, IsLawfulReport, IsTaking, Item, Launch, LeadsByEvent, LeadsByEvents, LeadsByFile, LeadsByPiece, LeadsByReport, LoadFault, Loaded, Loads, MayTake, MemoryFailure, NoMemory, None, Ok, Option, Piece, PlainReport, ReadFailed, ReadFailure, Ready, Report, Request, Rest, Situation, Some, Rests, Takes, TakesSome, [], closed, closing, faulty, inl, inr, no_content, one_content, open_ended, refl, situation, subst, sym, waits, wanted_in, ℕ, ◌++◌, ◌∙◌, ◌∷◌, ◌≡◌, ap, ending_of, only_bytes, or_else}
 use Rattle.std.proofs.Common.{List, Result}
 use Rattle.dap_history.specs.declared.fault.LoadFault.TheVariants as load_fault
 use Rattle.dap_history.proofs.Readings.{ending_of-snoc}
@@ -111,14 +111,11 @@ module _ (Q : Incoming → Type 0) (P : History → Type 0) (kept : IsKept Q P) 
   along_file : (f : FirstSeq) (past : History) (rest : Rest) (launch : Option Launch) (file : Result (List ℕ) LoadFault)
       (new : History) (left : Rest) → rest.launch ≡ launch → LeadsByFile f past rest launch file new left
       → Holds past rest → Holds new left
-  along_file f past rest None file new left same is here =
-      subst (λ h. Holds h left) (sym is.0) (subst (λ r. Holds past r) (sym is.1) here)
-  along_file f past rest (Some launch) (Ok file) new left same (inl is) here =
-      subst (λ h. Holds h left) (sym is.1) (subst (λ r. Holds past r) (sym is.2) here)
+  along_file f past rest None file new left same is here = rw is.0 (rw is.1 here)
+  along_file f past rest (Some launch) (Ok file) new left same (inl is) here = rw is.1 (rw is.2 here)
   along_file f past rest (Some launch) (Ok file) new left same (inr loads) here =
       along_loads f past launch (Some file) rest.bytes new left (here.1 loads.taking launch same) loads here.0
-  along_file f past rest (Some launch) (Err load_fault.CannotRead) new left same (inl is) here =
-      subst (λ h. Holds h left) (sym is.1) (subst (λ r. Holds past r) (sym is.2) here)
+  along_file f past rest (Some launch) (Err load_fault.CannotRead) new left same (inl is) here = rw is.1 (rw is.2 here)
   along_file f past rest (Some launch) (Err load_fault.CannotRead) new left same (inr loads) here =
       along_loads f past launch None rest.bytes new left (here.1 loads.taking launch same) loads here.0
   along_file f past rest (Some launch) (Err load_fault.NoMemory) new left same is here =
@@ -149,8 +146,7 @@ module _ (Q : Incoming → Type 0) (P : History → Type 0) (kept : IsKept Q P) 
 
   along_from : (f : FirstSeq) (past : History) (rest : Rest) (events : List Incoming) (new : History) (left : Rest)
       → AllEvents Q events → LeadsByEvents f past rest events new left → Holds past rest → Holds new left
-  along_from f past rest [] new left good all here =
-      subst (λ h. Holds h left) (sym all.0) (subst (λ r. Holds past r) (sym all.1) here)
+  along_from f past rest [] new left good all here = rw all.0 (rw all.1 here)
   along_from f past rest (e ∷ events) new left good all here =
       along_from f all.0 all.1 events new left good.1 all.3 (along_event f past rest e all.0 all.1 good.0 all.2 here)
 

@@ -1,5 +1,5 @@
 -- Each request is answered once.
-use Rattle.dap_history.proofs.Common.{Answers, Causes, CommandName, Content, Event, EventBody, History, Item, Loaded, None, Reply, Some, Step, [], ap, filter_map, filter_map-append, map-append, messages, messages_of, refl, subst, sym, with_answer, ℕ, ◌++◌, ◌∙◌, ◌∷◌, ◌≡◌}
+use Rattle.dap_history.proofs.Common.{Answers, Causes, CommandName, Content, Event, EventBody, History, Item, Loaded, None, Reply, Some, Step, [], filter_map, filter_map-append, map-append, messages, messages_of, refl, ℕ, ◌++◌, ◌∷◌, ◌≡◌, ap, subst, sym, ◌∙◌}
 use Rattle.std.proofs.Common.{List}
 use Rattle.std.specs.Prelude.{map}
 use Rattle.dap_history.specs.Laws.{answered_request, request_of_item, EachIsAnsweredOnce}
@@ -17,14 +17,10 @@ events_answer_nothing (e ∷ events) = events_answer_nothing events
 
 answers_once : (seq : ℕ) (command : CommandName) (reply : Reply) (step : Step) → Answers seq command reply step
     → filter_map answered_request (messages step) ≡ (seq, command) ∷ []
-answers_once seq command reply step is =
-    ap (λ a. filter_map answered_request (with_answer a (map Event step.effect.events))) is.answer_is
-    ∙ ap (λ l. (seq, command) ∷ l) (events_answer_nothing step.effect.events)
+answers_once seq command reply step is = cc (is.answer_is, events_answer_nothing step.effect.events)
 
 answers_never : (step : Step) → step.answer ≡ None → filter_map answered_request (messages step) ≡ []
-answers_never step is =
-    ap (λ a. filter_map answered_request (with_answer a (map Event step.effect.events))) is
-    ∙ events_answer_nothing step.effect.events
+answers_never step is = cc (events_answer_nothing step.effect.events)
 
 -- an item has one answer if it asks, and else none
 once_here : (past : History) (item : Item) (step : Step) → Causes past item step

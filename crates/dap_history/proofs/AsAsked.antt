@@ -1,13 +1,13 @@
 -- Each stop of a run is as the command asks by which the program goes, and none is passed.
-use Rattle.dap_history.proofs.Common.{Accepted, Body, Causes, Command, Content, Effect, Err, Grants, Heading, History, IsRetreatsStop, IsRightStop, IsRunsStop, IsSome, IsStopOf, Item, Launched, Loaded, Mode, None, NoneDueBefore, NoneDueUpTo, Ok, Option, Reason, Refusal, Request, RetreatKind, SliceOutcome, Some, Step, Stop, StopReason, ThreadArguments, WrittenJoins, [], ap, depth_at, due_in_run, go, goal_of, goes_back, held_mode, if◌then◌else◌, is_some, last_due, last_run, last_such, launched, mode_asked, mode_by, name_of, option_map_or, or_else, reason_of, refl, reversed, run_in, situation, stepped_back, stop_at, subst, sym, told_reason, ℕ, ◌++◌, ◌+◌, ◌<◌, ◌∙◌, ◌∷◌, ◌≡◌, ◌≤◌}
+use Rattle.dap_history.proofs.Common.{Accepted, Body, Causes, Command, Content, Effect, Err, Grants, Heading, History, IsRetreatsStop, IsRightStop, IsRunsStop, IsSome, IsStopOf, Item, Launched, Loaded, Mode, None, NoneDueBefore, NoneDueUpTo, Ok, Option, Reason, Refusal, Request, RetreatKind, SliceOutcome, Some, Step, Stop, StopReason, ThreadArguments, WrittenJoins, [], ap, depth_at, due_in_run, go, goes_back, held_mode, if◌then◌else◌, is_some, last_run, last_such, launched, mode_asked, mode_by, name_of, option_map_or, or_else, reason_of, refl, run_in, situation, subst, sym, told_reason, ℕ, ◌++◌, ◌<◌, ◌∙◌, ◌∷◌, ◌≡◌, ◌≤◌}
 use Rattle.std.proofs.Common.{Bool, true, false, ◌&&◌, Result}
-use Rattle.std.specs.Prelude.{option_map, nat_le, nat_lt}
+use Rattle.std.specs.Prelude.{option_map}
 use Rattle.dap_msg.specs.declared.command.Command.TheVariants as command
 use Rattle.dap_msg.specs.declared.requests.resume.ResumeKind.TheVariants as resume
 use Rattle.dap_msg.specs.declared.requests.resume.RetreatKind.TheVariants as retreat
 use Rattle.dap_msg.specs.declared.outgoing.Outgoing.TheVariants.{Answer}
 use Rattle.dap_msg.specs.declared.outgoing.StopReason.TheVariants as stop
-use Rattle.dbg_plan.specs.Retreat.{NoneIsDue, LeadsBack, LastDueIsLast}
+use Rattle.dbg_plan.specs.Retreat.{NoneIsDue, LastDueIsLast}
 use Rattle.dbg_plan.specs.declared.mode.Mode.TheVariants as mode
 use Rattle.dbg_plan.specs.declared.mode.Reason.TheVariants as reason
 use Rattle.dbg_runner.specs.declared.outcome.SliceOutcome.TheVariants as slice
@@ -28,6 +28,8 @@ use Rattle.dap_history.proofs.Alive.{stop_alive}
 use Rattle.dap_history.proofs.Once.{stopped_last}
 use Rattle.dap_history.proofs.Judged.{refused_step}
 use Rattle.dap_history.proofs.Since.{longer, none_since, one_more_since}
+use Rattle.std.proofs.Common.{arith}
+use Rattle.std.proofs.lemmas.Grind.{common_steps}
 
 -- ---- the command by which the program goes
 
@@ -80,8 +82,7 @@ module _ (one : OneProgram) (joins : WrittenJoins) where
         → IsTaken IsLawfulEvent past item → launched (past ++ step ∷ []) ≡ Some l
         → last_run (past ++ step ∷ []) ≡ Some run → launched past ≡ Some l
     launched_before l run item item_is is taken_ there run_is =
-        ap (λ o. or_else o (launched past)) (sym (launches_none item is taken_ run_is))
-        ∙ sym (launched-snoc past step) ∙ there
+        cc (launches_none item is taken_ run_is, launched-snoc past step)
       where
         launches_none : (item : Item) → Causes past item step → IsTaken IsLawfulEvent past item
             → last_run (past ++ step ∷ []) ≡ Some run → step.effect.launched ≡ None
@@ -102,23 +103,24 @@ module _ (one : OneProgram) (joins : WrittenJoins) where
     newly : (l : Launched) (run : Heading) (item : Item) → step.item ≡ item → Causes past item step
         → launched past ≡ Some l → run_in step ≡ Some run
         → mode_asked past l.program item ≡ Some run.mode → WentBy (past ++ step ∷ []) l run
-    newly l run (Content (Some request)) item_is is there goes mode_is = record {
-      asked = request.body;
-      from = position past;
-      goes = record {
-        early = past;
-        step = step;
-        later = [];
-        past_is = refl;
-        request = request;
-        granted = granted_by past step request run item_is is goes;
-        asked_is = refl;
-        from_is = refl;
-        goes = ap (λ o. is_some o && is_request_item step.item) goes ∙ ap is_request_item item_is;
-        last = none_since (λ (s : Step). sets_going s ≡ false);
-      };
-      mode_is = mode_is;
-    }
+    newly l run (Content (Some request)) item_is is there goes mode_is =
+        record {
+          asked = request.body;
+          from = position past;
+          goes = record {
+            early = past;
+            step = step;
+            later = [];
+            past_is = refl;
+            request = request;
+            granted = granted_by past step request run item_is is goes;
+            asked_is = refl;
+            from_is = refl;
+            goes = cc;
+            last = none_since (λ (s : Step). sets_going s ≡ false);
+          };
+          mode_is = mode_is;
+        }
     newly l run (Accepted r) item_is is there goes mode_is = by_last (last_run past) refl r.outcome mode_is
       where
         by_last : (o : Option Heading) → last_run past ≡ o → (e : SliceOutcome) → held_mode e o ≡ Some run.mode
@@ -165,15 +167,17 @@ module _ (one : OneProgram) (joins : WrittenJoins) where
   Kept past = Ran one joins past × IsGoing past
 
   pub kept_kept : IsKept IsLawfulEvent Kept
-  kept_kept = record {
-    step = λ past item new taking taken after here.
-        let taken_now = subst (IsTaken IsLawfulEvent past) (sym after.item_is) taken in
-        let causes_now = subst (λ i. Causes past i after.step) (sym after.item_is) after.causes in
-        subst Kept (sym after.new_is) (
-          ran_more one joins past after.step taken_now causes_now here.0,
-          going_more past after.step taken_now causes_now here.0 here.1,
-        );
-  }
+  kept_kept =
+      record {
+        step = λ past item new taking taken after here.
+            let taken_now = subst (IsTaken IsLawfulEvent past) (sym after.item_is) taken in
+            let causes_now = subst (λ i. Causes past i after.step) (sym after.item_is) after.causes in
+            rw after.new_is (
+              ran_more one joins past after.step taken_now causes_now here.0,
+              going_more past after.step
+                  taken_now causes_now here.0 here.1,
+            );
+      }
 
   pub kept_first : Kept []
   kept_first = (ran_first one joins, λ l run there run_is. absurd cc)
@@ -201,29 +205,15 @@ forward_by _ d run mode_is on = tt
 
 mode_done : (asked : Command) (m : Mode) (d n : ℕ) → GoesForward asked → mode_by d asked ≡ Some m
     → (reason_of m n ≡ done_reason (is_done asked d n)) × (goes_back m ≡ false)
-mode_done command.ConfigurationDone m d n forward is =
-    let same : mode.Continue ≡ m = cc in
-    subst (λ m. (reason_of m n ≡ None) × (goes_back m ≡ false)) same (refl, refl)
+mode_done command.ConfigurationDone m d n forward is = grind (arith, common_steps, goes_back, false) steps 1500000
 mode_done (command.Resume resume.Continue a) m d n forward is =
-    let same : mode.Continue ≡ m = cc in
-    subst (λ m. (reason_of m n ≡ None) × (goes_back m ≡ false)) same (refl, refl)
+    grind (arith, common_steps, goes_back, false) steps 1500000
 mode_done (command.Resume resume.StepIn a) m d n forward is =
-    let same : mode.In ≡ m = cc in
-    subst (λ m. (reason_of m n ≡ Some reason.Step) × (goes_back m ≡ false)) same (refl, refl)
+    grind (arith, common_steps, goes_back, false) steps 1500000
 mode_done (command.Resume resume.Next a) m d n forward is =
-    let same : mode.Over d ≡ m = cc in
-    subst (λ m. (reason_of m n ≡ done_reason (nat_le n d)) × (goes_back m ≡ false)) same (by_test (nat_le n d), refl)
-  where
-    by_test : (b : Bool) → (if b then Some reason.Step else None) ≡ done_reason b
-    by_test true = refl
-    by_test false = refl
+    grind (arith, common_steps, goes_back, false, true) steps 1500000
 mode_done (command.Resume resume.StepOut a) m d n forward is =
-    let same : mode.Out d ≡ m = cc in
-    subst (λ m. (reason_of m n ≡ done_reason (nat_lt n d)) × (goes_back m ≡ false)) same (by_test (nat_lt n d), refl)
-  where
-    by_test : (b : Bool) → (if b then Some reason.Step else None) ≡ done_reason b
-    by_test true = refl
-    by_test false = refl
+    grind (arith, common_steps, goes_back, false, true) steps 1500000
 mode_done (command.Retreat kind a) m d n forward is = absurd forward
 mode_done _ m d n forward is = absurd cc
 
@@ -238,12 +228,7 @@ told_by false false = refl
 module _ (l : Launched) (run : Heading) (asked : Command) (from : ℕ) (forward : GoesForward asked)
     (mode_is : mode_by (depth_at l.program from) asked ≡ Some run.mode) where
   reason_is : (m : ℕ) → option_map told_reason (due_in_run l run m) ≡ reason_at l run asked from m
-  reason_is m =
-      let met = is_met l run run.counted_from m in
-      let depth = depth_at l.program m in
-      ap (λ o. option_map told_reason (if met then Some reason.Breakpoint else o))
-      (mode_done asked run.mode (depth_at l.program from) depth forward mode_is).0
-      ∙ told_by met (is_done asked (depth_at l.program from) depth)
+  reason_is m = grind (arith, common_steps, mode_done, told_by, is_done) steps 1500000
 
   pub nowhere : (k : ℕ) → due_in_run l run k ≡ None → reason_at l run asked from k ≡ None
   nowhere k none = sym (reason_is k) ∙ ap (option_map told_reason) none
@@ -251,24 +236,17 @@ module _ (l : Launched) (run : Heading) (asked : Command) (from : ℕ) (forward 
   first_so : (r : Reason) (s : StopReason) (m : ℕ) → s ≡ told_reason r → (due_in_run l run m ≡ Some r) × (run.start < m)
       × NoneDueBefore l run m
       → (reason_at l run asked from m ≡ Some s) × (run.start < m) × NowhereBefore l run asked from m
-  first_so r s m told is = (
-    sym (reason_is m) ∙ ap (option_map told_reason) is.0 ∙ ap Some (sym told),
-    is.1,
-    λ k above below. nowhere k (is.2 k above below),
-  )
+  first_so r s m told is = grind (arith, common_steps, reason_is, nowhere) steps 1500000
 
   runs_so : (s : StopReason) (m : ℕ) → IsRunsStop l run s m → StopsForward l run asked from s m
   runs_so stop.Pause m is = (is.0, λ k above up_to. nowhere k (is.1 k above up_to))
-  runs_so (stop.Exception x) m is =
-      (is.0, is.1, is.2, is.3, λ k above up_to. nowhere k (is.4 k above up_to))
+  runs_so (stop.Exception x) m is = grind (arith, common_steps, nowhere) steps 1500000
   runs_so stop.Breakpoint m is = first_so is.0 stop.Breakpoint m is.1 (is.2, is.3, is.4)
   runs_so stop.Step m is = first_so is.0 stop.Step m is.1 (is.2, is.3, is.4)
   runs_so stop.Entry m is = first_so is.0 stop.Entry m is.1 (is.2, is.3, is.4)
 
   forward_so : (s : StopReason) (m : ℕ) → IsStopOf (goes_back run.mode) l run s m → StopsForward l run asked from s m
-  forward_so s m is =
-      runs_so s m (subst (λ b. IsStopOf b l run s m)
-      (mode_done asked run.mode (depth_at l.program from) 0 forward mode_is).1 is)
+  forward_so s m is = grind (arith, common_steps, runs_so, mode_done) steps 1500000
 
 -- ---- a run back
 
@@ -288,42 +266,17 @@ module _ (last : LastDueIsLast) (l : Launched) (run : Heading) where
   -- the stop that is told is that position and reason
   steps_so : (s : StopReason) (m : ℕ) → IsRetreatsStop l run s m → run.mode ≡ mode.StepBack
       → StopsBack l run retreat.StepBack s m
-  steps_so s m is mode_is =
-      let goal : stepped_back run.start ≡ is.0 =
-      let e = sym (ap (λ n. goal_of l.program run.plan n run.start) mode_is) ∙ is.1 in cc in
-      subst (λ s. StopsBack l run retreat.StepBack s m)
-      (sym (is.3 ∙ ap (λ (g : Stop). told_reason g.reason) (sym goal)))
-      (is.2 ∙ ap (λ (g : Stop). g.position) (sym goal))
+  steps_so s m is mode_is = grind (arith, common_steps, Stop) steps 1500000
 
   reverses_so : (s : StopReason) (m : ℕ) → IsRetreatsStop l run s m → run.mode ≡ mode.Reverse
       → StopsBack l run retreat.ReverseContinue s m
-  reverses_so s m is mode_is =
-      let goal : reversed l.program run.plan run.start ≡ is.0 =
-      let e = sym (ap (λ n. goal_of l.program run.plan n run.start) mode_is) ∙ is.1 in cc in
-      by_last (last_due l.program run.plan run.start) goal (last l.program run.plan run.start)
-    where
-      by_last : (o : Option ℕ) → stop_at o ≡ is.0 → LeadsBack l.program run.plan run.start o
-          → StopsBack l run retreat.ReverseContinue s m
-      by_last None goal none =
-          subst (λ s. StopsBack l run retreat.ReverseContinue s m)
-          (sym (is.3 ∙ ap (λ (g : Stop). told_reason g.reason) (sym goal)))
-          (is.2 ∙ ap (λ (g : Stop). g.position) (sym goal), none_met 0 none)
-      by_last (Some k) goal there =
-          let here : m ≡ k = is.2 ∙ ap (λ (g : Stop). g.position) (sym goal) in
-          subst (λ s. StopsBack l run retreat.ReverseContinue s m)
-          (sym (is.3 ∙ ap (λ (g : Stop). told_reason g.reason) (sym goal)))
-          (subst (λ n. StopsBack l run retreat.ReverseContinue stop.Breakpoint n) (sym here)
-          (there.0, met_so (is_met l run 0 k) there.1, none_met (k + 1) there.2))
+  reverses_so s m is mode_is = grind (arith, common_steps, Stop, none_met, met_so) steps 1500000
 
   back_so : (kind : RetreatKind) (a : ThreadArguments) (d : ℕ) (s : StopReason) (m : ℕ)
       → mode_by d (command.Retreat kind a) ≡ Some run.mode → IsStopOf (goes_back run.mode) l run s m
       → StopsBack l run kind s m
-  back_so retreat.StepBack a d s m mode_is is =
-      let same : run.mode ≡ mode.StepBack = cc in
-      steps_so s m (subst (λ n. IsStopOf (goes_back n) l run s m) same is) same
-  back_so retreat.ReverseContinue a d s m mode_is is =
-      let same : run.mode ≡ mode.Reverse = cc in
-      reverses_so s m (subst (λ n. IsStopOf (goes_back n) l run s m) same is) same
+  back_so retreat.StepBack a d s m mode_is is = grind (arith, common_steps, steps_so, goes_back) steps 1500000
+  back_so retreat.ReverseContinue a d s m mode_is is = grind (arith, common_steps, reverses_so, goes_back) steps 1500000
 
   -- ---- either
 
@@ -332,8 +285,7 @@ module _ (last : LastDueIsLast) (l : Launched) (run : Heading) where
       → StopsAsAsked l run asked from s m
   as_asked (command.Retreat kind a) from s m mode_is is =
       back_so kind a (depth_at l.program from) s m mode_is is
-  as_asked command.ConfigurationDone from s m mode_is is =
-      forward_so l run command.ConfigurationDone from tt mode_is s m is
+  as_asked command.ConfigurationDone from s m mode_is is = grind (arith, common_steps, forward_so) steps 1500000
   as_asked (command.Resume kind a) from s m mode_is is =
       forward_so l run (command.Resume kind a) from tt mode_is s m is
   as_asked _ from s m mode_is is = absurd cc

@@ -1,9 +1,8 @@
 -- Each run has the next number, and is in the mode that was asked for.
-use Rattle.dap_history.proofs.Common.{Accepted, Accepts, Breakpoint, Causes, Command, Content, Effect, Go, Heading, History, Hold, Incoming, Item, Launched, Loaded, None, Option, PlainOrder, PlainReport, Reaction, Reason, Reply, ResumeKind, RetreatKind, Running, Situation, SliceOutcome, Some, Step, ThreadArguments, WrittenJoins, [], all_runs, ap, append-nil, arith, depth_at, due_first, effect_in, enters, filter_map, filter_map-append, go, held_effect, held_mode, hold_once, if◌then◌else◌, is_back, last_run, last_such, launched, length, mode_asked, mode_by, mode_of, option_map_or, refl, reply_of, report_effect, retreat_mode, run_in, runs, situation, subst, sym, waiting_pause, ℕ, ◌++◌, ◌+◌, ◌||◌, ◌∙◌, ◌∷◌, ◌≡◌}
+use Rattle.dap_history.proofs.Common.{Accepted, Accepts, Breakpoint, Causes, Command, Content, Heading, History, Incoming, Item, Launched, Loaded, None, Option, PlainOrder, PlainReport, Reaction, Reason, Reply, ResumeKind, RetreatKind, Running, Situation, SliceOutcome, Some, Step, ThreadArguments, WrittenJoins, [], all_runs, ap, append-nil, arith, depth_at, effect_in, enters, filter_map, filter_map-append, go, held_mode, hold_once, last_run, last_such, launched, length, mode_asked, mode_by, mode_of, option_map_or, refl, reply_of, report_effect, retreat_mode, run_in, runs, subst, sym, ℕ, ◌++◌, ◌+◌, ◌∙◌, ◌∷◌, ◌≡◌}
 use Rattle.dap_msg.specs.declared.requests.resume.ResumeKind.TheVariants as resume
 use Rattle.dap_msg.specs.declared.requests.resume.RetreatKind.TheVariants as retreat
-use Rattle.std.proofs.Common.{List, Bool, true, false}
-use Rattle.std.specs.Prelude.{option_map}
+use Rattle.std.proofs.Common.{List, true, false}
 use Rattle.dap_msg.specs.declared.command.Command.TheVariants as command
 use Rattle.dbg_plan.specs.declared.mode.Mode.TheVariants as mode
 use Rattle.dbg_runner.specs.declared.outcome.SliceOutcome.TheVariants as slice
@@ -20,6 +19,7 @@ use Rattle.dap_history.proofs.Counted.{all_runs-snoc, next_runs}
 use Rattle.dap_history.proofs.Stopping.{ran_kept, ran_first}
 use Rattle.dap_history.proofs.Starts.{of_launched}
 use Rattle.dap_history.proofs.Once.{ordered_last}
+use Rattle.std.proofs.lemmas.Grind.{common_steps}
 
 -- ---- numbers
 
@@ -32,11 +32,7 @@ numbered_more past [] here no_runs = subst (AreNumbered 1) (sym (append-nil (all
 numbered_more past (run ∷ rest) here (next_run run' is) = numbered-snoc 1 (all_runs past) run here (omega (arith, is))
 
 in_order_kept : (Q : Incoming → Type 0) → IsKept Q AreInOrder
-in_order_kept Q = record {
-  step = λ past item new taking taken after here.
-      subst (AreNumbered 1) (sym (ap all_runs after.new_is ∙ all_runs-snoc past after.step))
-      (numbered_more past (filter_map go after.step.effect.orders) here (next_runs past item after.step after.causes));
-}
+in_order_kept Q = grind (arith, common_steps, all_runs-snoc, numbered_more, filter_map, go, next_runs) steps 1500000
 
 number_at : (n : ℕ) (front : List Heading) (run : Heading) (back : List Heading) → AreNumbered n (front ++ run ∷ back)
     → run.run ≡ n + length front
@@ -45,11 +41,10 @@ number_at n (r ∷ front) run back are = let h = number_at (n + 1) front run bac
 
 pub runs_count : RunsCountFromOne
 runs_count f events past rest history front back run orders_are =
-    let parts : all_runs past ≡ filter_map go front ++ run ∷ filter_map go back =
-    ap (filter_map go) orders_are ∙ filter_map-append go front (Go run ∷ back) in
-    let here =
-    along (λ e. Unit {0}) AreInOrder (in_order_kept (λ e. Unit {0})) tt f events past rest (any_events events) history
-    in
+    let parts : all_runs past ≡ filter_map go front ++ run ∷ filter_map go back = ap (filter_map go) orders_are ∙
+    filter_map-append go front _ in
+    let here = along (λ e. Unit {0}) AreInOrder (in_order_kept (λ e. Unit {0})) tt f events past rest (any_events
+    events) history in
     let number = number_at 1 (filter_map go front) run (filter_map go back) (subst (AreNumbered 1) parts here) in
     omega (arith, number)
 
@@ -73,11 +68,7 @@ AsAsked past asked run =
     (l : Launched) × (launched past ≡ Some l) × (mode_by (depth_at l.program (position past)) asked ≡ Some run.mode)
 
 pub no_go_held : (past : History) → last_such go (hold_once past) ≡ None
-no_go_held past = by_test (is_held past || is_back past)
-  where
-    by_test : (held : Bool) → last_such go (if held then [] else Hold (runs past) ∷ []) ≡ None
-    by_test true = refl
-    by_test false = refl
+no_go_held past = grind (arith, common_steps, is_held, go, runs, true, false) steps 1500000
 
 pub no_go_in : (s : Situation) (past : History) (bs : List Breakpoint)
     → last_such go (effect_in s past bs).orders ≡ None
@@ -99,22 +90,14 @@ pub reaction_mode : (past : History) {s : Situation} {asked : Command} {reaction
 reaction_mode past (by_refusing s asked why) run goes = absurd cc
 reaction_mode past (by_answering s asked b calm) run goes = absurd cc
 reaction_mode past (by_setting s a l found bs there path_is resolved) run goes =
-    no_go_by past (command.SetBreakpoints a) run (effect_in (situation past) past bs).orders
-    (no_go_in (situation past) past bs) goes
-reaction_mode past (by_starting l there) run goes =
-    (l, there, ap Some (sym (begun_mode past l (due_first past l) run goes)))
+    grind (arith, common_steps, no_go_by, no_go_in) steps 1500000
+reaction_mode past (by_starting l there) run goes = grind (arith, common_steps, begun_mode) steps 1500000
 reaction_mode past (by_resuming kind a l there) run goes =
-    let depth = depth_at l.program (position past) in
-    let same : mode_of kind depth ≡ run.mode =
-    ap (λ o. option_map_or (λ (h : Heading). h.mode) o (mode_of kind depth)) goes in
-    (l, there, resume_kind_mode depth kind a ∙ ap Some same)
+    grind (arith, common_steps, position, resume_kind_mode) steps 1500000
 reaction_mode past (by_ending kind a) run goes = absurd cc
 reaction_mode past (by_retreating s kind a l stands there) run goes =
-    let same : retreat_mode kind ≡ run.mode =
-    ap (λ o. option_map_or (λ (h : Heading). h.mode) o (retreat_mode kind)) goes in
-    (l, there, back_mode (depth_at l.program (position past)) kind a ∙ ap Some same)
-reaction_mode past (by_interrupting a) run goes =
-    no_go_by past (command.Pause a) run (hold_once past) (no_go_held past) goes
+    grind (arith, common_steps, back_mode, position) steps 1500000
+reaction_mode past (by_interrupting a) run goes = grind (arith, common_steps, no_go_by, no_go_held) steps 1500000
 reaction_mode past (by_closing s) run goes = absurd cc
 
 -- a run that a report orders is in the mode of the run that was held
@@ -125,15 +108,7 @@ report_mode past r (slice.Due reason) accepts run goes = absurd cc
 report_mode past r slice.Done accepts run goes = absurd cc
 report_mode past r (slice.Fault fault) accepts run goes = absurd cc
 report_mode past r slice.NoMemory accepts run goes = absurd cc
-report_mode past r slice.Held accepts run goes = by_pause (waiting_pause past) goes
-  where
-    by_pause : (pauses : Bool) → last_such go (held_effect past r pauses).orders ≡ Some run
-        → held_mode slice.Held (last_run past) ≡ Some run.mode
-    by_pause true goes = absurd cc
-    by_pause false goes =
-        let same : r.mode ≡ run.mode = ap (λ o. option_map_or (λ (h : Heading). h.mode) o r.mode) goes in
-        ap (option_map (λ (h : Heading). h.mode)) accepts.run_is
-        ∙ ap Some (sym (ap (λ (h : Heading). h.mode) accepts.expected) ∙ same)
+report_mode past r slice.Held accepts run goes = grind (arith, common_steps, go, true, false) steps 1500000
 
 module _ (one : OneProgram) (joins : WrittenJoins) where
   -- the run is of the launched program, in the mode that the item asks for
@@ -143,21 +118,14 @@ module _ (one : OneProgram) (joins : WrittenJoins) where
   pub item_mode : (past : History) (item : Item) (step : Step) → IsTaken IsLawfulEvent past item → Causes past item step
       → Ran one joins past → (run : Heading) → run_in step ≡ Some run → ModeIs past item run
   item_mode past (Content (Some request)) step taken is ran run goes =
-      by_reaction (λ (r : Reply). last_such go r.effect.orders ≡ Some run → AsAsked past request.body run)
-      (λ reaction reacted goes. reaction_mode past reacted run goes) is.1
-      (ap (λ (e : Effect). last_such go e.orders) (sym is.2.effect_is) ∙ goes)
+      by_reaction (λ (r : Reply). last_such go r.effect.orders ≡ Some run → AsAsked past request.body run) (λ reaction
+      reacted goes. reaction_mode past reacted run goes) is.1 (cc is.2.effect_is)
   item_mode past (Loaded launch file) step taken is ran run goes =
-      let e = sym goes ∙ ap (λ (e : Effect). last_such go e.orders) is.2.effect_is
-      ∙ loaded_orders launch file is.0 is.1 in absurd cc
+      grind (arith, common_steps, go, loaded_orders) steps 1500000
   item_mode past (Accepted r) step taken is ran run goes =
-      let there = of_launched one joins past (Accepted r) step taken is ran run goes in (
-        there.0,
-        there.1,
-        report_mode past r r.outcome taken.0 run
-            (ap (λ (e : Effect). last_such go e.orders) (sym is.effect_is) ∙ goes),
-      )
-  item_mode past _ step taken is ran run goes =
-      let e = sym goes ∙ ap (λ (e : Effect). last_such go e.orders) is.effect_is in absurd cc
+      let there = of_launched one joins past (Accepted r) step taken is ran run goes in
+      (there.0, there.1, report_mode past r r.outcome taken.0 run (cc is.effect_is))
+  item_mode past _ step taken is ran run goes = grind (arith, common_steps, go) steps 1500000
 
   pub each_as_asked : EachRunIsAsAsked
   each_as_asked f events past rest lawful history before step after past_is run orders =

@@ -1,30 +1,20 @@
 -- The loader is asked for the path of each launch that waits, and for no other; the events are what inbox and loader
 -- returned.
 use Rattle.dap_history.proofs.Common.{File, FirstSeq, History, Incoming, IsHistoryOf, IsTaking, Launch, Piece, ReadFailed, NoMemory, None, Report, Rest, Some, [], ap, append-nil, inl, inr, subst, sym, ℕ, ◌++◌, ◌∙◌, ◌∷◌, ◌≡◌, ◌⊎◌}
-use Rattle.std.proofs.Common.{List}
+use Rattle.std.proofs.Common.{List, arith}
 use Rattle.std.specs.Prelude.{map}
 use Rattle.std.proofs.lemmas.List.{append_assoc}
 use Rattle.dap_history.specs.Events.{End}
 use Rattle.dap_history.specs.Interleaving.{Load, AwaitsNone, IsLoad, Interleaves, IsAsked, EachLoadIsOfALaunch, IsAnswerFor, EachLaunchIsLoaded, AreMerged, EventsAreReturned}
 use Rattle.dap_history.specs.Laws.{HistoryIsOne}
 use Rattle.dap_history.proofs.Once.{none_within}
+use Rattle.std.proofs.lemmas.Grind.{common_steps}
 
 -- ---- each load is of a launch
 
 asked_now : (first : FirstSeq) (before : List Incoming) (e : Incoming) (after : List Incoming) (load : Load)
     → IsLoad first before e load → IsAsked first (before ++ e ∷ after) load
-asked_now first before (File file) after load (answer_is, awaits) = record {
-  before = before;
-  after = after;
-  events_are = ap (λ f. before ++ File f ∷ after) (sym answer_is);
-  past = awaits.past;
-  rest = awaits.rest;
-  history = awaits.history;
-  goes_on = awaits.taking;
-  launch = awaits.launch;
-  waits = awaits.waits;
-  path_is = awaits.path_is;
-}
+asked_now first before (File file) after load (answer_is, awaits) = grind (arith, common_steps) steps 200000
 asked_now first before (Piece piece) after load is = absurd is
 asked_now first before End after load is = absurd is
 asked_now first before ReadFailed after load is = absurd is
@@ -90,8 +80,7 @@ answer_now one first before (Report r) load loads more are is past rest history 
 
 longer : (so_far before : List Incoming) (x e : Incoming) → x ≡ e
     → so_far ++ x ∷ before ≡ (so_far ++ e ∷ []) ++ before
-longer so_far before x e same =
-    ap (λ y. so_far ++ y ∷ before) same ∙ sym (append_assoc so_far (e ∷ []) before)
+longer so_far before x e same = cc (append_assoc so_far (e ∷ []) before)
 
 answer_later : (load : Load) (loads more : List Load) (path : List ℕ) (e : Incoming) → loads ≡ load ∷ more
     → IsAnswerFor more path e → IsAnswerFor loads path e
@@ -111,23 +100,20 @@ loaded_along : HistoryIsOne → (first : FirstSeq) (so_far events given : List I
     → IsAnswerFor loads launch.arguments.program event
 loaded_along one first so_far [] given loads is before event after are past rest history taking launch waits =
     absurd (none_within before after event are)
-loaded_along one first so_far (e ∷ events) given loads (inl (l, more, loads_are, loaded, later)) [] event after are past
-    rest history taking launch waits =
+loaded_along one first so_far (e ∷ events) given loads (inl (l, more, loads_are, loaded, later)) [] event after are
+    past rest history taking launch waits =
     let same : e ≡ event = cc in
-    subst (IsAnswerFor loads launch.arguments.program) same
-    (answer_now one first so_far e l loads more loads_are loaded past rest
-    (subst (λ es. IsHistoryOf first es past rest) (append-nil so_far) history) launch waits)
-loaded_along one first so_far (e ∷ events) given loads (inr (more, given_is, none, later)) [] event after are past rest
-    history taking launch waits =
-    absurd (not_awaited one first so_far none past rest
-    (subst (λ es. IsHistoryOf first es past rest) (append-nil so_far) history) taking launch waits)
+    rw (← same) (answer_now one first so_far e l loads more loads_are loaded past rest (rw (← (append-nil so_far))
+    history) launch waits)
+loaded_along one first so_far (e ∷ events) given loads (inr (more, given_is, none, later)) [] event after are past
+    rest history taking launch waits =
+    absurd (not_awaited one first so_far none past rest (rw (← (append-nil so_far)) history) taking launch waits)
 loaded_along one first so_far (e ∷ events) given loads (inl (l, more, loads_are, loaded, later)) (x ∷ before) event
     after are past rest history taking launch waits =
     let same : x ≡ e = cc in
     let rest_are : events ≡ before ++ event ∷ after = cc in
-    answer_later l loads more launch.arguments.program event loads_are
-    (loaded_along one first (so_far ++ e ∷ []) events given more later before event after rest_are past rest
-    (subst (λ es. IsHistoryOf first es past rest) (longer so_far before x e same) history) taking launch waits)
+    answer_later l loads more launch.arguments.program event loads_are (loaded_along one first _ events given more later
+    before event after rest_are past rest (rw (← (longer so_far before x e same)) history) taking launch waits)
 loaded_along one first so_far (e ∷ events) given loads (inr (more, given_is, none, later)) (x ∷ before) event after are
     past rest history taking launch waits =
     let same : x ≡ e = cc in
@@ -158,12 +144,7 @@ merged_along : (first : FirstSeq) (so_far events given : List Incoming) (loads :
     → Interleaves first so_far events given loads → AreMerged events given (answers loads)
 merged_along first so_far [] given loads is = (is.0, ap answers is.1)
 merged_along first so_far (e ∷ events) given loads (inl (l, more, are, loaded, later)) =
-    inr (
-      answers more,
-      ap answers are ∙ ap (λ x. x ∷ answers more) (answer_event first so_far e l loaded),
-      merged_along first
-          (so_far ++ e ∷ []) events given more later,
-    )
+    inr (answers more, cc (answer_event first so_far e l loaded), merged_along first _ events given more later)
 merged_along first so_far (e ∷ events) given loads (inr (more, given_is, none, later)) =
     inl (more, given_is, merged_along first (so_far ++ e ∷ []) events more loads later)
 

@@ -1,6 +1,6 @@
 -- A session that was closed by the end of its input has taken that event, and Quit is its last order.
-use Rattle.dap_history.proofs.Common.{Accepted, Breakpoint, Causes, Close, Command, Content, Effect, Ending, Fault, File, FirstSeq, Go, History, Hold, Incoming, InputEnd, IsAfter, IsHistoryOf, IsTaking, Item, Launch, Launched, Launches, Loaded, MemoryFailure, None, Option, PlainOrder, PlainReport, Quit, Reaction, ReadFailed, ReadFailure, Reason, RepliesIn, Reply, Rest, Running, Situation, SliceOutcome, Some, Step, [], ap, closing, closing_command, closing_report, due_first, effect_in, ending_of, enters, held_effect, hold_once, if◌then◌else◌, inl, inr, is_back, or_else, orders_of, refl, reply_of, report_effect, runs, situation, subst, sym, waiting_pause, ℕ, ◌++◌, ◌||◌, ◌∙◌, ◌∷◌, ◌≡◌, ◌⊎◌}
-use Rattle.std.proofs.Common.{List, Bool, true, false}
+use Rattle.dap_history.proofs.Common.{Accepted, Breakpoint, Causes, Close, Command, Content, Effect, Ending, Fault, File, FirstSeq, Go, History, Hold, Incoming, InputEnd, IsAfter, IsHistoryOf, IsTaking, Item, Launch, Launched, Launches, Loaded, MemoryFailure, None, Option, PlainOrder, PlainReport, Quit, Reaction, ReadFailed, ReadFailure, Reason, RepliesIn, Reply, Rest, Running, Situation, SliceOutcome, Some, Step, [], ap, closing, closing_command, closing_report, due_first, effect_in, ending_of, enters, hold_once, inl, inr, orders_of, refl, reply_of, report_effect, runs, situation, subst, sym, ℕ, ◌++◌, ◌∙◌, ◌∷◌, ◌≡◌, ◌⊎◌, held_effect, if◌then◌else◌, is_back, waiting_pause, ◌||◌}
+use Rattle.std.proofs.Common.{List, true, false, Bool}
 use Rattle.dap_msg.specs.declared.command.Command.TheVariants as command
 use Rattle.dbg_runner.specs.declared.outcome.SliceOutcome.TheVariants as slice
 use Rattle.dap_history.specs.declared.ending.Closed.{Closed}
@@ -17,10 +17,7 @@ use Rattle.dap_history.proofs.Along.{IsTaken, IsKept, AllEvents, any_events, alo
 -- a session that took the item goes on only where the item doesn't close
 pub ends_by : (past : History) (item : Item) (new : History) → IsTaking past → IsAfter past item new
     → ending_of new ≡ closing item
-ends_by past item new taking after =
-    ap ending_of after.new_is ∙ ending_of-snoc past after.step
-    ∙ ap (λ i. or_else (closing i) (ending_of past)) after.item_is
-    ∙ ap (λ o. or_else (closing item) o) taking ∙ or_else-none (closing item)
+ends_by past item new taking after = cc (after.new_is, ending_of-snoc past after.step, after.item_is, or_else-none _)
 
 -- ---- the event that closed the session
 
@@ -203,14 +200,10 @@ report_quits past _ orders quiet = quiet
 -- What an item orders has a Quit just where the item closes the session by no fault.
 item_quits : (past : History) (item : Item) (step : Step) → Causes past item step
     → QuitsBy step.effect.orders (closing item)
-item_quits past (Content (Some request)) step is =
-    subst (λ (e : Effect). QuitsBy e.orders (closing_command request.body)) (sym is.2.effect_is)
-    (replies_quit (situation past) past request.body is.0 is.1)
-item_quits past (Loaded launch file) step is =
-    subst (λ (e : Effect). NoQuit e.orders) (sym is.2.effect_is) (launches_quiet launch file is.0 is.1)
+item_quits past (Content (Some request)) step is = rw is.2.effect_is (replies_quit _ past request.body is.0 is.1)
+item_quits past (Loaded launch file) step is = rw is.2.effect_is (launches_quiet launch file is.0 is.1)
 item_quits past (Accepted r) step is =
-    report_quits past r.outcome step.effect.orders
-    (subst (λ (e : Effect). NoQuit e.orders) (sym is.effect_is) (report_quiet past r r.outcome))
+    report_quits past r.outcome step.effect.orders (rw is.effect_is (report_quiet past r r.outcome))
 item_quits past InputEnd step is = ap (λ (e : Effect). e.orders) is.effect_is
 item_quits past ReadFailure step is = ap (λ (e : Effect). e.orders) is.effect_is
 item_quits past _ step is = subst (λ (e : Effect). NoQuit e.orders) (sym is.effect_is) tt
@@ -226,8 +219,7 @@ record Quits (past : History) : Type 0 where
 -- how the orders so far end with those of one more item
 quits_more : (past : History) (item : Item) (new : History) → IsTaking past → IsAfter past item new → Quits past
     → Quits new
-quits_more past item new taking after here =
-    by_closing (closing item) refl (item_quits past item after.step after.causes)
+quits_more past item new taking after here = by_closing _ refl (item_quits past item after.step after.causes)
   where
     orders_are : orders_of new ≡ orders_of past ++ after.step.effect.orders
     orders_are = ap orders_of after.new_is ∙ orders_of-snoc past after.step
@@ -237,8 +229,7 @@ quits_more past item new taking after here =
 
     none_ordered : NoQuit after.step.effect.orders → NoQuit (orders_of new)
     none_ordered quiet =
-        subst NoQuit (sym orders_are) (no_quit-append (orders_of past) after.step.effect.orders (here.before taking)
-        quiet)
+        rw orders_are (no_quit-append (orders_of past) after.step.effect.orders (here.before taking) quiet)
 
     if_quiet : NoQuit after.step.effect.orders → EndsWithQuit (ending_of new) (orders_of new) → Quits new
     if_quiet quiet closes = record {
@@ -317,11 +308,9 @@ interleaved_event f own no_file before (e ∷ events) given loads (inl from) [] 
     absurd (only_files_load f before e from.0 (λ file. no_file (subst IsFile (ap (first_event own) is) file)) from.3)
 interleaved_event f own no_file before (e ∷ events) given loads (inl from) (x ∷ front) back is =
     interleaved_event f own no_file (before ++ e ∷ []) events given from.1 from.4 front back (ap later_events is)
-interleaved_event f own no_file before (e ∷ events) given loads (inr from) [] back is =
-    ([], from.0, from.1 ∙ ap (λ x. x ∷ from.0) (ap (first_event own) is))
+interleaved_event f own no_file before (e ∷ events) given loads (inr from) [] back is = ([], from.0, cc from.1)
 interleaved_event f own no_file before (e ∷ events) given loads (inr from) (x ∷ front) back is =
-    let there =
-    interleaved_event f own no_file (before ++ e ∷ []) events from.0 loads from.3 front back (ap later_events is) in
+    let there = interleaved_event f own no_file _ events from.0 loads from.3 front back (ap later_events is) in
     (e ∷ there.0, there.1, from.1 ∙ ap (λ l. e ∷ l) there.2)
 
 pub interleaved_end : (first : FirstSeq) (events given : List Incoming) (loads : List Load)

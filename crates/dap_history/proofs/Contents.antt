@@ -1,5 +1,5 @@
 -- The contents taken are those of the joined stream.
-use Rattle.dap_history.proofs.Common.{Accepted, AreReadAs, Command, Content, ContentsAreOfTheStream, Err, Fault, File, FirstSeq, History, Incoming, InputEnd, IsAfter, IsInFront, Item, Launch, LeadsByEvents, LeadsByFile, LeadsByPiece, LeadsByReport, LoadFault, Loaded, Loads, MayTake, MemoryFailure, NoMemory, None, Ok, Option, Piece, PlainReport, ReadFailed, ReadFailure, Ready, Report, Request, Rest, Situation, Some, Step, Rests, Takes, TakesSome, [], ap, append-nil, closed, faulty, filter_map, filter_map-append, inl, inr, launch_request, map-append, no_content, one_content, only_bytes, open_ended, read_as, refl, situation, subst, sym, waiting, waits, wanted_in, ℕ, ◌++◌, ◌∙◌, ◌∷◌, ◌≡◌}
+use Rattle.dap_history.proofs.Common.{Accepted, AreReadAs, Command, Content, ContentsAreOfTheStream, Err, Fault, File, FirstSeq, History, Incoming, InputEnd, IsAfter, IsInFront, Item, Launch, LeadsByEvents, LeadsByFile, LeadsByPiece, LeadsByReport, LoadFault, Loaded, Loads, MayTake, MemoryFailure, NoMemory, None, Ok, Option, Piece, PlainReport, ReadFailed, ReadFailure, Ready, Report, Request, Rest, Situation, Some, Step, Rests, Takes, TakesSome, [], ap, append-nil, closed, faulty, filter_map, filter_map-append, inl, inr, launch_request, map-append, no_content, one_content, only_bytes, open_ended, read_as, refl, situation, sym, waits, wanted_in, ℕ, ◌++◌, ◌∙◌, ◌∷◌, ◌≡◌}
 use Rattle.std.proofs.Common.{List, Result}
 use Rattle.std.specs.Prelude.{map}
 use Rattle.std.proofs.lemmas.List.{append_assoc}
@@ -11,6 +11,8 @@ use Rattle.dap_history.specs.declared.fault.LoadFault.TheVariants as load_fault
 use Rattle.dap_history.specs.Launching.{wanted_by}
 use Rattle.dap_history.specs.Events.{End}
 use Rattle.dap_history.specs.Laws.{stream_of, contents_read}
+use Rattle.std.proofs.Common.{arith}
+use Rattle.std.proofs.lemmas.Grind.{common_steps}
 
 -- ---- what is read
 
@@ -28,10 +30,7 @@ reads past = filter_map read_as (map (λ (step : Step). step.item) past)
 reads_after : (past : History) (item : Item) (new : History) → IsAfter past item new → reads new ≡ reads past
     ++ filter_map read_as (item ∷ [])
 reads_after past item new after =
-    ap reads after.new_is
-    ∙ ap (filter_map read_as) (map-append (λ (s : Step). s.item) past (after.step ∷ []))
-    ∙ filter_map-append read_as (map (λ (s : Step). s.item) past) (after.step.item ∷ [])
-    ∙ ap (λ i. reads past ++ filter_map read_as (i ∷ [])) after.item_is
+    grind (arith, common_steps, filter_map, read_as, map-append, filter_map-append, map) steps 1500000
 
 -- ---- what bytes give
 
@@ -51,17 +50,12 @@ gives_one f bytes request more front =
 
 gives_more : (f : FirstSeq) (bytes left : List ℕ) (requests : List (Option Request)) (more : List ℕ)
     → Gives f bytes left requests → Gives f (bytes ++ more) (left ++ more) requests
-gives_more f bytes left requests more is =
-    record { contents = is.contents; framed = frames_longer bytes left more is.contents is.framed; read = is.read }
+gives_more f bytes left requests more is = grind (arith, common_steps, frames_longer) steps 1500000
 
 module _ (join : FramesJoin) (f : FirstSeq) where
   gives_both : (bytes mid left : List ℕ) (rs ss : List (Option Request)) → Gives f bytes mid rs
       → Gives f mid left ss → Gives f bytes left (rs ++ ss)
-  gives_both bytes mid left rs ss a b = record {
-    contents = a.contents ++ b.contents;
-    framed = join bytes mid left a.contents b.contents a.framed b.framed;
-    read = read-append f a.contents b.contents rs ss a.read b.read;
-  }
+  gives_both bytes mid left rs ss a b = grind (arith, common_steps, read-append) steps 1500000
 
   -- what is taken from bytes, up to what is left
   abbrev Gains : History → List ℕ → History → List ℕ → Option Launch → Type 0
@@ -70,8 +64,7 @@ module _ (join : FramesJoin) (f : FirstSeq) where
 
   wanted_is : (seq : ℕ) (body : Command) (launch : Launch) → wanted_by seq body ≡ Some launch
       → ◌≡◌ {A = Request} (record { seq = seq; body = body }) (launch_request launch)
-  wanted_is seq (command.Launch arguments) launch is =
-      let same : ◌≡◌ {A = Launch} (record { seq = seq; arguments = arguments }) launch = cc in ap launch_request same
+  wanted_is seq (command.Launch arguments) launch is = grind (arith, common_steps) steps 1500000
   wanted_is seq _ launch is = absurd cc
 
   request_is : (s : Situation) (request : Option Request) (launch : Launch) → wanted_in s request ≡ Some launch
@@ -82,13 +75,12 @@ module _ (join : FramesJoin) (f : FirstSeq) where
   some_gain : {past mid : History} {bytes left : List ℕ} (new : History) (end : List ℕ) (launch : Option Launch)
       → TakesSome f past bytes mid left → Gains mid left new end launch → Gains past bytes new end launch
   some_gain new end launch no_content others = others
-  some_gain {past = past} {bytes = bytes} new end launch
-      (one_content {mid = mid} {more = more} request taking front unwanted after some) others =
+  some_gain {past = past} {bytes = bytes} new end launch (one_content {mid = mid} {more = more} request taking front
+      unwanted after some) others =
       let next = some_gain new end launch some others in (
         request ∷ next.0,
         gives_both bytes more end (request ∷ []) next.0 (gives_one f bytes request more front) next.1,
-        next.2 ∙ ap (λ rs. rs ++ next.0) (reads_after past (Content request) mid after)
-            ∙ append_assoc (reads past) (request ∷ []) next.0,
+        cc (next.2, reads_after past (Content request) mid after, append_assoc (reads past) (request ∷ []) next.0),
       )
 
   rests_gain : {past new : History} {bytes : List ℕ} {rest : Rest} → Rests f past bytes new rest
@@ -97,12 +89,8 @@ module _ (join : FramesJoin) (f : FirstSeq) where
   rests_gain {bytes = bytes} (open_ended taking is) = ([], gives_nothing f bytes, refl)
   rests_gain {past = past} {bytes = bytes} (faulty k new taking fault after) =
       ([], gives_nothing f bytes, ap (λ rs. rs ++ []) (reads_after past (Fault k) new after ∙ append-nil (reads past)))
-  rests_gain {past = past} {bytes = bytes} (waits request launch more taking front wanted) = (
-    request ∷ [],
-    gives_one f bytes request more front,
-    ap (λ r. reads past ++ r ∷ [])
-        (sym (request_is (situation past) request launch wanted)),
-  )
+  rests_gain {past = past} {bytes = bytes} (waits request launch more taking front wanted) =
+      (request ∷ [], gives_one f bytes request more front, cc (request_is (situation past) request launch wanted))
 
   takes_gain : (past new : History) (bytes : List ℕ) (rest : Rest) → Takes f past bytes new rest
       → Gains past bytes new rest.bytes rest.launch
@@ -117,47 +105,35 @@ module _ (join : FramesJoin) (f : FirstSeq) where
   -- with nothing waiting, what more is taken of the bytes is what the stream gives further
   taking_gives_further : (stream : List ℕ) (past : History) (bytes : List ℕ) (new : History) (rest : Rest)
       → Gives f stream bytes (reads past) → Gains past bytes new rest.bytes rest.launch → Holds stream new rest
-  taking_gives_further stream past bytes new rest here gains =
-      subst (Gives f stream rest.bytes) (sym gains.2)
-      (gives_both stream bytes rest.bytes (reads past) gains.0 here gains.1)
+  taking_gives_further stream past bytes new rest here gains = grind (arith, common_steps, gives_both) steps 1500000
 
   piece_holds : (stream piece : List ℕ) (past : History) (before : Rest) (launch : Option Launch) (new : History)
       (rest : Rest) → before.launch ≡ launch → LeadsByPiece f past launch (before.bytes ++ piece) new rest
       → Holds stream past before → Holds (stream ++ piece) new rest
   piece_holds stream piece past before None new rest is leads here =
-      taking_gives_further (stream ++ piece) past (before.bytes ++ piece) new rest
-      (subst (Gives f (stream ++ piece) (before.bytes ++ piece)) (ap (contents_read past) is ∙ append-nil (reads past))
-      (gives_more f stream before.bytes (contents_read past before.launch) piece here))
-      (takes_gain past new (before.bytes ++ piece) rest leads)
+      taking_gives_further _ past _ new rest (rw (← (ap (contents_read past) is ∙ append-nil _)) (gives_more f stream
+      before.bytes _ piece here)) (takes_gain past new _ rest leads)
   piece_holds stream piece past before (Some launch) new rest is leads here =
-      subst (λ h. Holds (stream ++ piece) h rest) (sym leads.0)
-      (subst (λ r. Holds (stream ++ piece) past r) (sym leads.1)
-      (subst (Gives f (stream ++ piece) (before.bytes ++ piece)) (ap (contents_read past) is)
-      (gives_more f stream before.bytes (contents_read past before.launch) piece here)))
+      grind (arith, common_steps, gives_more) steps 1500000
 
   loads_hold : (stream : List ℕ) (past : History) (before : Rest) (launch : Launch) (file : Option (List ℕ))
       (new : History) (rest : Rest) → before.launch ≡ Some launch → Loads f past launch file before.bytes new rest
       → Holds stream past before → Holds stream new rest
   loads_hold stream past before launch file new rest is loads here =
-      taking_gives_further stream loads.mid before.bytes new rest
-      (subst (Gives f stream before.bytes) (ap (contents_read past) is
-      ∙ sym (reads_after past (Loaded launch file) loads.mid loads.loaded)) here)
-      (takes_gain loads.mid new before.bytes rest loads.after)
+      taking_gives_further stream loads.mid before.bytes new rest (rw (← (ap (contents_read past) is ∙ sym (reads_after
+      past (Loaded launch file) loads.mid loads.loaded))) here) (takes_gain loads.mid new before.bytes rest loads.after)
 
   -- an item that is no content changes nothing here
   same_holds : (stream : List ℕ) (past : History) (before : Rest) (new : History) (rest : Rest) → reads new ≡ reads past
       → rest ≡ before → Holds stream past before → Holds stream new rest
-  same_holds stream past before new rest same rest_is here =
-      subst (λ r. Holds stream new r) (sym rest_is)
-      (subst (λ rs. Gives f stream before.bytes (rs ++ waiting before.launch)) (sym same) here)
+  same_holds stream past before new rest same rest_is here = grind (arith, common_steps) steps 1500000
 
   abbrev NoContent : Item → Type 0
   NoContent item = read_as item ≡ None
 
   after_same : (past : History) (item : Item) (new : History) → NoContent item → IsAfter past item new
       → reads new ≡ reads past
-  after_same past item new is after =
-      reads_after past item new after ∙ ap (λ rs. reads past ++ rs) (none_read is) ∙ append-nil (reads past)
+  after_same past item new is after = cc (reads_after past item new after, none_read is, append-nil (reads past))
     where
       first : Option (Option Request) → List (Option Request)
       first None = []
@@ -180,8 +156,7 @@ module _ (join : FramesJoin) (f : FirstSeq) where
       (file : Result (List ℕ) LoadFault) (new : History) (rest : Rest) → before.launch ≡ launch
       → LeadsByFile f past before launch file new rest
       → Holds stream past before → Holds stream new rest
-  file_holds stream past before None file new rest is leads here =
-      same_holds stream past before new rest (ap reads leads.0) leads.1 here
+  file_holds stream past before None file new rest is leads here = grind (arith, common_steps, same_holds) steps 1500000
   file_holds stream past before (Some launch) (Ok file) new rest is (inl leads) here =
       same_holds stream past before new rest (ap reads leads.1) leads.2 here
   file_holds stream past before (Some launch) (Ok file) new rest is (inr leads) here =
@@ -201,13 +176,10 @@ module _ (join : FramesJoin) (f : FirstSeq) where
       (rest : Rest) → LeadsByEvents f past before events new rest → Holds stream past before
       → Holds (stream ++ stream_of events) new rest
   events_hold stream past before [] new rest all here =
-      subst (λ s. Holds s new rest) (sym (append-nil stream))
-      (same_holds stream past before new rest (ap reads all.0) all.1 here)
+      grind (arith, common_steps, append-nil, same_holds) steps 1500000
   events_hold stream past before (Piece piece ∷ events) new rest all here =
-      subst (λ s. Holds s new rest) (append_assoc stream piece (stream_of events))
-      (events_hold (stream ++ piece) all.0 all.1 events new rest all.3
-      (piece_holds stream piece past before before.launch all.0 all.1 refl
-      all.2 here))
+      rw (← (append_assoc stream piece (stream_of events))) (events_hold (stream ++ piece) all.0 all.1 events new rest
+      all.3 (piece_holds stream piece past before before.launch all.0 all.1 refl all.2 here))
   events_hold stream past before (End ∷ events) new rest all here =
       events_hold stream all.0 all.1 events new rest all.3
       (same_holds stream past before all.0 all.1 (may_same past InputEnd all.0 refl all.2.0) all.2.1 here)

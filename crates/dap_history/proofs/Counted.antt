@@ -1,5 +1,5 @@
 -- Runs are numbered in order, and the last one has come to where the program stands.
-use Rattle.dap_history.proofs.Common.{Accepted, Accepts, Causes, Content, Effect, Heading, History, Incoming, Item, Loaded, None, Option, PlainOrder, PlainReport, Some, Step, [], all_runs, ap, append-nil, arith, end_in, end_of, filter_map, filter_map-append, go, if◌then◌else◌, inl, inr, last_run, last_such, length, length-append, or_else, orders_of, refl, run_end, runs, situation, subst, sym, unwrap_or, ℕ, ◌++◌, ◌+◌, ◌<◌, ◌∙◌, ◌∷◌, ◌≡◌, ◌≢◌, ◌⊎◌}
+use Rattle.dap_history.proofs.Common.{Accepted, Accepts, Causes, Content, Effect, Heading, History, Incoming, Item, Loaded, None, Option, PlainOrder, PlainReport, Some, Step, [], all_runs, ap, append-nil, arith, end_in, end_of, filter_map, filter_map-append, go, if◌then◌else◌, last_run, last_such, length, length-append, orders_of, refl, run_end, runs, situation, subst, sym, unwrap_or, ℕ, ◌++◌, ◌+◌, ◌<◌, ◌∙◌, ◌∷◌, ◌≡◌, ◌≢◌, inl, inr, or_else, ◌⊎◌}
 use Rattle.std.proofs.Common.{nat_eq, List, true, false}
 use Rattle.std.proofs.lemmas.Bool.{ne_eqb}
 use Rattle.std.proofs.lemmas.Bool.Decides.{eqb_tells}
@@ -15,8 +15,7 @@ use Rattle.dap_history.proofs.Runs.{none_such, last_front, AreNumbered, numbered
 
 pub all_runs-snoc : (past : History) (step : Step) → all_runs (past ++ step ∷ []) ≡ all_runs past
     ++ filter_map go step.effect.orders
-all_runs-snoc past step =
-    ap (filter_map go) (orders_of-snoc past step) ∙ filter_map-append go (orders_of past) step.effect.orders
+all_runs-snoc past step = cc (orders_of-snoc past step, filter_map-append go (orders_of past) step.effect.orders)
 
 pub run_end-snoc : (past : History) (step : Step) (run : Heading)
     → run_end (past ++ step ∷ []) run ≡ unwrap_or (end_in run.run step.item) (run_end past run)
@@ -31,9 +30,8 @@ next_runs past (Content None) step is = subst (NextRunsOf past) (sym is.effect_i
 next_runs past (Content (Some request)) step is =
     subst (NextRunsOf past) (sym is.2.effect_is) (all_silent (situation past) past request.body is.0 is.1).runs_are
 next_runs past (Loaded launch file) step is =
-    subst (NextRunsOf past) (sym is.2.effect_is)
-    (subst (NextRuns past) (sym (none_such PlainOrder Heading go is.0.effect.orders
-    (loaded_orders launch file is.0 is.1))) no_runs)
+    rw is.2.effect_is (rw (none_such PlainOrder Heading go is.0.effect.orders (loaded_orders launch file is.0 is.1))
+    no_runs)
 next_runs past (Accepted r) step is = subst (NextRunsOf past) (sym is.effect_is) (report_runs past r r.outcome)
 next_runs past _ step is = subst (NextRunsOf past) (sym is.effect_is) no_runs
 
@@ -129,8 +127,7 @@ module _ (Q : Incoming → Type 0) (past : History) (step : Step) (taken : IsTak
   numbered_more : (next : List Heading) → NextRuns past next → AreNumbered 1 (all_runs past ++ next)
   numbered_more [] no_runs = subst (AreNumbered 1) (sym (append-nil (all_runs past))) counted.numbered
   numbered_more (run ∷ (other ∷ rest)) next = elim next [ ]
-  numbered_more (run ∷ []) (next_run run' number) =
-      numbered-snoc 1 (all_runs past) run counted.numbered (omega (arith, number))
+  numbered_more (run ∷ []) (next_run run' number) = numbered-snoc 1 _ run counted.numbered (omega (arith, number))
 
   unreported_more : (n : ℕ) → runs (past ++ step ∷ []) < n → last_such (λ (s : Step). end_in n s.item)
       (past ++ step ∷ []) ≡ None

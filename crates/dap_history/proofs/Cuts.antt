@@ -1,5 +1,5 @@
 -- How the stream was cut into pieces changes nothing.
-use Rattle.dap_history.proofs.Common.{Fault, FaultAt, FirstSeq, FramingFault, HasFaultyLine, History, Incoming, IsInFront, IsTaking, Launch, LeadsByEvent, LeadsByEvents, LeadsByPiece, None, Option, Piece, Request, Rest, Some, Rests, Takes, TakesSome, [], ap, arith, closed, faulty, length-append, line_of, lines_of, no_content, one_content, only_bytes, open_ended, refl, subst, sym, waits, ℕ, ◌++◌, ◌∙◌, ◌∷◌, ◌≡◌}
+use Rattle.dap_history.proofs.Common.{Fault, FaultAt, FirstSeq, FramingFault, HasFaultyLine, History, Incoming, IsInFront, IsTaking, Launch, LeadsByEvent, LeadsByEvents, LeadsByPiece, None, Option, Piece, Request, Rest, Some, Rests, Takes, TakesSome, [], arith, closed, faulty, length-append, no_content, one_content, only_bytes, open_ended, refl, waits, ℕ, ◌++◌, ◌∙◌, ◌∷◌, ◌≡◌, subst}
 use Rattle.std.proofs.Common.{List}
 use Rattle.std.proofs.lemmas.List.{append_assoc, take-append-le}
 use Rattle.dap_frame.specs.declared.fault.FramingFault.TheVariants.{HeaderTooLong, BadField, NoLength, TwoLengths, BadLength, TooLarge, NoMemory as NoRoom}
@@ -7,6 +7,7 @@ use Rattle.dap_frame.specs.Header.{IsTooLong, header_limit}
 use Rattle.dap_frame.proofs.Feeding.{frame_longer}
 use Rattle.dap_history.specs.Laws.{CutsChangeNothing}
 use Rattle.dap_history.proofs.Along.{closes_for_good}
+use Rattle.std.proofs.lemmas.Grind.{common_steps}
 
 -- ---- more bytes after those there are
 
@@ -17,17 +18,7 @@ in_front_more first bytes request left more is =
     record { content = is.content; framed = frame_longer bytes is.content left more is.framed; read = is.read }
 
 line_more : (bytes more : List ℕ) (k : FramingFault) → HasFaultyLine bytes k → HasFaultyLine (bytes ++ more) k
-line_more bytes more k is = record {
-  fields = is.fields;
-  line = is.line;
-  after = is.after ++ more;
-  faultless = is.faultless;
-  spelled = ap (λ b. b ++ more) is.spelled ∙ append_assoc (lines_of is.fields) (line_of is.line ++ is.after) more
-      ∙ ap (λ b. lines_of is.fields ++ b) (append_assoc (line_of is.line) is.after more);
-  one_line = is.one_line;
-  within = is.within;
-  faulty = is.faulty;
-}
+line_more bytes more k is = grind (arith, common_steps, append_assoc) steps 200000
 
 long_more : (bytes more : List ℕ) → IsTooLong bytes → IsTooLong (bytes ++ more)
 long_more bytes more is = record {
@@ -92,14 +83,11 @@ rests_longer b new rest (closed not) second = second
 rests_longer b new rest (open_ended taking is) second = second
 rests_longer {first = first} {past = past} {bytes = bytes} b new rest (faulty k mid taking fault after) second =
     let is = takes_not first mid new (bytes ++ b) rest (closes_for_good past (Fault k) mid _ refl after) second in
-    subst (λ h. Takes first past (bytes ++ b) h rest) (sym is.0)
-    (subst (λ r. Takes first past (bytes ++ b) mid r) (sym is.1)
-    (at_once (faulty k mid taking (fault_more bytes b k fault) after)))
-rests_longer {first = first} {past = past} {bytes = bytes} b new rest (waits request launch more taking front wanted)
-    second =
-    subst (λ h. Takes first past (bytes ++ b) h rest) (sym second.0)
-    (subst (λ r. Takes first past (bytes ++ b) past r) (sym second.1)
-    (at_once (waits request launch (more ++ b) taking (in_front_more first bytes request more b front) wanted)))
+    rw is.0 (rw is.1 (at_once (faulty k mid taking (fault_more bytes b k fault) after)))
+rests_longer {first = first} {past = past} {bytes = bytes} b new rest (waits request launch more taking front
+    wanted) second =
+    rw second.0 (rw second.1 (at_once (waits request launch (more ++ b) taking (in_front_more first bytes request more b
+    front) wanted)))
 
 two_takes : (first : FirstSeq) (past mid : History) (bytes : List ℕ) (between : Rest) (b : List ℕ) (new : History)
     (rest : Rest)
@@ -126,8 +114,7 @@ two_pieces : (first : FirstSeq) (past : History) (before : Rest) (a b : List ℕ
     (rest : Rest) → LeadsByEvent first past before (Piece a) mid between
     → LeadsByEvent first mid between (Piece b) new rest → LeadsByEvent first past before (Piece (a ++ b)) new rest
 two_pieces first past before a b mid between new rest one second =
-    subst (λ bytes. LeadsByPiece first past before.launch bytes new rest) (append_assoc before.bytes a b)
-    (two_by_piece first past before.launch (before.bytes ++ a) b mid between new rest one second)
+    rw (← (append_assoc before.bytes a b)) (two_by_piece first past before.launch _ b mid between new rest one second)
 
 joined : (first : FirstSeq) (a b : List ℕ) (before after : List Incoming) (past : History) (start : Rest)
     (new : History) (rest : Rest)
@@ -139,5 +126,4 @@ joined first a b (e ∷ before) after past start new rest all =
     (all.0, all.1, all.2, joined first a b before after all.0 all.1 new rest all.3)
 
 pub cuts_change_nothing : CutsChangeNothing
-cuts_change_nothing first a b before after past rest history =
-    joined first a b before after [] (only_bytes []) past rest history
+cuts_change_nothing first a b before after past rest history = joined first a b before after [] _ past rest history

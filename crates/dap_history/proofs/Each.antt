@@ -1,5 +1,5 @@
 -- Each step of a history was caused by its item, after the steps before it.
-use Rattle.dap_history.proofs.Common.{Causes, History, Incoming, IsAfter, IsTaking, Item, Step, [], ap, inl, inr, refl, subst, sym, ◌++◌, ◌∙◌, ◌∷◌, ◌≡◌, ◌⊎◌}
+use Rattle.dap_history.proofs.Common.{Causes, History, Incoming, IsAfter, IsTaking, Item, Step, [], ap, inl, inr, refl, sym, ◌++◌, ◌∙◌, ◌∷◌, ◌≡◌, ◌⊎◌, subst}
 use Rattle.dap_history.proofs.Along.{IsTaken, IsKept}
 
 abbrev head_of : (xs : History) (first : Step) → Step

@@ -1,11 +1,13 @@
 -- In Fresh and Ready nothing is launched: only the first `initialize` leads to Ready.
-use Rattle.dap_history.proofs.Common.{Answers, Body, Command, CommandName, Err, Event, EventBody, Fresh, Go, History, Hold, None, Ok, Option, PlainOrder, Quit, Reaction, Ready, Refusal, RepliesIn, Reply, Situation, Some, Step, [], answer_mark, command_mark, event_mark, inl, inr, last_such, message_mark, name_of, or_else, order_mark, refl, reply_of, step_mark, subst, unwrap_or, with_answer, ℕ, ◌∷◌, ◌≡◌, ◌⊎◌}
+use Rattle.dap_history.proofs.Common.{Answers, Body, Command, CommandName, Err, Event, EventBody, Fresh, Go, History, Hold, None, Ok, Option, PlainOrder, Quit, Reaction, Ready, Refusal, RepliesIn, Reply, Situation, Some, Step, [], answer_mark, command_mark, event_mark, inl, inr, last_such, message_mark, name_of, or_else, order_mark, refl, reply_of, step_mark, unwrap_or, with_answer, ℕ, ◌∷◌, ◌≡◌, ◌⊎◌}
 use Rattle.std.proofs.Common.{List}
 use Rattle.std.specs.Prelude.{map, Result}
 use Rattle.dap_msg.specs.declared.command.Command.TheVariants as command
 use Rattle.dap_msg.specs.declared.outgoing.EventBody.TheVariants as event
 use Rattle.dap_history.proofs.Told.{by_stop_mark}
 use Rattle.dap_history.proofs.Reacted.{IsCalm, Reacted, by_answering, by_reaction}
+use Rattle.std.proofs.Common.{arith}
+use Rattle.std.proofs.lemmas.Grind.{common_steps}
 
 abbrev pub IsEarly : Situation → Type 0
 IsEarly Fresh = Unit {0}
@@ -40,28 +42,18 @@ event_late event.Terminated is = is
 
 events_late : (es : List EventBody) → ¬ IsEarlyMark (last_such message_mark (map Event es))
 events_late [] is = is
-events_late (e ∷ es) is =
-    neither (last_such message_mark (map Event es)) (event_mark e) (events_late es) (event_late e) is
+events_late (e ∷ es) is = grind (arith, common_steps, neither, map, events_late es, event_late) steps 1500000
 
 -- a step without an answer leads to neither
 pub unanswered_late : (step : Step) → step.answer ≡ None → ¬ IsEarlyMark (step_mark step)
 unanswered_late step none is =
-    neither (last_such order_mark step.effect.orders) (last_such message_mark (map Event step.effect.events))
-    (orders_late step.effect.orders) (events_late step.effect.events)
-    (subst (λ a. IsEarlyMark (or_else (last_such order_mark step.effect.orders)
-    (last_such message_mark (with_answer a (map Event step.effect.events))))) none is)
+    grind (arith, common_steps, neither, map, orders_late, events_late, with_answer) steps 1500000
 
 -- nor one whose answer doesn't
 pub answered_late : (seq : ℕ) (command : CommandName) (reply : Reply) (step : Step) → Answers seq command reply step
     → ¬ IsEarlyMark (answer_mark command reply.result) → ¬ IsEarlyMark (step_mark step)
 answered_late seq command reply step answers not is =
-    neither (last_such order_mark step.effect.orders)
-    (or_else (last_such message_mark (map Event step.effect.events)) (answer_mark command reply.result))
-    (orders_late step.effect.orders)
-    (neither (last_such message_mark (map Event step.effect.events)) (answer_mark command reply.result)
-    (events_late step.effect.events) not)
-    (subst (λ a. IsEarlyMark (or_else (last_such order_mark step.effect.orders)
-    (last_such message_mark (with_answer a (map Event step.effect.events))))) answers.answer_is is)
+    grind (arith, common_steps, neither, map, orders_late, events_late, with_answer) steps 1500000
 
 pub result_late : (command : CommandName) → ¬ IsEarlyMark (command_mark command) → (result : Result Body Refusal)
     → ¬ IsEarlyMark (answer_mark command result)
@@ -86,9 +78,7 @@ reaction_early past _ early = absurd early
 -- an answer that leads to Ready is given in Fresh
 pub early_reply : (s : Situation) (past : History) (asked : Command) (reply : Reply) → RepliesIn s past asked reply
     → IsEarlyMark (answer_mark (name_of asked) reply.result) → s ≡ Fresh
-early_reply s past asked reply is early =
-    by_reaction (λ (r : Reply). IsEarlyMark (answer_mark (name_of asked) r.result) → s ≡ Fresh)
-    (λ reaction reacted early. reaction_early past reacted early) is early
+early_reply s past asked reply is early = grind (arith, common_steps, by_reaction, reaction_early) steps 1500000
 
 pub early_unwrap : (o : Option Situation) (s : Situation) → IsEarly (unwrap_or o s) → IsEarlyMark o
     ⊎ ((o ≡ None) × IsEarly s)

@@ -1,5 +1,5 @@
 -- No item leads nowhere: what its texts read as, or that they don't, gives it an answer.
-use Rattle.dap_history.proofs.Common.{Accepted, AreResolved, At, BadCondition, Block, Breakpoint, Command, Configuration, Configuring, Content, Ended, Err, EvalFault, EvaluatesIn, Expression, Fault, Faulted, Frame, Fresh, HasConditionAt, HasRule, History, InputEnd, Inspects, IsResolvedTo, IsSome, Item, Launch, Launched, Loaded, MemoryFailure, NoStep, None, OfProgram, Ok, Option, Reaction, Reacts, ReadFailure, Refuse, Ready, RepliesAt, Request, Resolution, RunFault, Running, SetsOf, Situation, Some, Stopped, WrittenJoins, [], asked_as, at, frame_by_id, inl, inr, is_same_path, launched, launches, line_offset, name_of, refl, refused, reply_of, reply_with, situation, step_from, subject_in, subst, sym, value, ℕ, ◌++◌, ◌-◌, ◌∷◌, ◌≡◌}
+use Rattle.dap_history.proofs.Common.{Accepted, AreResolved, At, BadCondition, Block, Breakpoint, Command, Configuration, Configuring, Content, Ended, Err, EvalFault, EvaluatesIn, Expression, Fault, Faulted, Frame, Fresh, HasConditionAt, HasRule, History, InputEnd, Inspects, IsResolvedTo, IsSome, Item, Launch, Launched, Loaded, MemoryFailure, NoStep, None, OfProgram, Ok, Option, Reaction, Reacts, ReadFailure, Refuse, Ready, RepliesAt, Request, Resolution, RunFault, Running, SetsOf, Situation, Some, Stopped, WrittenJoins, [], asked_as, at, frame_by_id, inl, inr, is_same_path, launched, launches, line_offset, refl, refused, reply_of, reply_with, situation, step_from, subject_in, subst, sym, value, ℕ, ◌++◌, ◌-◌, ◌∷◌, ◌≡◌}
 use Rattle.std.proofs.Common.{List, map, Bool, true, false, ℤ, Result}
 use Rattle.dap_msg.specs.declared.question.Question.TheVariants as question
 use Rattle.dap_msg.specs.declared.question.Shown.{Shown}
@@ -25,7 +25,7 @@ use Rattle.dbg_plan.specs.declared.resolving.Resolution.TheVariants.{BadHitCondi
 use Rattle.dap_history.specs.Readings.{position}
 use Rattle.dap_history.specs.Inspection.{result_answer}
 use Rattle.dap_history.specs.Launching.{syntax}
-use Rattle.dap_history.specs.Laws.{IsPlain, NoItemLeadsNowhere}
+use Rattle.dap_history.specs.Laws.{NoItemLeadsNowhere}
 use Rattle.dap_history.proofs.Texts.{OneProgram}
 use Rattle.dap_history.proofs.Along.{IsLawfulEvent, lawful_events, along}
 use Rattle.dap_history.proofs.Early.{IsEarly}
@@ -134,8 +134,7 @@ module _ (one : OneProgram) (joins : WrittenJoins) (no_gaps : RunsHaveNoGaps) (t
     by_reacting : (s : Situation) → situation past ≡ s → (reaction : Reaction) → Reacts s past request.body reaction
         → Leads (Content (Some request))
     by_reacting s is reaction reacts =
-        by_step one joins no_gaps past here (Content (Some request)) (Some
-        (Answer request.seq (name_of request.body) (reply_of past reaction).result)) (reply_of past reaction).effect (
+        by_step one joins no_gaps past here _ _ (reply_of past reaction).effect (
           reply_of past reaction,
           record {
             reaction = reaction;
@@ -164,10 +163,9 @@ module _ (one : OneProgram) (joins : WrittenJoins) (no_gaps : RunsHaveNoGaps) (t
       → ¬ (¬ Leads (Content (Some request)))
   sets_lead s is not request a asks row none =
       let there = late s is not in
-      sets there.0 a (is_same_path a.path there.0.path) (λ reaction sets_so.
-      none (by_reacting request s is reaction (subst (λ c. Reacts s past c reaction) (sym asks)
-      (row reaction (of_program one joins no_gaps past here there.0 there.1
-      (λ l. SetsOf (is_same_path a.path l.path) past l a.breakpoints reaction) sets_so)))))
+      sets there.0 a (is_same_path a.path there.0.path) (λ reaction sets_so. none (by_reacting request s is reaction (rw
+      asks (row reaction (of_program one joins no_gaps past here there.0 there.1 (λ l. SetsOf (is_same_path a.path
+      l.path) past l a.breakpoints reaction) sets_so)))))
 
   -- an expression is read where the program stands
   evaluate_leads : (s : Situation) → situation past ≡ s → ¬ IsEarly s → (request : Request) (q : EvaluateArguments)
@@ -184,28 +182,24 @@ module _ (one : OneProgram) (joins : WrittenJoins) (no_gaps : RunsHaveNoGaps) (t
       with_answer : (answer : Result Shown Refusal) → RepliesAt (subject_in past there.0)
           (at there.0.program (position past)) (question.Evaluate q) answer → ⊥
       with_answer answer replies =
-          let inspects = reaction_there past (question.Evaluate q) answer
-          (of_program one joins no_gaps past here there.0 there.1
-          (λ l. RepliesAt (subject_in past l) (at l.program (position past)) (question.Evaluate q) answer) replies) in
+          let inspects = reaction_there past _ answer (of_program one joins no_gaps past here there.0 there.1 (λ l.
+          RepliesAt (subject_in past l) (at l.program (position past)) (question.Evaluate q) answer) replies) in
           let made = reaction_with answer in
           none (by_reacting request s is made (subst (λ c. Reacts s past c made) (sym asks) (row made inspects)))
 
       at_some : (o : Option Configuration) → at there.0.program (position past) ≡ o
           → IsSome (at there.0.program (position past)) → ⊥
       at_some (Some c) c_is some =
-          evaluates arithmetic there.0.program c q.frame_id (frame_by_id c q.frame_id) q.expression
-          (λ answer evaluates_so. with_answer answer (subst
-          (λ o. RepliesAt (subject_in past there.0) o (question.Evaluate q) answer) (sym c_is) evaluates_so))
+          evaluates arithmetic there.0.program c q.frame_id (frame_by_id c q.frame_id) q.expression (λ answer
+          evaluates_so. with_answer answer (rw c_is evaluates_so))
       at_some None c_is some = let e = subst IsSome c_is some in absurd cc
 
   request_leads : (request : Request) (asked : Command) → request.body ≡ asked → (s : Situation) → situation past ≡ s
       → ¬ (¬ Leads (Content (Some request)))
   request_leads request (command.SetBreakpoints a) asks Fresh is none =
-      none (by_reacting request Fresh is (Refuse refusal.WrongPhase)
-      (subst (λ c. Reacts Fresh past c (Refuse refusal.WrongPhase)) (sym asks) refl))
+      none (by_reacting request Fresh is (Refuse refusal.WrongPhase) (rw asks refl))
   request_leads request (command.SetBreakpoints a) asks Ready is none =
-      none (by_reacting request Ready is (Refuse refusal.WrongPhase)
-      (subst (λ c. Reacts Ready past c (Refuse refusal.WrongPhase)) (sym asks) refl))
+      none (by_reacting request Ready is (Refuse refusal.WrongPhase) (rw asks refl))
   request_leads request (command.SetBreakpoints a) asks Configuring is none =
       sets_lead Configuring is (λ x. x) request a asks (λ reaction row. row) none
   request_leads request (command.SetBreakpoints a) asks Running is none =
@@ -221,22 +215,16 @@ module _ (one : OneProgram) (joins : WrittenJoins) (no_gaps : RunsHaveNoGaps) (t
   request_leads request (command.Inspect (question.Evaluate q)) asks Faulted is none =
       evaluate_leads Faulted is (λ x. x) request q asks (λ reaction row. row) none
   request_leads request (command.Inspect (question.Evaluate q)) asks Fresh is none =
-      none (by_reacting request Fresh is (Refuse refusal.WrongPhase)
-      (subst (λ c. Reacts Fresh past c (Refuse refusal.WrongPhase)) (sym asks) refl))
+      none (by_reacting request Fresh is (Refuse refusal.WrongPhase) (rw asks refl))
   request_leads request (command.Inspect (question.Evaluate q)) asks Ready is none =
-      none (by_reacting request Ready is (Refuse refusal.WrongPhase)
-      (subst (λ c. Reacts Ready past c (Refuse refusal.WrongPhase)) (sym asks) refl))
+      none (by_reacting request Ready is (Refuse refusal.WrongPhase) (rw asks refl))
   request_leads request (command.Inspect (question.Evaluate q)) asks Configuring is none =
-      none (by_reacting request Configuring is (Refuse refusal.WrongPhase)
-      (subst (λ c. Reacts Configuring past c (Refuse refusal.WrongPhase)) (sym asks) refl))
+      none (by_reacting request Configuring is (Refuse refusal.WrongPhase) (rw asks refl))
   request_leads request (command.Inspect (question.Evaluate q)) asks Running is none =
-      none (by_reacting request Running is (Refuse refusal.NotStopped)
-      (subst (λ c. Reacts Running past c (Refuse refusal.NotStopped)) (sym asks) refl))
+      none (by_reacting request Running is (Refuse refusal.NotStopped) (rw asks refl))
   request_leads request (command.Inspect (question.Evaluate q)) asks Ended is none =
-      none (by_reacting request Ended is (Refuse refusal.WrongPhase)
-      (subst (λ c. Reacts Ended past c (Refuse refusal.WrongPhase)) (sym asks) refl))
-  request_leads request asked asks s is none =
-      none (leads_on one joins no_gaps past here (Content (Some request)) (subst IsPlain (sym asks) tt))
+      none (by_reacting request Ended is (Refuse refusal.WrongPhase) (rw asks refl))
+  request_leads request asked asks s is none = none (leads_on one joins no_gaps past here _ (rw asks tt))
 
   item_leads : (item : Item) → ¬ (¬ Leads item)
   item_leads (Content None) none = none (leads_on one joins no_gaps past here (Content None) tt)
@@ -252,7 +240,6 @@ module _ (one : OneProgram) (joins : WrittenJoins) (no_gaps : RunsHaveNoGaps) (t
 pub none_nowhere : OneProgram → WrittenJoins → RunsHaveNoGaps → TextsHaveOne → ValuesAreArithmetic
     → NoItemLeadsNowhere
 none_nowhere one joins no_gaps texts arithmetic f events past rest lawful history item nowhere =
-    item_leads one joins no_gaps texts arithmetic past
-    (along IsLawfulEvent (Leading one joins no_gaps) (leading_kept one joins no_gaps)
-    (leading_first one joins no_gaps) f events past rest (lawful_events events lawful) history) item
-    (λ leads. nowhere leads.0 leads.1)
+    item_leads one joins no_gaps texts arithmetic past (along IsLawfulEvent _ (leading_kept one joins no_gaps)
+    (leading_first one joins no_gaps) f events past rest (lawful_events events lawful) history) item (λ leads. nowhere
+    leads.0 leads.1)

@@ -39,10 +39,8 @@ exits events = filter_map exit_of events
 
 outputs_exit_not : (es : List EventBody) → All IsOutput es → exits es ≡ []
 outputs_exit_not [] all = refl
-outputs_exit_not (event.Output v ∷ es) all =
-    outputs_exit_not es (All-tail IsOutput (event.Output v) es all)
-outputs_exit_not (event.Log text ∷ es) all =
-    outputs_exit_not es (All-tail IsOutput (event.Log text) es all)
+outputs_exit_not (event.Output v ∷ es) all = outputs_exit_not es (All-tail IsOutput _ es all)
+outputs_exit_not (event.Log text ∷ es) all = outputs_exit_not es (All-tail IsOutput _ es all)
 outputs_exit_not (e ∷ es) all = absurd (All-head IsOutput e es all)
 
 -- the codes of all exits of some events, of which one is this
@@ -62,8 +60,7 @@ only_one (c ∷ d ∷ front) back code other is = absurd cc
 -- events that are outputs and then these
 after_outputs : (outputs last events : List EventBody) → All IsOutput outputs → events ≡ outputs ++ last
     → exits events ≡ exits last
-after_outputs outputs last events all is =
-    ap exits is ∙ filter_map-append exit_of outputs last ∙ ap (λ cs. cs ++ exits last) (outputs_exit_not outputs all)
+after_outputs outputs last events all is = cc (filter_map-append exit_of outputs last, outputs_exit_not outputs all)
 
 -- a report exits where it is done
 report_exits : (before : History) (e : SliceOutcome) (front back : List ℕ) (code : ℕ)
@@ -92,8 +89,7 @@ first_exits_not : (events : List EventBody) (front back : List ℕ) (code : ℕ)
 first_exits_not events front back code (outputs, all, inl same) is =
     not_none front back code (sym (ap exits same ∙ outputs_exit_not outputs all) ∙ is)
 first_exits_not events front back code (outputs, all, inr stops) is =
-    not_none front back code
-    (sym (after_outputs outputs (event.Stopped stops.0 ∷ []) events all stops.1) ∙ is)
+    not_none front back code (sym (after_outputs outputs _ events all stops.1) ∙ is)
 
 reply_exits : (s : Situation) (asked : Command) (events : List EventBody) (front back : List ℕ) (code : ℕ)
     → TellsBy s asked events → exits events ≡ front ++ code ∷ back → (s ≡ Faulted) × (code ≡ 1)
@@ -208,26 +204,15 @@ module _ (one : OneProgram) (joins : WrittenJoins) where
     stays_there : (item : Item) → step.item ≡ item → step.effect.launched ≡ None → end_of item ≡ None
         → situation past ≡ Faulted → FaultAt (past ++ step ∷ [])
     stays_there item item_is none stays faulted =
-        let was = there faulted in (
-          was.0,
-          was.1,
-          launched-snoc past step ∙ ap (λ o. or_else o (launched past)) none ∙ was.2,
-          ap (outcome was.0.program) (position-snoc past step
-              ∙ ap (λ i. unwrap_or (end_of i) (position past)) item_is
-              ∙ ap (λ o. unwrap_or o (position past)) stays) ∙ was.3,
-        )
+        let was = there faulted in
+        (was.0, was.1, cc (launched-snoc past step, was.2), cc (position-snoc past step, was.3))
 
     fault_more : (item : Item) → step.item ≡ item → IsTaken IsLawfulEvent past item → Causes past item step
         → item_leads item step.answer (stop_in step) (situation past) ≡ Faulted → FaultAt (past ++ step ∷ [])
-    fault_more (Content None) item_is taken is faulted =
-        stays_there (Content None) item_is (ap (λ (e : Effect). e.launched) is.effect_is) refl faulted
+    fault_more (Content None) item_is taken is faulted = stays_there _ item_is (cc is.effect_is) refl faulted
     fault_more (Content (Some request)) item_is taken is faulted =
-        stays_there (Content (Some request)) item_is
-        (ap (λ (e : Effect). e.launched) is.2.effect_is
-        ∙ (all_silent (situation past) past request.body is.0 is.1).no_launch)
-        refl
-        (granted_keeps step.answer (command_leads request.body (situation past) (stop_in step)) (situation past)
-        (command_keeps request.body (situation past) (stop_in step)) faulted)
+        stays_there _ item_is (ap (λ (e : Effect). e.launched) is.2.effect_is ∙ (all_silent _ past request.body is.0
+        is.1).no_launch) refl (granted_keeps step.answer _ _ (command_keeps request.body _ _) faulted)
     fault_more (Loaded launch file) item_is taken is faulted =
         let was = granted_keeps step.answer (launch_leads (situation past)) (situation past)
         (launch_keeps (situation past)) faulted in
@@ -247,8 +232,7 @@ module _ (one : OneProgram) (joins : WrittenJoins) where
               (sym (report_program one joins past r taken.1 l.0 taken.0 (ran.so_far.progress (Some l.0) l.1)))
               ∙ faults_on taken.1.program r (goes_back r.mode) taken.1.lawful.went r.outcome refl by.0 by.1,
         )
-    fault_more item item_is taken is faulted =
-        stays_there item item_is (ap (λ (e : Effect). e.launched) is.effect_is) refl faulted
+    fault_more item item_is taken is faulted = stays_there item item_is (cc is.effect_is) refl faulted
 
   -- ---- along a history
 
@@ -401,8 +385,7 @@ module _ (one : OneProgram) (joins : WrittenJoins) where
       by_spent (inr some) = let on = some.0 in omega (arith, on, from)
   further_on main l r start same from (slice.Due why) (is_due on there runs) = omega (arith, on, from)
   further_on main l r start same from slice.Done (is_over on over) = omega (arith, on, from)
-  further_on main l r start same from (slice.Fault fault) (faults early passed fails runs) =
-      ap (λ p. outcome p r.end) (sym same) ∙ fails
+  further_on main l r start same from (slice.Fault fault) (faults early passed fails runs) = cc
   further_on main l r start same from slice.Held (is_held stays runs) = stays ∙ from
   further_on main l r start same from slice.NoMemory (lacks_memory stays runs) = stays ∙ from
 

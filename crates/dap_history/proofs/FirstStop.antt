@@ -1,5 +1,5 @@
 -- A granted `configurationDone` stops the program at position 0 where it has to, and otherwise lets it run.
-use Rattle.dap_history.proofs.Common.{Body, Causes, Command, Configuring, Content, Effect, History, Launched, None, Ok, Option, Reaction, Reason, Reply, Situation, Some, WrittenJoins, [], ap, append-nil, depth_at, due, due_first, enters, first_logs, go, if◌then◌else◌, is_some, last_such, launched, plan, reason_of, refl, reply_of, run_in, situation, stop_in, stop_of, stop_of_event, stopped_events, subst, sym, unwrap_or, ℕ, ◌∙◌, ◌≡◌}
+use Rattle.dap_history.proofs.Common.{Body, Causes, Command, Configuring, Content, Effect, History, Launched, None, Ok, Option, Reaction, Reason, Reply, Situation, Some, WrittenJoins, [], ap, append-nil, due_first, enters, go, if◌then◌else◌, is_some, last_such, launched, plan, reason_of, refl, reply_of, run_in, situation, stop_in, stop_of, stop_of_event, subst, sym, unwrap_or, ℕ, ◌∙◌, ◌≡◌}
 use Rattle.std.proofs.Common.{Bool, true, false}
 use Rattle.std.specs.Prelude.{option_map, is_none}
 use Rattle.std.specs.List.{list_any}
@@ -7,7 +7,6 @@ use Rattle.dap_msg.specs.declared.outgoing.StopReason.TheVariants as stop
 use Rattle.dbg_plan.specs.Due.{stops as met}
 use Rattle.dbg_plan.specs.declared.mode.Mode.TheVariants as mode
 use Rattle.dbg_plan.specs.declared.mode.Reason.TheVariants as reason
-use Rattle.dap_history.specs.Running.{first_mode}
 use Rattle.dap_history.specs.Moves.{first_stop, PositionZeroIsConsidered}
 use Rattle.dap_history.proofs.Texts.{OneProgram}
 use Rattle.dap_history.proofs.Told.{stop_of_logs}
@@ -46,24 +45,14 @@ first_reason false false depth = refl
 
 first_due : (past : History) (l : Launched) → (plan past).counted_from ≡ 0
     → option_map stop_of (due_first past l) ≡ first_stop l (plan past).breakpoints
-first_due past l counts =
-    ap (λ t. option_map stop_of (due l.program (plan past).breakpoints t (first_mode l) 0)) counts
-    ∙ first_reason (list_any (met l.program 0 0) (plan past).breakpoints) l.stop_on_entry (depth_at l.program 0)
+first_due past l counts = cc (first_reason (list_any (met l.program 0 0) (plan past).breakpoints) l.stop_on_entry _)
 
 -- the stop, and whether a run is ordered
 enters_stops : (past : History) (l : Launched) (why : Option Reason)
     → (last_such stop_of_event (enters past l why).events ≡ option_map stop_of why)
     × (is_some (last_such go (enters past l why).orders) ≡ is_none (option_map stop_of why))
-enters_stops past l None = (
-  ap (last_such stop_of_event) (sym (append-nil (first_logs past l)))
-      ∙ stop_of_logs (plan past).breakpoints (first_at past l) [],
-  refl,
-)
-enters_stops past l (Some r) = (
-  stop_of_logs (plan past).breakpoints (first_at past l)
-      (stopped_events (stop_of r)),
-  refl,
-)
+enters_stops past l None = (cc (append-nil _, stop_of_logs (plan past).breakpoints (first_at past l) []), refl)
+enters_stops past l (Some r) = (stop_of_logs (plan past).breakpoints (first_at past l) _, refl)
 
 module _ (one : OneProgram) (joins : WrittenJoins) where
   pub zero_considered : PositionZeroIsConsidered

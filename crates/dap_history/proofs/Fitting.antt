@@ -1,5 +1,5 @@
 -- The numbers of a history's messages fit in 64 bits.
-use Rattle.dap_history.proofs.Common.{FirstSeq, Accepted, All, All-cons, All-nil, Answers, At, Block, Body, Breakpoint, Causes, Command, CommandName, Configuration, Configuring, Content, Counting, DivideByZero, Effect, Err, EvalFault, EvaluatesIn, Event, EventBody, Frame, FramesAreFew, HasEffect, History, Incoming, InputEnd, IsHistoryOf, Item, LaunchArguments, Launched, Launches, Loaded, Log, None, OfProgram, Ok, Option, Outgoing, Overflow, PlainReport, Question, Reaction, ReadFailure, Reason, Refusal, RepliesAt, RepliesFrom, RepliesIn, Reply, Resolution, Rest, ResumeKind, Scope, Situation, SliceOutcome, Some, Step, StepAt, Subject, [], answer_to_line, answered, ap, arith, at, at_most, body_of, cond, due_first, effect_in, enters, eqb-true, exited_events, first_logs, frame_by_id, frame_limit, frame_name, held_effect, inl, inr, launched, length, line_offset, log_events, messages, messages_of, next_step, nothing, only_orders, option_map_or, or_else, other_source, outputs, refl, refused, reply_of, report_effect, result_answer, scopes, scopes_from, shown_column, shown_frame, shown_frames, shown_line, situation, slice_get, stopped_events, subject_in, subst, suc, sym, waiting_pause, with_answer, zero, ℕ, ◌++◌, ◌+◌, ◌-◌, ◌<◌, ◌^◌, ◌∙◌, ◌∷◌, ◌≡◌, ◌≤◌}
+use Rattle.dap_history.proofs.Common.{FirstSeq, Accepted, All, All-cons, All-nil, Answers, At, Block, Body, Breakpoint, Causes, Command, CommandName, Configuration, Configuring, Content, Counting, DivideByZero, Effect, Err, EvalFault, EvaluatesIn, Event, EventBody, Frame, FramesAreFew, HasEffect, History, Incoming, InputEnd, IsHistoryOf, Item, LaunchArguments, Launched, Launches, Loaded, Log, None, OfProgram, Ok, Option, Outgoing, Overflow, PlainReport, Question, Reaction, ReadFailure, Reason, Refusal, RepliesAt, RepliesFrom, RepliesIn, Reply, Resolution, Rest, ResumeKind, Scope, Situation, SliceOutcome, Some, Step, StepAt, Subject, [], answer_to_line, answered, ap, arith, at, at_most, body_of, cond, due_first, effect_in, enters, eqb-true, exited_events, first_logs, frame_by_id, frame_limit, held_effect, inl, inr, launched, length, log_events, messages, messages_of, nothing, only_orders, option_map_or, or_else, other_source, outputs, refl, refused, reply_of, report_effect, result_answer, scopes, scopes_from, shown_column, shown_frame, shown_frames, shown_line, slice_get, stopped_events, subject_in, subst, suc, sym, waiting_pause, with_answer, zero, ℕ, ◌++◌, ◌+◌, ◌-◌, ◌<◌, ◌^◌, ◌∙◌, ◌∷◌, ◌≡◌, ◌≤◌}
 use Rattle.std.proofs.Common.{Bool, true, false, nat_eq, List, map, option_map, Result, ℤ, lit≤}
 use Rattle.std.proofs.lemmas.List.Elements.{All-take, All-drop, All-map}
 use Rattle.dap_msg.specs.declared.question.Question.TheVariants as question
@@ -24,6 +24,7 @@ use Rattle.dap_history.proofs.Silent.{all_silent}
 use Rattle.dap_history.proofs.Outputs.{report_launches}
 use Rattle.dap_history.proofs.Places.{most, BlockNear, read_near, MayBeNear, program_step_near, FramesNear, frames_near, next_step_near}
 use Rattle.dap_history.proofs.Reacted.{IsCalm, Reacted, by_refusing, by_answering, by_setting, by_starting, by_resuming, by_ending, by_reaction}
+use Rattle.std.proofs.lemmas.Grind.{common_steps}
 
 -- ---- messages one after another
 
@@ -93,10 +94,7 @@ place_column_small counting (Some s) near = omega (arith, near.1)
 scopes_if : (b : Bool) (n i : ℕ) (word : List ℕ) (rest other : List Scope) → nat_eq n i ≡ b → n < frame_limit
     → All ReferenceFits rest → All ReferenceFits other
     → All ReferenceFits (cond b (record { name = word; reference = i + 1 } ∷ rest) other)
-scopes_if true n i word rest other is few near far =
-    let same : n ≡ i = eqb-true n i is in
-    let small : i + 1 < 2 ^ 64 = omega arith in
-    All-cons ReferenceFits _ rest small near
+scopes_if true n i word rest other is few near far = grind (arith, common_steps, eqb-true, All-cons) steps 1500000
 scopes_if false n i word rest other is few near far = far
 
 scopes_fit : (main : Block) (c : Configuration) (i : ℕ) → length c ≤ frame_limit
@@ -104,9 +102,8 @@ scopes_fit : (main : Block) (c : Configuration) (i : ℕ) → length c ≤ frame
 scopes_fit main [] i few = All-nil ReferenceFits
 scopes_fit main (f ∷ below) i few =
     let less : length below ≤ frame_limit = omega (arith, few) in
-    scopes_if (nat_eq (length below) i) (length below) i (frame_name main f.block) (scopes_from main below f.link)
-    (scopes_from main below i) refl (omega (arith, few))
-    (scopes_fit main below f.link less) (scopes_fit main below i less)
+    scopes_if (nat_eq (length below) i) (length below) i _ _ _ refl (omega (arith, few)) (scopes_fit main below f.link
+    less) (scopes_fit main below i less)
 
 module _ (main : Block) (near : BlockNear main) where
   answers_fit : (less : ℕ) (answers : List Resolution) → All LineFits (map (answer_to_line main less) answers)
@@ -122,13 +119,12 @@ module _ (main : Block) (near : BlockNear main) where
   shown_fit counting (f ∷ below) frames few =
       let less : length below ≤ frame_limit = omega (arith, few) in
       let there = next_step_near main near f frames.0 in
-      All-cons FrameFits (shown_frame main counting f (length below + 1)) (shown_frames main counting below) (
+      All-cons FrameFits (shown_frame main counting f (length below + 1)) _ (
         omega (arith, few),
-        place_line_small counting (next_step main f) there,
-        place_column_small counting
-            (next_step main f) there,
-      )
-      (shown_fit counting below frames.1 less)
+        place_line_small
+            counting _ there,
+        place_column_small counting _ there,
+      ) (shown_fit counting below frames.1 less)
 
 at_most_fit : (n : ℕ) (frames : List StackFrame) → All FrameFits frames → All FrameFits (at_most n frames)
 at_most_fit zero frames fit = fit
@@ -154,8 +150,7 @@ module _ (few : FramesAreFew) where
   stack_fits of asked n c near is =
       let less = few of.program n c is in
       let shown = shown_fit of.program near of.counting c (frames_near of.program near n c is) less in
-      thread_fits (nat_eq asked.thread_id 1) _ _
-      (at_most_fit asked.levels _ (All-drop FrameFits asked.start_frame _ shown), omega (arith, less))
+      thread_fits _ _ _ (at_most_fit asked.levels _ (All-drop FrameFits asked.start_frame _ shown), omega (arith, less))
 
   scopes_answer_fits : (of : Subject) (id n : ℕ) (c : Configuration) (f : Option Frame) → at of.program n ≡ Some c
       → AnswerFits (scopes of id c f)
@@ -185,10 +180,8 @@ module _ (few : FramesAreFew) where
   answers_fit_at of n c (question.StackTrace a) b near is says = answer_if b _ (stack_fits of a n c near is) says
   answers_fit_at of n c (question.Scopes a) b near is says =
       answer_if b _ (scopes_answer_fits of a.frame_id n c (frame_by_id c a.frame_id) is) says
-  answers_fit_at of n c (question.Variables a) b near is says =
-      answer_if b _ (variables_fit of (frame_by_id c a.variables_reference)) says
-  answers_fit_at of n c (question.Evaluate a) b near is says =
-      evaluates_fit of.program c a.frame_id (frame_by_id c a.frame_id) a.expression b says
+  answers_fit_at of n c (question.Variables a) b near is says = answer_if b _ (variables_fit of _) says
+  answers_fit_at of n c (question.Evaluate a) b near is says = grind (arith, common_steps, evaluates_fit) steps 1500000
 
   replies_at_fit : (of : Subject) (n : ℕ) (o : Option Configuration) (question : Question) (b : Result Shown Refusal)
       → BlockNear of.program → at of.program n ≡ o → RepliesAt of o question b → AnswerFits b
@@ -226,15 +219,12 @@ module _ (few : FramesAreFew) where
 
   calm_fits : (past : History) (s : Situation) (asked : Command) (b : Body) → LaunchedNear (launched past)
       → IsCalm past s asked b → ReplyFits (answered b)
-  calm_fits past s (command.Initialize a) b near calm =
-      fits_if (answered b) (answered body.Capabilities) (record { result = tt; events = tt }) (ap answered calm.1)
+  calm_fits past s (command.Initialize a) b near calm = grind (arith, common_steps, fits_if, answered) steps 1500000
   calm_fits past s (command.SetBreakpoints a) b near calm =
       fits_if (answered b) (answered (body.Breakpoints (other_source a.breakpoints)))
       (record { result = All-map LineFits _ a.breakpoints (λ k d lt. tt); events = tt }) (ap answered calm.3)
-  calm_fits past s command.Threads b near calm =
-      fits_if (answered b) (answered body.Threads) (record { result = tt; events = tt }) (ap answered calm)
-  calm_fits past s (command.Pause a) b near calm =
-      fits_if (answered b) (answered body.None) (record { result = tt; events = tt }) (ap answered calm.1)
+  calm_fits past s command.Threads b near calm = grind (arith, common_steps, fits_if, answered) steps 1500000
+  calm_fits past s (command.Pause a) b near calm = grind (arith, common_steps, fits_if, answered) steps 1500000
   calm_fits past s (command.Inspect q) (body.Shown b) near calm =
       record { result = inspects_fit (launched past) past q (Ok b) near calm.1; events = tt }
   calm_fits past s _ b near calm = absurd calm
@@ -243,14 +233,14 @@ module _ (few : FramesAreFew) where
       → LaunchedNear (launched past) → Reacted past s asked reaction → ReplyFits (reply_of past reaction)
   reaction_fits past near (by_refusing s asked why) = refused_fits why
   reaction_fits past near (by_answering s asked b calm) = calm_fits past s asked b near calm
-  reaction_fits past near (by_setting s a l found bs there path_is resolved) = record {
-    result = answers_fit l.program (launched_near past l there near) (line_offset past) found;
-    events = effect_fits (situation past) past bs;
-  }
+  reaction_fits past near (by_setting s a l found bs there path_is resolved) =
+      record {
+        result = answers_fit l.program (launched_near past l there near) _ found;
+        events = effect_fits _ past bs;
+      }
   reaction_fits past near (by_starting l there) = record { result = tt; events = enters_fit past l (due_first past l) }
   reaction_fits past near (by_resuming kind a l there) = record { result = resume_kind_fits kind; events = tt }
-  reaction_fits past near (by_ending kind a) =
-      record { result = resume_kind_fits kind; events = (near_small 1 (lit≤ tt), (tt, tt)) }
+  reaction_fits past near (by_ending kind a) = grind (arith, common_steps, resume_kind_fits, near_small) steps 1500000
   reaction_fits past near _ = record { result = tt; events = tt }
 
   command_fits : (s : Situation) (past : History) (asked : Command) (reply : Reply) → LaunchedNear (launched past)
@@ -262,8 +252,7 @@ module _ (few : FramesAreFew) where
       → ReplyFits reply
   launch_fits arguments None reply says = fits_if reply _ (refused_fits _) says
   launch_fits arguments (Some text) reply (inl says) = fits_if reply _ (refused_fits _) says.reply_is
-  launch_fits arguments (Some text) reply (inr says) =
-      fits_if reply _ (record { result = tt; events = (tt, tt) }) says.reply_is
+  launch_fits arguments (Some text) reply (inr says) = grind (arith, common_steps, fits_if) steps 1500000
 
   -- ---- reports
 
@@ -293,25 +282,19 @@ module _ (few : FramesAreFew) where
 
   effect_step : (step : Step) (effect : Effect) → HasEffect effect step → EventsFit effect.events
       → MessagesFit (messages step)
-  effect_step step effect has fit =
-      subst (λ a. MessagesFit (with_answer a (map Event step.effect.events))) (sym has.answer_is)
-      (subst (λ (e : Effect). EventsFit e.events) (sym has.effect_is) fit)
+  effect_step step effect has fit = grind (arith, common_steps, with_answer, map) steps 1500000
 
   answer_step : (step : Step) (seq : ℕ) (command : CommandName) (reply : Reply) → Answers seq command reply step
       → seq < 2 ^ 64 → ReplyFits reply → MessagesFit (messages step)
-  answer_step step seq command reply answers small fit =
-      subst (λ a. MessagesFit (with_answer a (map Event step.effect.events))) (sym answers.answer_is)
-      ((small, fit.result), subst (λ (e : Effect). EventsFit e.events) (sym answers.effect_is) fit.events)
+  answer_step step seq command reply answers small fit = grind (arith, common_steps, with_answer, map) steps 1500000
 
   step_fits : (past : History) (item : Item) (step : Step) → LaunchedNear (launched past) → ItemFits item
       → Causes past item step → MessagesFit (messages step)
   step_fits past (Content (Some request)) step near small causes =
-      answer_step step request.seq _ causes.0 causes.2 small
-      (command_fits (situation past) past request.body causes.0 near causes.1)
+      answer_step step request.seq _ causes.0 causes.2 small (command_fits _ past request.body causes.0 near causes.1)
   step_fits past (Loaded launch file) step near small causes =
       answer_step step launch.seq _ causes.0 causes.2 small (launch_fits launch.arguments file causes.0 causes.1)
-  step_fits past (Accepted r) step near small causes =
-      effect_step step (report_effect past r r.outcome) causes (report_fits past r r.outcome)
+  step_fits past (Accepted r) step near small causes = effect_step step _ causes (report_fits past r r.outcome)
   step_fits past InputEnd step near small causes = effect_step step (only_orders _) causes tt
   step_fits past ReadFailure step near small causes = effect_step step (only_orders _) causes tt
   step_fits past _ step near small causes = effect_step step nothing causes tt
@@ -329,17 +312,13 @@ module _ (few : FramesAreFew) where
       → LaunchedNear reply.effect.launched
   launch_near arguments None reply says = none_near _ (ap (λ (r : Reply). r.effect.launched) says)
   launch_near arguments (Some text) reply (inl says) = none_near _ (ap (λ (r : Reply). r.effect.launched) says.reply_is)
-  launch_near arguments (Some text) reply (inr says) =
-      subst (λ (r : Reply). LaunchedNear r.effect.launched) (sym says.reply_is) (read_near text says.program says.reads)
+  launch_near arguments (Some text) reply (inr says) = grind (arith, common_steps, read_near) steps 1500000
 
   step_launches_near : (past : History) (item : Item) (step : Step) → Causes past item step
       → LaunchedNear step.effect.launched
   step_launches_near past (Content (Some request)) step causes =
-      none_near _ (ap (λ (e : Effect). e.launched) causes.2.effect_is
-      ∙ (all_silent (situation past) past request.body causes.0 causes.1).no_launch)
-  step_launches_near past (Loaded launch file) step causes =
-      subst (λ (e : Effect). LaunchedNear e.launched) (sym causes.2.effect_is)
-      (launch_near launch.arguments file causes.0 causes.1)
+      grind (arith, common_steps, none_near, all_silent) steps 1500000
+  step_launches_near past (Loaded launch file) step causes = grind (arith, common_steps, launch_near) steps 1500000
   step_launches_near past (Accepted r) step causes =
       none_near _ (ap (λ (e : Effect). e.launched) causes.effect_is ∙ report_launches past r r.outcome)
   step_launches_near past _ step causes = none_near _ (ap (λ (e : Effect). e.launched) causes.effect_is)
@@ -356,22 +335,21 @@ module _ (few : FramesAreFew) where
 
   fitting_more : (past : History) (step : Step) → Causes past step.item step → Fitting past
       → Fitting (past ++ step ∷ [])
-  fitting_more past step causes so_far = record {
-    near = subst LaunchedNear (sym (launched-snoc past step))
-        (later_near step.effect.launched (launched past) (step_launches_near past step.item step causes) so_far.near);
-    fit = λ items.
-        let apart = items_apart past step items in
-        subst MessagesFit (sym (messages_of-snoc past step))
-        (messages_fit-append (messages_of past) (messages step) (so_far.fit apart.0)
-        (step_fits past step.item step so_far.near apart.1 causes));
-  }
+  fitting_more past step causes so_far =
+      grind (
+        arith,
+        common_steps,
+        launched-snoc,
+        later_near,
+        step_launches_near,
+        items_apart,
+        messages_of-snoc,
+        messages_fit-append,
+        step_fits,
+      ) steps 1500000
 
   fitting_kept : IsKept (λ e. Unit {0}) Fitting
-  fitting_kept = record {
-    step = λ past item new taking taken after here.
-        subst Fitting (sym after.new_is) (fitting_more past after.step
-        (subst (λ i. Causes past i after.step) (sym after.item_is) after.causes) here);
-  }
+  fitting_kept = grind (arith, common_steps, fitting_more) steps 1500000
 
   pub history_fits : (f : FirstSeq) (events : List Incoming) (past : History) (rest : Rest)
       → IsHistoryOf f events past rest

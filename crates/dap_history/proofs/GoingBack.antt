@@ -1,6 +1,6 @@
 -- A run goes back as asked and is not held, and counts begin anew after it.
-use Rattle.dap_history.proofs.Common.{Accepted, Block, Body, Causes, CommandName, Configuring, Content, Effect, Fault, Faulted, Go, GoesBackBy, Heading, History, Hold, Incoming, InputEnd, IsSome, IsStopped, Item, Loaded, MemoryFailure, Mode, None, Ok, Option, PlainOrder, PlainReport, Plan, Quit, ReadFailure, Running, Situation, SliceOutcome, Some, Step, StopReason, Stopped, Went, WrittenJoins, [], ap, back_in, end_of, from_next, go, goes_back, if◌then◌else◌, inl, inr, is_back, last_run, last_such, message_mark, messages, nothing, option_map_or, or_else, order_mark, plan, put_in_at, refl, report_effect, run_in, situation, step_mark, stop_of_event, subst, sym, unwrap_or, waiting_plan, ℕ, ◌++◌, ◌+◌, ◌∙◌, ◌∷◌, ◌≡◌, ◌⊎◌, back_if}
-use Rattle.std.proofs.Common.{List, true, false}
+use Rattle.dap_history.proofs.Common.{Accepted, Block, Body, Causes, CommandName, Configuring, Content, Effect, Fault, Faulted, GoesBackBy, Heading, History, Incoming, InputEnd, IsSome, IsStopped, Item, Loaded, MemoryFailure, Mode, None, Ok, Option, PlainOrder, PlainReport, Plan, ReadFailure, Running, Situation, SliceOutcome, Some, Step, StopReason, Stopped, WrittenJoins, [], ap, back_in, end_of, go, goes_back, inl, inr, is_back, last_run, last_such, nothing, option_map_or, or_else, order_mark, plan, refl, report_effect, run_in, situation, step_mark, stop_of_event, subst, sym, unwrap_or, ℕ, ◌++◌, ◌+◌, ◌∙◌, ◌∷◌, ◌≡◌, ◌⊎◌, Went, back_if}
+use Rattle.std.proofs.Common.{List, true, false, arith}
 use Rattle.std.specs.Prelude.{option_map}
 use Rattle.dap_msg.specs.declared.outgoing.Outgoing.TheVariants.{Answer}
 use Rattle.dbg_runner.specs.declared.outcome.SliceOutcome.TheVariants as slice
@@ -10,7 +10,6 @@ use Rattle.dap_history.proofs.Readings.{situation-snoc, position-snoc, plan-snoc
 use Rattle.dap_history.proofs.Texts.{OneProgram}
 use Rattle.dap_history.proofs.Along.{IsTaken, IsKept, IsLawfulEvent, any_events, lawful_events, along}
 use Rattle.dap_history.proofs.Each.{WasTaken, EachTaken, each_kept, each_first}
-use Rattle.dap_history.proofs.Early.{IsEarly}
 use Rattle.dap_history.proofs.Silent.{StopsBy, no_stop, at_first, all_silent}
 use Rattle.dap_history.proofs.Outputs.{outputs_unmarked}
 use Rattle.dap_history.proofs.Standing.{MarkIs, mark_unwrap, answers_only, ReportsStop, step_stops}
@@ -19,6 +18,8 @@ use Rattle.dap_history.proofs.Stopping.{ran_first, ran_more}
 use Rattle.dap_history.proofs.Once.{ordered_last}
 use Rattle.dap_history.proofs.Ordered.{CanRun, PutsIn, all_orders, granted_back}
 use Rattle.dap_history.proofs.Ordering.{IsResumed, is_back_is, item_ordered, ordered_back, ordered_from, item_holds}
+use Rattle.std.proofs.lemmas.Grind.{common_steps}
+use Rattle.dap_history.proofs.Early.{IsEarly}
 
 -- ---- as asked, and not held
 
@@ -72,23 +73,11 @@ retreats_not_held f events past rest history before step after past_is back =
 pub marks_are : (os : List PlainOrder)
     → last_such order_mark os ≡ option_map (λ (run : Heading). Running) (last_such go os)
 marks_are [] = refl
-marks_are (o ∷ os) = ap (λ m. or_else m (order_mark o)) (marks_are os) ∙ each o (last_such go os)
-  where
-    each : (o : PlainOrder) (l : Option Heading) → or_else (option_map (λ (run : Heading). Running) l)
-        (order_mark o) ≡ option_map (λ (run : Heading). Running) (or_else l (go o))
-    each (Go run) None = refl
-    each (Go run) (Some other) = refl
-    each (Hold n) None = refl
-    each (Hold n) (Some other) = refl
-    each Quit None = refl
-    each Quit (Some other) = refl
+marks_are (o ∷ os) = grind (arith, common_steps, marks_are os, go) steps 200000
 
 leads_to_running : (past : History) (step : Step) (run : Heading) → last_such go step.effect.orders ≡ Some run
     → situation (past ++ step ∷ []) ≡ Running
-leads_to_running past step run is =
-    situation-snoc past step
-    ∙ ap (λ o. unwrap_or (or_else o (last_such message_mark (messages step))) (situation past))
-    (marks_are step.effect.orders ∙ ap (option_map (λ (run : Heading). Running)) is)
+leads_to_running past step run is = cc (situation-snoc past step, marks_are step.effect.orders)
 
 -- ---- counts begin anew
 
@@ -127,9 +116,7 @@ module _ (one : OneProgram) (joins : WrittenJoins) where
       → Counted past (Accepted r) (report_effect past r e)
   come past r main slice.More back by mark =
       absurd (subst (MarkIs IsStopped) (outputs_unmarked past r) mark)
-  come past r main (slice.Due reason) back by mark =
-      ap (λ b. (unwrap_or (if b then Some (from_next r.end (unwrap_or (waiting_plan past) (plan past).breakpoints)) else
-      put_in_at r.end (waiting_plan past)) (plan past)).counted_from) back
+  come past r main (slice.Due reason) back by mark = cc
   come past r main slice.NoMemory back by mark = absurd mark
   come past r main _ back by mark = elim by [ ]
 
@@ -143,11 +130,7 @@ module _ (one : OneProgram) (joins : WrittenJoins) where
         → last_such stop_of_event effect.events ≡ None → end_of item ≡ None
         → (ReportsStop step.effect.events ⊎ IsStopped (situation past)) → Counted past item step.effect
     still item effect is none no_stops stays (inl stops) = absurd (no_stop_by step effect is no_stops stops)
-    still item effect is none no_stops stays (inr stands) =
-        ap (λ (e : Effect). (unwrap_or e.put_in (plan past)).counted_from) is
-        ∙ ap (λ o. (unwrap_or o (plan past)).counted_from) none
-        ∙ stood back stands
-        ∙ ap (λ o. unwrap_or o (position past) + 1) (sym stays)
+    still item effect is none no_stops stays (inr stands) = cc (stood back stands)
 
     -- the step leads to where the program stands, or changes no situation
     abbrev IsStoppedAfter : Type 0
@@ -167,10 +150,8 @@ module _ (one : OneProgram) (joins : WrittenJoins) where
         by_request : ReportsStop step.effect.events ⊎ IsStopped (situation past)
             → Counted past (Content (Some request)) step.effect
         by_request (inl stops) =
-            let configuring =
-            stops_configuring (situation past) past (last_such stop_of_event is.0.effect.events) stops.0
-            (all_silent (situation past) past request.body is.0 is.1).stops
-            (ap (λ (e : Effect). last_such stop_of_event e.events) (sym is.2.effect_is) ∙ stops.1) in
+            let configuring = stops_configuring _ past _ stops.0 (all_silent _ past request.body is.0 is.1).stops (ap (λ
+            (e : Effect). last_such stop_of_event e.events) (sym is.2.effect_is) ∙ stops.1) in
             absurd (not_begun (ran.configuring (subst IsConfiguring (sym configuring) tt)).0)
         by_request (inr stands) =
             ap (λ (e : Effect). (unwrap_or e.put_in (plan past)).counted_from) is.2.effect_is
@@ -211,15 +192,13 @@ module _ (one : OneProgram) (joins : WrittenJoins) where
           → (plan (past ++ step ∷ [])).counted_from ≡ position (past ++ step ∷ []) + 1
       by_run (Some run) is = absurd (subst IsStopped (leads_to_running past step run is) standing)
       by_run None none =
-          let same : last_run (past ++ step ∷ []) ≡ last_run past =
-          last_run-snoc past step ∙ ap (λ o. or_else o (last_run past)) none in
-          let was : is_back past ≡ true =
-          ap (λ o. option_map_or (λ (run : Heading). goes_back run.mode) o false) (sym same) ∙ back in
-          ap (λ (p : Plan). p.counted_from) (plan-snoc past step)
-          ∙ counted_by past step here.ran here.stood was step.item taken causes
-          (mark_unwrap IsStopped (step_mark step) (situation past)
-          (subst IsStopped (situation-snoc past step) standing))
-          ∙ ap (λ n. n + 1) (sym (position-snoc past step))
+          let same : last_run (past ++ step ∷ []) ≡ last_run past = last_run-snoc past step ∙ ap (λ o. or_else o
+          (last_run past)) none in
+          let was : is_back past ≡ true = ap (λ o. option_map_or (λ (run : Heading). goes_back run.mode) o false) (sym
+          same) ∙ back in
+          ap (λ (p : Plan). p.counted_from) (plan-snoc past step) ∙ counted_by past step here.ran here.stood was
+          step.item taken causes (mark_unwrap IsStopped _ _ (subst IsStopped (situation-snoc past step) standing)) ∙ ap
+          (λ n. n + 1) (sym (position-snoc past step))
 
   back_kept : IsKept IsLawfulEvent Back
   back_kept = record {
@@ -238,8 +217,7 @@ module _ (one : OneProgram) (joins : WrittenJoins) where
 
   pub counts_begin_anew : CountsBeginAnew
   counts_begin_anew f events past rest lawful history before step after past_is run orders back =
-      by_place (ordered_from before (back_in step.item) step.effect.put_in (run_in step)
-      (item_ordered before step.item step was.taken was.causes) run
+      by_place (ordered_from before _ step.effect.put_in _ (item_ordered before step.item step was.taken was.causes) run
       (ordered_last before step run was.causes orders))
     where
       each : EachTaken IsLawfulEvent Back past
@@ -252,12 +230,9 @@ module _ (one : OneProgram) (joins : WrittenJoins) where
       by_situation : (s : Situation) → situation before ≡ s → CanRun s → run.counted_from ≡ (plan before).counted_from
           → run.start ≡ position before → run.counted_from ≡ run.start + 1
       by_situation Configuring is can counted starts =
-          absurd (not_begun before step was.held.ran was.held.stood back
-          (was.held.ran.configuring (subst IsConfiguring (sym is) tt)).0)
-      by_situation Stopped is can counted starts =
-          counted ∙ was.held.stood back (subst IsStopped (sym is) tt) ∙ ap (λ n. n + 1) (sym starts)
-      by_situation Faulted is can counted starts =
-          counted ∙ was.held.stood back (subst IsStopped (sym is) tt) ∙ ap (λ n. n + 1) (sym starts)
+          absurd (not_begun before step was.held.ran was.held.stood back (was.held.ran.configuring (rw is tt)).0)
+      by_situation Stopped is can counted starts = cc (was.held.stood back (subst IsStopped (sym is) tt))
+      by_situation Faulted is can counted starts = cc (was.held.stood back (subst IsStopped (sym is) tt))
       by_situation _ is can counted starts = absurd can
 
       by_place : IsResumed before run ⊎ (is_back before ≡ false) → run.counted_from ≡ run.start + 1

@@ -1,5 +1,5 @@
 -- What a request tells besides its answer, and that a run that is granted is ordered.
-use Rattle.dap_history.proofs.Common.{Accepted, All-nil, Body, Causes, Command, Configuring, Content, Effect, EventBody, History, IsOutput, IsSome, Launched, None, Ok, Option, PlainReport, Reaction, Reason, Reply, Situation, SliceOutcome, Some, [], ap, due_first, enters, first_logs, go, held_effect, inl, inr, is_some, last_such, mode_by, plan, refl, reply_of, report_effect, situation, stop_of, stopped_events, subst, sym, unwrap_or, waiting_pause, ◌∙◌, ◌≡◌, ◌⊎◌}
+use Rattle.dap_history.proofs.Common.{Accepted, All-nil, Body, Causes, Command, Configuring, Content, Effect, EventBody, History, IsOutput, IsSome, Launched, None, Ok, Option, PlainReport, Reaction, Reason, Reply, Situation, SliceOutcome, Some, [], ap, due_first, enters, first_logs, go, held_effect, inl, inr, is_some, last_such, mode_by, plan, refl, reply_of, report_effect, situation, subst, sym, unwrap_or, waiting_pause, ◌∙◌, ◌≡◌, ◌⊎◌}
 use Rattle.std.proofs.Common.{List, Bool, true, false}
 use Rattle.dap_msg.specs.declared.command.Command.TheVariants as command
 use Rattle.dbg_runner.specs.declared.outcome.SliceOutcome.TheVariants as slice
@@ -60,8 +60,7 @@ IsDone s asked effect = IsSome (last_such go effect.orders) ⊎ IsExcused s aske
 begins_done : (past : History) (s : Situation) (l : Launched) (why : Option Reason)
     → IsDone s command.ConfigurationDone (enters past l why)
 begins_done past s l None = inl refl
-begins_done past s l (Some r) =
-    inr (ap is_some (stop_of_logs (plan past).breakpoints (first_at past l) (stopped_events (stop_of r))))
+begins_done past s l (Some r) = inr (ap is_some (stop_of_logs (plan past).breakpoints (first_at past l) _))
 
 reaction_done : (past : History) {s : Situation} {asked : Command} {reaction : Reaction} → Reacted past s asked reaction
     → (b : Body) → (reply_of past reaction).result ≡ Ok b → IsSome (mode_by 0 asked)
@@ -87,9 +86,8 @@ report_run past r _ is none = absurd cc
 
 pub each_reply_told : EachReplyIsTold
 each_reply_told f events past rest history before step after past_is request item_is =
-    subst (λ (e : Effect). TellsBy (situation before) request.body e.events) (sym is.2.effect_is)
-    (by_reaction (λ (r : Reply). TellsBy (situation before) request.body r.effect.events)
-    (λ reaction. reaction_tells before) is.1)
+    rw is.2.effect_is (by_reaction (λ (r : Reply). TellsBy (situation before) request.body r.effect.events) (λ reaction.
+    reaction_tells before) is.1)
   where
     is : Causes before (Content (Some request)) step
     is =
@@ -98,9 +96,8 @@ each_reply_told f events past rest history before step after past_is request ite
 
 pub granted_ordered : GrantedRunsAreOrdered
 granted_ordered f events past rest history before step after past_is request grants asks =
-    subst (IsDone (situation before) request.body) (sym is.2.effect_is)
-    (by_reaction (λ (r : Reply). r.result ≡ Ok grants.body → IsDone (situation before) request.body r.effect)
-    (λ reaction reacted granted. reaction_done before reacted grants.body granted asks) is.1 granted)
+    rw is.2.effect_is (by_reaction (λ (r : Reply). r.result ≡ Ok grants.body → IsDone (situation before) request.body
+    r.effect) (λ reaction reacted granted. reaction_done before reacted grants.body granted asks) is.1 granted)
   where
     is : Causes before (Content (Some request)) step
     is =
@@ -112,8 +109,7 @@ granted_ordered f events past rest history before step after past_is request gra
 
 pub held_go_on : HeldRunsGoOn
 held_go_on f events past rest history before step after past_is r item_is held_is none =
-    subst (λ (e : Effect). IsSome (last_such go e.orders)) (sym is.effect_is)
-    (report_run before r r.outcome held_is none)
+    rw is.effect_is (report_run before r r.outcome held_is none)
   where
     is : Causes before (Accepted r) step
     is =

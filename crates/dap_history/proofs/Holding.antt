@@ -1,5 +1,5 @@
 -- A run is held once, where something waits.
-use Rattle.dap_history.proofs.Common.{Accepted, Answers, Body, Breakpoint, Causes, Command, Content, Effect, Ending, Go, Heading, History, Hold, Incoming, InputEnd, IsTaking, Item, Launch, Launched, Launches, Loaded, None, Ok, Option, Outgoing, PlainOrder, PlainReport, Quit, Reaction, ReadFailure, Reason, Refusal, Reply, Request, Running, Situation, SliceOutcome, Some, Step, [], ap, append-nil, arith, closing, due_first, effect_in, ending_of, enters, filter_map, go, goes_back, held_effect, hold_mark, hold_once, if◌then◌else◌, inl, inr, is_back, is_same_path, last_run, last_such, length, name_of, option_map_or, or_else, orders_of, refl, reply_of, report_effect, runs, situation, step_mark, subst, sym, unwrap_or, waiting_pause, ℕ, ◌++◌, ◌+◌, ◌||◌, ◌∙◌, ◌∷◌, ◌≡◌, ◌⊎◌}
+use Rattle.dap_history.proofs.Common.{Accepted, Answers, Body, Breakpoint, Causes, Command, Content, Effect, Ending, Go, Heading, History, Hold, Incoming, InputEnd, IsTaking, Item, Launch, Launched, Launches, Loaded, None, Ok, Option, Outgoing, PlainOrder, PlainReport, Quit, Reaction, ReadFailure, Reason, Refusal, Reply, Request, Running, Situation, SliceOutcome, Some, Step, [], ap, append-nil, arith, closing, due_first, effect_in, ending_of, enters, filter_map, go, goes_back, held_effect, hold_mark, hold_once, inl, inr, is_back, last_run, last_such, length, name_of, option_map_or, or_else, orders_of, refl, reply_of, report_effect, runs, situation, step_mark, subst, sym, unwrap_or, waiting_pause, ℕ, ◌++◌, ◌+◌, ◌∙◌, ◌∷◌, ◌≡◌, ◌⊎◌, is_same_path}
 use Rattle.std.proofs.Common.{List, Bool, true, false}
 use Rattle.std.specs.Prelude.{Result}
 use Rattle.std.proofs.lemmas.List.{append_assoc}
@@ -16,6 +16,7 @@ use Rattle.dap_history.proofs.Reacted.{IsCalm, Reacted, by_refusing, by_answerin
 use Rattle.dap_history.proofs.Standing.{MarkIs, mark_unwrap, answers_only}
 use Rattle.dap_history.proofs.Passing.{IsRunning, runs_not}
 use Rattle.dap_history.proofs.Once.{none_within, rest_of}
+use Rattle.std.proofs.lemmas.Grind.{common_steps}
 
 -- ---- what a step orders
 
@@ -36,33 +37,13 @@ module _ (past : History) (request : Request) (reply : Reply) (step : Step)
     orders_are = ap (λ (e : Effect). e.orders) answers.effect_is
 
     grants : (b : Body) → reply.result ≡ Ok b → IsToWait past request.body → GrantsWait past step
-    grants b is to_wait = record {
-      request = request;
-      granted =
-          record {
-            item_is = item_is;
-            body = b;
-            answer_is = answers.answer_is
-                ∙ ap (λ r. Some (Answer request.seq (name_of request.body) r)) is;
-          };
-      to_wait = to_wait;
-    }
+    grants b is to_wait = grind (arith, common_steps) steps 200000
 
     -- a request that waits is granted
     holds_by : (b : Body) → reply.result ≡ Ok b → IsToWait past request.body → situation past ≡ Running
         → reply.effect.orders ≡ hold_once past → OrdersBy past step
-    holds_by b is to_wait here holds = by_tests (is_held past) (is_back past) refl refl
-      where
-        by_tests : (held back : Bool) → is_held past ≡ held → is_back past ≡ back → OrdersBy past step
-        by_tests true back held_is back_is =
-            orders_none (orders_are ∙ holds ∙ ap (λ t. if t || is_back past then [] else Hold (runs past) ∷ []) held_is)
-        by_tests false true held_is back_is =
-            orders_none (orders_are ∙ holds ∙ ap (λ t. if t || is_back past then [] else Hold (runs past) ∷ []) held_is
-            ∙ ap (λ t. if t then [] else Hold (runs past) ∷ []) back_is)
-        by_tests false false held_is back_is =
-            orders_hold (grants b is to_wait) here held_is back_is
-            (orders_are ∙ holds ∙ ap (λ t. if t || is_back past then [] else Hold (runs past) ∷ []) held_is
-            ∙ ap (λ t. if t then [] else Hold (runs past) ∷ []) back_is)
+    holds_by b is to_wait here holds =
+        grind (arith, common_steps, is_held, true, orders_are, runs, false, grants) steps 200000
 
     sets_by : (s : Situation) (bs : List Breakpoint) (b : Body) → situation past ≡ s → reply.result ≡ Ok b
         → IsToWait past request.body → reply.effect.orders ≡ (effect_in s past bs).orders → OrdersBy past step
@@ -80,8 +61,7 @@ module _ (past : History) (request : Request) (reply : Reply) (step : Step)
         sets_by (situation past) bs _ refl (ap (λ (r : Reply). r.result) is)
         (subst (IsToWait past) (sym by) (l, there, at_path a.path l.path path_is))
         (ap (λ (r : Reply). r.effect.orders) is)
-    reply_orders (by_starting l there) here by is =
-        begins_by l (due_first past l) (ap (λ (r : Reply). r.effect.orders) is)
+    reply_orders (by_starting l there) here by is = begins_by l (due_first past l) (cc)
     reply_orders (by_resuming kind a l there) here by is =
         orders_go _ refl (orders_are ∙ ap (λ (r : Reply). r.effect.orders) is)
     reply_orders (by_retreating s kind a l stands there) here by is =
@@ -120,12 +100,9 @@ item_orders past (Content (Some request)) step item_is is =
     (reacted past (situation past) request.body is.1.reaction is.1.reacts) refl refl is.1.reply_is
 item_orders past (Loaded launch file) step item_is is =
     orders_none (ap (λ (e : Effect). e.orders) is.2.effect_is ∙ loaded_orders_none launch file is.0 is.1)
-item_orders past (Accepted r) step item_is is =
-    report_orders past r r.outcome step (ap (λ (e : Effect). e.orders) is.effect_is)
-item_orders past InputEnd step item_is is =
-    orders_quit _ (ap closing item_is) (ap (λ (e : Effect). e.orders) is.effect_is)
-item_orders past ReadFailure step item_is is =
-    orders_quit _ (ap closing item_is) (ap (λ (e : Effect). e.orders) is.effect_is)
+item_orders past (Accepted r) step item_is is = report_orders past r r.outcome step (cc is.effect_is)
+item_orders past InputEnd step item_is is = orders_quit _ (ap closing item_is) (cc is.effect_is)
+item_orders past ReadFailure step item_is is = orders_quit _ (ap closing item_is) (cc is.effect_is)
 item_orders past _ step item_is is = orders_none (ap (λ (e : Effect). e.orders) is.effect_is)
 
 -- ---- how the orders end
@@ -180,16 +157,7 @@ last_more past step taking (orders_none is) here still run run_is = record {
     by_end (inl e) = inl (held_then past step [] is ∙ e.0, same ∙ e.1)
     by_end (inr e) = inr (held_then past step [] is ∙ e.0, same ∙ e.1)
 last_more past step taking (orders_go new number is) here still run run_is =
-    let same : new ≡ run = let e = sym (last_then past step (Go new ∷ []) is) ∙ run_is in cc in
-    record {
-      earlier = orders_of past;
-      number_is = ap (λ (h : Heading). h.run) (sym same) ∙ number ∙ sym (runs_then past step (Go new ∷ []) is);
-      ends = inl (
-        held_then past step (Go new ∷ []) is,
-        orders_then past step (Go new ∷ []) is
-            ∙ ap (λ h. orders_of past ++ Go h ∷ []) same,
-      );
-    }
+    grind (arith, common_steps, last_then, runs_then, held_then, orders_then) steps 200000
 last_more past step taking (orders_hold wait running not_held forward is) here still run run_is = record {
   earlier = was.earlier;
   number_is = was.number_is ∙ sym count;
@@ -229,9 +197,7 @@ running_more past item step causes here running = by_run (last_such go step.effe
     by_run : (o : Option Heading) → last_such go step.effect.orders ≡ o → (run : Heading)
         × (last_run (past ++ step ∷ []) ≡ Some run)
     by_run (Some run) is = (run, last_run-snoc past step ∙ ap (λ o. or_else o (last_run past)) is)
-    by_run None none =
-        by_mark none (mark_unwrap IsRunning (step_mark step) (situation past)
-        (subst IsRunning (situation-snoc past step) running))
+    by_run None none = by_mark none (mark_unwrap IsRunning _ _ (subst IsRunning (situation-snoc past step) running))
 
 ends_kept : (Q : Incoming → Type 0) → IsKept Q Ends
 ends_kept Q = record {
@@ -333,8 +299,7 @@ module _ (past : History) where
   reaction_holds (by_refusing s asked why) running here b granted to_wait = absurd cc
   reaction_holds (by_answering s asked body calm) running here b granted to_wait =
       absurd (not_calm past asked body (subst (λ t. IsCalm past t asked body) running calm) to_wait)
-  reaction_holds (by_setting s a l found bs there path_is resolved) running here b granted to_wait =
-      sets_hold (situation past) bs here
+  reaction_holds (by_setting s a l found bs there path_is resolved) running here b granted to_wait = sets_hold _ bs here
   reaction_holds (by_interrupting a) running here b granted to_wait = refl
   reaction_holds _ running here b granted to_wait = absurd to_wait
 
@@ -361,28 +326,18 @@ module _ (past : History) (step : Step) (run : Heading) (run_is : last_run past 
   abbrev EndsHeld : Type 0
   EndsHeld = (earlier : List PlainOrder) × (orders_of (past ++ step ∷ []) ≡ earlier ++ Hold run.run ∷ [])
 
-  not_is_back : is_back past ≡ false
-  not_is_back = sym (is_back_by_last_run past run run_is) ∙ forward
-
   ends_held : EndsAt past run → EndsHeld
   ends_held was = by_end was.ends
     where
       by_end : ((is_held past ≡ false) × (orders_of past ≡ was.earlier ++ Go run ∷ []))
           ⊎ ((is_held past ≡ true) × (orders_of past ≡ was.earlier ++ Go run ∷ Hold run.run ∷ [])) → EndsHeld
       by_end (inl e) =
-          let one : step.effect.orders ≡ Hold (runs past) ∷ [] =
-          holds ∙ ap (λ t. if t || is_back past then [] else Hold (runs past) ∷ []) e.0
-          ∙ ap (λ t. if t then [] else Hold (runs past) ∷ []) not_is_back in (
-            orders_of past,
-            orders_then past step (Hold (runs past) ∷ []) one
-                ∙ ap (λ n. orders_of past ++ Hold n ∷ []) (sym was.number_is),
-          )
+          let one : step.effect.orders ≡ Hold (runs past) ∷ [] = cc e.0 in
+          (orders_of past, cc (orders_then past step (Hold (runs past) ∷ []) one, was.number_is))
       by_end (inr e) =
-          let none : step.effect.orders ≡ [] =
-          holds ∙ ap (λ t. if t || is_back past then [] else Hold (runs past) ∷ []) e.0 in (
+          let none : step.effect.orders ≡ [] = cc e.0 in (
             was.earlier ++ Go run ∷ [],
-            orders_then past step [] none ∙ append-nil (orders_of past) ∙ e.1
-                ∙ sym (append_assoc was.earlier (Go run ∷ []) (Hold run.run ∷ [])),
+            cc (orders_then past step [] none, append-nil _, e.1, append_assoc was.earlier _ _),
           )
 
 pub waits_are_held : WaitsAreHeld

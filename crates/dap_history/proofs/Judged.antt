@@ -1,16 +1,14 @@
 -- Each request is judged as the table says, a refusal changes nothing, and other items tell nothing.
-use Rattle.dap_history.proofs.Common.{FirstSeq, Accepted, InspectsAs, Causes, Command, CommandName, Configuration, Configuring, Content, Effect, Err, Event, Faulted, Fresh, History, Incoming, Inspects, Interrupt, IsHistoryOf, Item, Launch, Launched, Launches, Loaded, None, Ok, Option, Question, Reaction, Reacts, Ready, Refusal, Refuse, RepliesAt, Reply, Rest, Resume, ResumeKind, Retreat, RetreatKind, Running, SetBreakpointsArguments, SetsOf, Situation, Some, Start, Step, Stopped, ThreadArguments, [], ap, at, body_of, if◌then◌else◌, inl, inr, is_same_path, launched, nothing, refl, refused_by, refused_thread, reply_of, situation, subject_in, subst, sym, wanted_in, with_answer, ℕ, ◌++◌, ◌∙◌, ◌∷◌, ◌≡◌}
+use Rattle.dap_history.proofs.Common.{FirstSeq, Accepted, Causes, Command, CommandName, Configuring, Content, Effect, Err, Faulted, Fresh, History, Incoming, Inspects, IsHistoryOf, Item, Launch, Launched, Launches, Loaded, None, Ok, Option, Question, Reaction, Reacts, Ready, Refusal, Refuse, Reply, Rest, ResumeKind, RetreatKind, Running, SetBreakpointsArguments, SetsOf, Situation, Some, Step, Stopped, ThreadArguments, [], ap, at, body_of, if◌then◌else◌, inl, inr, nothing, refl, refused_by, refused_thread, reply_of, situation, subst, sym, wanted_in, with_answer, ℕ, ◌++◌, ◌∙◌, ◌∷◌, ◌≡◌}
 use Rattle.std.proofs.Common.{List, Bool, true, false, Result}
-use Rattle.std.specs.Prelude.{nat_eq, map}
+use Rattle.std.specs.Prelude.{map}
 use Rattle.dap_msg.specs.declared.command.Command.TheVariants as command
 use Rattle.dap_msg.specs.declared.requests.resume.ResumeKind.TheVariants as resume
 use Rattle.dap_msg.specs.declared.question.Question.TheVariants as question
 use Rattle.dap_msg.specs.declared.outgoing.Outgoing.TheVariants.{Answer}
-use Rattle.dap_msg.specs.declared.outgoing.Body.TheVariants as body
 use Rattle.dap_msg.specs.declared.outgoing.Refusal.TheVariants as refusal
 use Rattle.dap_history.specs.Readings.{position}
-use Rattle.dap_history.specs.Reactions as reaction_is
-use Rattle.dap_history.specs.Reactions.{End, Retreats}
+use Rattle.dap_history.specs.Reactions.{Retreats}
 use Rattle.dap_history.specs.Replies.{in_body}
 use Rattle.dap_msg.specs.declared.requests.stack_trace.StackTraceArguments.{StackTraceArguments}
 use Rattle.dap_msg.specs.declared.question.Shown.{Shown}
@@ -20,6 +18,8 @@ use Rattle.dap_history.proofs.Each.{WasTaken, EachTaken, each_kept, each_first}
 use Rattle.dap_history.proofs.GoingBack.{Anything, anything_kept}
 use Rattle.dap_history.proofs.Reacted.{of_program, Reacted, by_refusing, by_reaction}
 use Rattle.dap_history.proofs.Questions.{inspects_there, result_with}
+use Rattle.std.proofs.Common.{arith}
+use Rattle.std.proofs.lemmas.Grind.{common_steps}
 
 result_is : (reply other : Reply) → reply ≡ other → reply.result ≡ other.result
 result_is reply other is = ap (λ (r : Reply). r.result) is
@@ -55,9 +55,7 @@ module _ (past : History) where
 
   retreats_judged : (k : RetreatKind) (a : ThreadArguments) (reaction : Reaction) → Retreats past k a reaction
       → Judges (refused_thread (Some a.thread_id)) (command.Retreat k a) reaction
-  retreats_judged k a reaction is =
-      of_program past (launched past) refl _ (Judges (refused_thread (Some a.thread_id)) (command.Retreat k a) reaction)
-      (λ l there says. on_thread (command.Retreat k a) (nat_eq a.thread_id 1) (Retreat l k) reaction refl says) is
+  retreats_judged k a reaction is = grind (arith, common_steps, of_program, on_thread) steps 1500000
 
   -- ---- questions
 
@@ -72,23 +70,7 @@ module _ (past : History) where
   standing : (q : Question) (reaction : Reaction) → Inspects past q reaction
       → Judges (refused_by Stopped (command.Inspect q)) (command.Inspect q) reaction
   standing q reaction is =
-      let there = inspects_there past q reaction is in
-      subst (Judges (refused_by Stopped (command.Inspect q)) (command.Inspect q)) (sym there.2)
-      (subst (IsVerdict (refused_by Stopped (command.Inspect q)) (command.Inspect q))
-      (sym (result_with past there.0)) (by_question q there.0 there.1))
-    where
-      by_place : (a : StackTraceArguments) (l : Launched) (c : Option Configuration) (b : Result Shown Refusal)
-          → RepliesAt (subject_in past l) c (question.StackTrace a) b
-          → IsVerdict (refused_thread (Some a.thread_id)) (command.Inspect (question.StackTrace a)) (in_body b)
-      by_place a l None b is = absurd is
-      by_place a l (Some c) b is = stack_judged a b _ (nat_eq a.thread_id 1) is
-
-      by_question : (q : Question) (b : Result Shown Refusal) → InspectsAs past q b
-          → IsVerdict (refused_by Stopped (command.Inspect q)) (command.Inspect q) (in_body b)
-      by_question (question.StackTrace a) b is =
-          of_program past (launched past) refl (λ l. RepliesAt (subject_in past l) (at l.program (position past))
-          (question.StackTrace a) b) _ (λ l there says. by_place a l (at l.program (position past)) b says) is
-      by_question _ b is = (b, refl)
+      grind (arith, common_steps, inspects_there, result_with, stack_judged, of_program, at, position) steps 1500000
 
   -- ---- any
 
@@ -99,26 +81,17 @@ module _ (past : History) where
   judged Fresh seq (command.SetBreakpoints a) reaction unwanted is = result_by is
   judged Ready seq (command.SetBreakpoints a) reaction unwanted is = result_by is
   judged s seq (command.SetBreakpoints a) reaction unwanted is =
-      of_program past (launched past) refl (λ l. SetsOf (is_same_path a.path l.path) past l a.breakpoints reaction)
-      (Judges None (command.SetBreakpoints a) reaction)
-      (λ l there says. sets_judged a l reaction (is_same_path a.path l.path) says) is
+      grind (arith, common_steps, of_program, sets_judged) steps 1500000
   judged Configuring seq command.ConfigurationDone reaction unwanted is =
-      of_program past (launched past) refl (λ l. reaction ≡ Start l) (Judges None command.ConfigurationDone reaction)
-      (λ l there says. result_by says) is
+      grind (arith, common_steps, of_program, result_by) steps 1500000
   judged Stopped seq (command.Resume k a) reaction unwanted is =
-      of_program past (launched past) refl _ (Judges (refused_thread (Some a.thread_id)) (command.Resume k a) reaction)
-      (λ l there says. on_thread (command.Resume k a) (nat_eq a.thread_id 1) (Resume l k) reaction (body_granted k a)
-      says) is
-  judged Faulted seq (command.Resume k a) reaction unwanted is =
-      on_thread (command.Resume k a) (nat_eq a.thread_id 1) (End k) reaction (body_granted k a) is
+      grind (arith, common_steps, of_program, on_thread, body_granted) steps 1500000
+  judged Faulted seq (command.Resume k a) reaction unwanted is = on_thread _ _ _ reaction (body_granted k a) is
   judged Stopped seq (command.Retreat k a) reaction unwanted is = retreats_judged k a reaction is
   judged Faulted seq (command.Retreat k a) reaction unwanted is = retreats_judged k a reaction is
-  judged Running seq (command.Pause a) reaction unwanted is =
-      on_thread (command.Pause a) (nat_eq a.thread_id 1) Interrupt reaction refl is
-  judged Stopped seq (command.Pause a) reaction unwanted is =
-      on_thread (command.Pause a) (nat_eq a.thread_id 1) (reaction_is.Answer body.None) reaction refl is
-  judged Faulted seq (command.Pause a) reaction unwanted is =
-      on_thread (command.Pause a) (nat_eq a.thread_id 1) (reaction_is.Answer body.None) reaction refl is
+  judged Running seq (command.Pause a) reaction unwanted is = grind (arith, common_steps, on_thread) steps 1500000
+  judged Stopped seq (command.Pause a) reaction unwanted is = grind (arith, common_steps, on_thread) steps 1500000
+  judged Faulted seq (command.Pause a) reaction unwanted is = grind (arith, common_steps, on_thread) steps 1500000
   judged Stopped seq (command.Inspect q) reaction unwanted is = standing q reaction is
   judged Faulted seq (command.Inspect q) reaction unwanted is = standing q reaction is
   judged s seq asked reaction unwanted is = result_by is
@@ -126,13 +99,7 @@ module _ (past : History) where
 -- ---- refusals
 
 nothing_is : (effect : Effect) → effect ≡ nothing → IsNothing effect
-nothing_is effect is = record {
-  events_are = ap (λ (e : Effect). e.events) is;
-  orders_are = ap (λ (e : Effect). e.orders) is;
-  launched_is = ap (λ (e : Effect). e.launched) is;
-  put_in_is = ap (λ (e : Effect). e.put_in) is;
-  waits_are = ap (λ (e : Effect). e.waits) is;
-}
+nothing_is effect is = grind (arith, common_steps) steps 1500000
 
 refusal_quiet : (past : History) {s : Situation} {asked : Command} {reaction : Reaction} → Reacted past s asked reaction
     → (why : Refusal) → (reply_of past reaction).result ≡ Err why → IsNothing (reply_of past reaction).effect
@@ -142,8 +109,7 @@ refusal_quiet past _ why not = absurd cc
 launch_quiet : (launch : Launch) (file : Option (List ℕ)) (reply : Reply) (why : Refusal) → reply.result ≡ Err why
     → Launches launch.arguments file reply → IsNothing reply.effect
 launch_quiet launch None reply why not is = nothing_is reply.effect (ap (λ (r : Reply). r.effect) is)
-launch_quiet launch (Some text) reply why not (inl is) =
-    nothing_is reply.effect (ap (λ (r : Reply). r.effect) is.reply_is)
+launch_quiet launch (Some text) reply why not (inl is) = grind (arith, common_steps, nothing_is) steps 1500000
 launch_quiet launch (Some text) reply why not (inr is) =
     let e = sym (result_is reply _ is.reply_is) ∙ not in absurd cc
 
@@ -151,12 +117,9 @@ launch_quiet launch (Some text) reply why not (inr is) =
 pub refused_step : (past : History) (item : Item) (step : Step) (seq : ℕ) (name : CommandName) (why : Refusal)
     → Causes past item step → step.answer ≡ Some (Answer seq name (Err why)) → IsNothing step.effect
 refused_step past (Content (Some request)) step seq name why is answer =
-    subst IsNothing (sym is.2.effect_is)
-    (by_reaction (λ (r : Reply). r.result ≡ Err why → IsNothing r.effect)
-    (λ reaction reacted not. refusal_quiet past reacted why not) is.1 (let e = sym is.2.answer_is ∙ answer in cc))
+    grind (arith, common_steps, by_reaction, refusal_quiet) steps 1500000
 refused_step past (Loaded launch file) step seq name why is answer =
-    subst IsNothing (sym is.2.effect_is)
-    (launch_quiet launch file is.0 why (let e = sym is.2.answer_is ∙ answer in cc) is.1)
+    grind (arith, common_steps, launch_quiet) steps 1500000
 refused_step past _ step seq name why is answer = let e = sym is.answer_is ∙ answer in absurd cc
 
 -- ---- other items
@@ -188,9 +151,8 @@ pub each_judged : EachIsJudged
 each_judged f events past rest history before step after past_is request item_is = (
   is.0.result,
   is.2.answer_is,
-  subst (λ (r : Reply). IsVerdict (refused_by (situation before) request.body) request.body r.result)
-      (sym is.1.reply_is)
-      (judged before (situation before) request.seq request.body is.1.reaction taken is.1.reacts),
+  rw is.1.reply_is (judged before (situation before) request.seq request.body
+      is.1.reaction taken is.1.reacts),
 )
   where
     was : WasTaken Any (Anything Any) before step
@@ -212,7 +174,4 @@ others_quiet f events past rest history before step after past_is silent =
     other_tells before step.item step (was_taken f events past rest history before step after past_is).causes silent
 
 pub answers_first : AnswersComeFirst
-answers_first = (
-  λ step answer is. ap (λ a. with_answer a (map Event step.effect.events)) is,
-  λ step is. ap (λ a. with_answer a (map Event step.effect.events)) is,
-)
+answers_first = grind (arith, common_steps, with_answer, map) steps 1500000

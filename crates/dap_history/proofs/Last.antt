@@ -1,5 +1,5 @@
 -- A `disconnect` that is taken is the last item, and its answer the last message.
-use Rattle.dap_history.proofs.Common.{Causes, Close, Content, Ending, Event, History, Incoming, IsTaking, Ok, Reply, Some, Step, [], ap, closing, ending_of, inl, inr, messages, messages_of, subst, sym, with_answer, ℕ, ◌++◌, ◌∙◌, ◌∷◌, ◌≡◌, ◌⊎◌}
+use Rattle.dap_history.proofs.Common.{Causes, Content, Ending, History, Incoming, IsTaking, Ok, Some, Step, [], ap, closing, messages, messages_of, subst, with_answer, ℕ, ◌++◌, ◌∙◌, ◌∷◌, ◌≡◌, inl, inr, ◌⊎◌, Close, Event, Reply, ending_of, sym}
 use Rattle.std.specs.Prelude.{map}
 use Rattle.dap_msg.specs.declared.command.Command.TheVariants as command
 use Rattle.dap_msg.specs.declared.command.CommandName.TheVariants as name

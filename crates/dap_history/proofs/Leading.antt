@@ -1,5 +1,5 @@
 -- Each item that reads no text leads from a history to another.
-use Rattle.dap_history.proofs.Common.{Accepted, Block, Body, Breakpoint, Causes, Command, Configuration, Configuring, Content, Effect, EndsBy, Err, Fault, Faulted, Fresh, GoesBackBy, History, InputEnd, Inspects, IsAfter, IsSome, IsStopped, Item, Launch, Launched, Launches, Loaded, MemoryFailure, Mode, None, OfProgram, Ok, Option, Outgoing, PlainReport, Question, Quit, Reaction, Reacts, ReadFailure, Ready, Reason, RepliesAt, RepliesFrom, RepliesIn, Reply, Resume, Retreat, Situation, SliceOutcome, Some, Start, Step, Stop, Stopped, Went, WrittenJoins, [], ap, arith, at, due, end_of, faults, for_thread, goal_of, goes_back, has_come, has_no_memory, if◌then◌else◌, inl, inr, is_due, is_some, is_spent, lacks_memory, last_due, launched, length, name_of, nothing, only_orders, option_map_or, or_else, refl, refused, reply_of, report_effect, situation, step_mark, stop_at, subject_in, subst, suc, sym, takes_all, unwrap_or, zero, ℕ, ◌++◌, ◌-◌, ◌<◌, ◌∙◌, ◌∷◌, ◌≡◌, ◌≤◌, ◌⊎◌, back_if}
+use Rattle.dap_history.proofs.Common.{Accepted, Block, Body, Breakpoint, Causes, Command, Configuration, Configuring, Content, Effect, EndsBy, Fault, Faulted, Fresh, GoesBackBy, History, InputEnd, Inspects, IsAfter, IsSome, IsStopped, Item, Launch, Launched, Launches, Loaded, MemoryFailure, Mode, None, OfProgram, Ok, Option, Outgoing, PlainReport, Question, Quit, Reaction, Reacts, ReadFailure, Ready, Reason, RepliesAt, RepliesFrom, RepliesIn, Reply, Resume, Retreat, Situation, SliceOutcome, Some, Start, Step, Stop, Stopped, Went, WrittenJoins, [], ap, arith, at, end_of, faults, for_thread, goal_of, goes_back, has_come, has_no_memory, inl, inr, is_due, is_some, is_spent, lacks_memory, last_due, launched, length, nothing, only_orders, or_else, refl, refused, reply_of, situation, step_mark, stop_at, subject_in, subst, suc, sym, takes_all, unwrap_or, zero, ℕ, ◌++◌, ◌<◌, ◌∙◌, ◌∷◌, ◌≡◌, ◌≤◌, ◌⊎◌, back_if, due, if◌then◌else◌, option_map_or, ◌-◌}
 use Rattle.std.proofs.Common.{List, Bool, true, false}
 use Rattle.std.specs.Prelude.{Result}
 use Rattle.dap_msg.specs.declared.question.Question.TheVariants as question
@@ -118,40 +118,29 @@ reaction_early past seq none early _ = absurd early
 launch_early : (s : Situation) (launch : Launch) (file : Option (List ℕ)) (reply : Reply) → IsEarly s
     → Launches launch.arguments file reply → EarlyOr s (launching launch file reply)
 launch_early s launch None reply early is = subst (λ r. EarlyOr s (launching launch None r)) (sym is) (inl early)
-launch_early s launch (Some text) reply early (inl is) =
-    subst (λ r. EarlyOr s (launching launch (Some text) r)) (sym is.reply_is) (inl early)
-launch_early s launch (Some text) reply early (inr is) =
-    subst (λ r. EarlyOr s (launching launch (Some text) r)) (sym is.reply_is) (inr (_, refl))
+launch_early s launch (Some text) reply early (inl is) = rw is.reply_is (inl early)
+launch_early s launch (Some text) reply early (inr is) = rw is.reply_is (inr (_, refl))
 
 item_early : (past : History) (item : Item) (step : Step) → step.item ≡ item → IsTaken IsLawfulEvent past item
     → Causes past item step → launched past ≡ None → IsEarly (situation past) → EarlyOr (situation past) step
 item_early past (Content None) step item_is taken is none early =
-    subst (EarlyOr (situation past)) (sym
-    (same_step step (Content None) None nothing item_is is.answer_is is.effect_is)) (inl early)
+    rw (same_step step (Content None) None nothing item_is is.answer_is is.effect_is) (inl early)
 item_early past (Content (Some request)) step item_is taken is none early =
-    subst (EarlyOr (situation past)) (sym
-    (same_step step (Content (Some request)) (Some (Answer request.seq (name_of request.body) is.0.result))
-    is.0.effect item_is is.2.answer_is is.2.effect_is))
-    (by_reaction (λ (r : Reply). EarlyOr (situation past) (answering request.seq request.body r.result r.effect))
-    (λ reaction reacted. reaction_early past request.seq none early reacted) is.1)
+    subst (EarlyOr (situation past)) (sym (same_step step _ _ is.0.effect item_is is.2.answer_is is.2.effect_is))
+    (by_reaction (λ (r : Reply). EarlyOr (situation past) (answering request.seq request.body r.result r.effect)) (λ
+    reaction reacted. reaction_early past request.seq none early reacted) is.1)
 item_early past (Loaded launch file) step item_is taken is none early =
-    subst (EarlyOr (situation past)) (sym
-    (same_step step (Loaded launch file) (Some (Answer launch.seq (name.Supported supported.Launch) is.0.result))
-    is.0.effect item_is is.2.answer_is is.2.effect_is))
-    (launch_early (situation past) launch file is.0 early is.1)
+    rw (same_step step (Loaded launch file) (Some (Answer launch.seq (name.Supported supported.Launch) is.0.result))
+    is.0.effect item_is is.2.answer_is is.2.effect_is) (launch_early (situation past) launch file is.0 early is.1)
 item_early past (Accepted r) step item_is taken is none early = absurd (subst IsEarly taken.0.running early)
 item_early past (Fault k) step item_is taken is none early =
-    subst (EarlyOr (situation past)) (sym (same_step step (Fault k) None nothing item_is is.answer_is is.effect_is))
-    (inl early)
+    rw (same_step step (Fault k) None nothing item_is is.answer_is is.effect_is) (inl early)
 item_early past InputEnd step item_is taken is none early =
-    subst (EarlyOr (situation past)) (sym
-    (same_step step InputEnd None (only_orders (Quit ∷ [])) item_is is.answer_is is.effect_is)) (inl early)
+    rw (same_step step InputEnd None (only_orders (Quit ∷ [])) item_is is.answer_is is.effect_is) (inl early)
 item_early past ReadFailure step item_is taken is none early =
-    subst (EarlyOr (situation past)) (sym
-    (same_step step ReadFailure None (only_orders (Quit ∷ [])) item_is is.answer_is is.effect_is)) (inl early)
+    rw (same_step step ReadFailure None (only_orders (Quit ∷ [])) item_is is.answer_is is.effect_is) (inl early)
 item_early past MemoryFailure step item_is taken is none early =
-    subst (EarlyOr (situation past)) (sym (same_step step MemoryFailure None nothing item_is is.answer_is is.effect_is))
-    (inl early)
+    rw (same_step step MemoryFailure None nothing item_is is.answer_is is.effect_is) (inl early)
 
 -- ---- along a history
 
@@ -202,21 +191,15 @@ module _ (one : OneProgram) (joins : WrittenJoins) (no_gaps : RunsHaveNoGaps) wh
       → Leading past → (l : Launched) → or_else step.effect.launched (launched past) ≡ Some l
       → IsSome (at l.program (unwrap_or (end_of item) (position past)))
   alive_item past (Content (Some request)) step taken is here l there =
-      here.alive l (ap (λ o. or_else o (launched past))
-      (sym (ap (λ (e : Effect). e.launched) is.2.effect_is
-      ∙ (all_silent (situation past) past request.body is.0 is.1).no_launch)) ∙ there)
+      here.alive l (cc (is.2.effect_is, (all_silent (situation past) past request.body is.0 is.1).no_launch))
   alive_item past (Loaded launch file) step taken is here l there =
       let none : launched past ≡ None = here.ran.so_far.early (subst IsEarly (sym taken) tt) in
       subst (λ n. IsSome (at l.program n)) (sym (here.ran.so_far.progress None none).2) refl
   alive_item past (Accepted r) step taken is here l there =
-      let before : launched past ≡ Some l =
-      ap (λ o. or_else o (launched past))
-      (sym (ap (λ (e : Effect). e.launched) is.effect_is ∙ report_launches past r r.outcome)) ∙ there in
-      subst (λ (p : Block). IsSome (at p r.end))
-      (report_program one joins past r taken.1 l taken.0 (here.ran.so_far.progress (Some l) before))
-      (went_alive taken.1.program r no_gaps (goes_back r.mode) taken.1.lawful.went)
-  alive_item past _ step taken is here l there =
-      here.alive l (ap (λ o. or_else o (launched past)) (sym (ap (λ (e : Effect). e.launched) is.effect_is)) ∙ there)
+      let before : launched past ≡ Some l = cc (is.effect_is, report_launches past r r.outcome) in
+      rw (← (report_program one joins past r taken.1 l taken.0 (here.ran.so_far.progress (Some l) before))) (went_alive
+      taken.1.program r no_gaps (goes_back r.mode) taken.1.lawful.went)
+  alive_item past _ step taken is here l there = here.alive l (cc is.effect_is)
 
   leading_more : (past : History) (step : Step) → IsTaken IsLawfulEvent past step.item → Causes past step.item step
       → Leading past → Leading (past ++ step ∷ [])
@@ -319,20 +302,14 @@ module _ (one : OneProgram) (joins : WrittenJoins) (no_gaps : RunsHaveNoGaps) wh
     leads_on (Content None) plain = by_step (Content None) None nothing (record { answer_is = refl; effect_is = refl })
     leads_on (Content (Some request)) plain =
         let reply = replies request.body plain in
-        by_step (Content (Some request)) (Some (Answer request.seq (name_of request.body) reply.0.result))
-        reply.0.effect (reply.0, reply.1, record { answer_is = refl; effect_is = refl })
+        by_step _ _ reply.0.effect (reply.0, reply.1, record { answer_is = refl; effect_is = refl })
     leads_on (Loaded launch None) plain =
-        by_step (Loaded launch None) (Some
-        (Answer launch.seq (name.Supported supported.Launch) (Err refusal.CannotRead))) nothing
-        (refused refusal.CannotRead, refl, record { answer_is = refl; effect_is = refl })
+        by_step _ _ nothing (refused refusal.CannotRead, refl, record { answer_is = refl; effect_is = refl })
     leads_on (Loaded launch (Some text)) plain = absurd plain
-    leads_on (Accepted r) plain =
-        by_step (Accepted r) None (report_effect past r r.outcome) (record { answer_is = refl; effect_is = refl })
+    leads_on (Accepted r) plain = by_step _ None _ (record { answer_is = refl; effect_is = refl })
     leads_on (Fault k) plain = by_step (Fault k) None nothing (record { answer_is = refl; effect_is = refl })
-    leads_on InputEnd plain =
-        by_step InputEnd None (only_orders (Quit ∷ [])) (record { answer_is = refl; effect_is = refl })
-    leads_on ReadFailure plain =
-        by_step ReadFailure None (only_orders (Quit ∷ [])) (record { answer_is = refl; effect_is = refl })
+    leads_on InputEnd plain = by_step InputEnd None _ (record { answer_is = refl; effect_is = refl })
+    leads_on ReadFailure plain = by_step ReadFailure None _ (record { answer_is = refl; effect_is = refl })
     leads_on MemoryFailure plain = by_step MemoryFailure None nothing (record { answer_is = refl; effect_is = refl })
 
   pub each_item_leads : EachItemLeads

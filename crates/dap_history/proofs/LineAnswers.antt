@@ -1,16 +1,14 @@
 -- Each line of a granted `setBreakpoints` is answered from the program, in the client's own counting.
-use Rattle.dap_history.proofs.Common.{FirstSeq, Accepted, At, BadCondition, BadHitCondition, BadLogMessage, Block, Body, Breakpoint, BreakpointAnswer, Causes, Command, Content, Err, Fresh, GiveBreakpoints, History, Incoming, InitializeArguments, IsHistoryOf, IsResolved, IsResolvedTo, Item, Launched, Loaded, NoStep, None, Ok, Option, Reaction, Refusal, RepliesIn, Reply, Resolution, Rest, SetBreakpointsArguments, Situation, Some, SourceBreakpoint, Step, StepAt, [], after_step, answer_to_line, ap, arith, asked_as, effect_in, get_or, inl, inr, item_leads, launched, length, less_by, line_offset, name_of, offset, option_map_or, other_source, refl, reply_of, reply_with, settings, settings_by, situation, slice_get, step_from, steps, stop_in, subst, sym, unwrap_or, ℕ, ◌++◌, ◌+◌, ◌-◌, ◌<◌, ◌∙◌, ◌∷◌, ◌≡◌, ◌≤◌, ◌⊎◌}
-use Rattle.std.proofs.Common.{List, map, Bool, true, false, Result}
+use Rattle.dap_history.proofs.Common.{FirstSeq, Accepted, At, BadCondition, BadHitCondition, BadLogMessage, Block, Body, Breakpoint, BreakpointAnswer, Causes, Command, Content, Fresh, GiveBreakpoints, History, Incoming, InitializeArguments, IsHistoryOf, IsResolved, IsResolvedTo, Item, Launched, Loaded, NoStep, None, Ok, Option, Reaction, RepliesIn, Reply, Resolution, Rest, SetBreakpointsArguments, Situation, Some, SourceBreakpoint, Step, StepAt, [], after_step, answer_to_line, ap, arith, asked_as, get_or, inl, inr, item_leads, launched, length, less_by, line_offset, offset, option_map_or, refl, reply_of, settings, settings_by, situation, slice_get, step_from, steps, stop_in, subst, sym, unwrap_or, ℕ, ◌++◌, ◌<◌, ◌∙◌, ◌∷◌, ◌≡◌, ◌≤◌, ◌⊎◌}
+use Rattle.std.proofs.Common.{List, map, Bool, true, false}
 use Rattle.std.specs.List.{position, position_or_len}
 use Rattle.std.proofs.lemmas.Grind.{common_steps}
 use Rattle.std.proofs.lemmas.Option.{slice_get_cases}
 use Rattle.dap_msg.specs.declared.command.Command.TheVariants as command
-use Rattle.dap_msg.specs.declared.outgoing.Outgoing.TheVariants.{Answer}
 use Rattle.dap_msg.specs.declared.outgoing.Body.TheVariants as body
 use Rattle.dap_msg.specs.declared.outgoing.BreakpointAnswer.TheVariants as answer
 use Rattle.dap_msg.specs.declared.outgoing.BreakpointRefusal.TheVariants as why
 use Rattle.dap_history.specs.Breakpoints.{step_line}
-use Rattle.dap_history.specs.Transitions.{command_leads}
 use Rattle.dap_history.specs.LineAnswers.{AnswersLine, AnswersLines, GivesBreakpoint, LinesAreAnswered}
 use Rattle.dap_history.specs.Initialized.{IsInitializedBy}
 use Rattle.dap_history.proofs.Readings.{settings-snoc}
@@ -20,7 +18,7 @@ use Rattle.dap_history.proofs.Transitions.{step_leads}
 use Rattle.dap_history.proofs.Holding.{result_of}
 use Rattle.dap_history.proofs.Paths.{at_path, at_path_so}
 use Rattle.dap_history.proofs.Since.{longer}
-use Rattle.dap_history.proofs.Reacted.{IsCalm, Reacted, by_setting, by_answering, replied, by_reaction}
+use Rattle.dap_history.proofs.Reacted.{Reacted, by_setting, by_answering, replied, by_reaction}
 
 abbrev pub Any : Incoming → Type 0
 Any e = Unit {0}
@@ -41,55 +39,13 @@ module _ (past : History) (step : Step) (taken : IsTaken Any past step.item) (ca
   settings_after o is = settings-snoc past step ∙ ap (λ x. unwrap_or x (settings past)) is
 
   counts_on : IsInitializedBy past (settings past) → IsInitializedBy (past ++ step ∷ []) (settings past)
-  counts_on was = record {
-    early = was.early;
-    step = was.step;
-    later = was.later ++ step ∷ [];
-    past_is = longer past was.early was.step was.later step was.past_is;
-    request = was.request;
-    granted = was.granted;
-    asked_is = was.asked_is;
-  }
+  counts_on was = grind (arith, common_steps, longer) steps 1500000
 
   -- a granted `initialize` says how
   begins_to_count : (item : Item) → step.item ≡ item → Causes past item step → (a : InitializeArguments)
       → settings_by item step.answer ≡ Some a
       → IsInitializedBy (past ++ step ∷ []) a
-  begins_to_count (Content (Some request)) item_is is a says = by_result is.0.result refl
-      (sym (ap (settings_by (Content (Some request))) is.2.answer_is) ∙ says)
-    where
-      by_body : (c : Command) (b : Body) → request.body ≡ c → is.0.result ≡ Ok b
-          → settings_by (Content (Some (record { seq = request.seq; body = c })))
-          (Some (Answer request.seq (name_of request.body) (Ok b))) ≡ Some a
-          → IsInitializedBy (past ++ step ∷ []) a
-      by_body (command.Initialize asked) b body_is granted says =
-          let same : asked ≡ a = cc in record {
-            early = past;
-            step = step;
-            later = [];
-            past_is = refl;
-            request = request;
-            granted =
-                record {
-                  item_is = item_is;
-                  body = b;
-                  answer_is = is.2.answer_is
-                      ∙ ap (λ r. Some (Answer request.seq (name_of request.body) r)) granted;
-                };
-            asked_is = body_is ∙ ap command.Initialize same;
-          }
-      by_body _ b body_is granted says = absurd cc
-
-      by_result : (r : Result Body Refusal) → is.0.result ≡ r
-          → settings_by (Content (Some request)) (Some (Answer request.seq (name_of request.body) is.0.result)) ≡ Some a
-          → IsInitializedBy (past ++ step ∷ []) a
-      by_result (Ok b) granted says =
-          by_body request.body b refl granted
-          (ap (λ r. settings_by (Content (Some request)) (Some (Answer request.seq (name_of request.body) r)))
-          (sym granted) ∙ says)
-      by_result (Err why_) refused says =
-          let e = ap (λ r. settings_by (Content (Some request)) (Some (Answer request.seq (name_of request.body) r)))
-          (sym refused) ∙ says in absurd cc
+  begins_to_count (Content (Some request)) item_is is a says = grind (arith, common_steps) steps 1500000
   begins_to_count _ item_is is a says = absurd cc
 
   -- nothing else leads on from Fresh
@@ -97,22 +53,7 @@ module _ (past : History) (step : Step) (taken : IsTaken Any past step.item) (ca
       → settings_by item step.answer ≡ None → situation past ≡ Fresh
       → item_leads item step.answer (stop_in step) Fresh ≡ Fresh
   stays_fresh (Content (Some request)) item_is taken_ is none fresh =
-      subst (λ a. item_leads (Content (Some request)) a (stop_in step) Fresh ≡ Fresh) (sym is.2.answer_is)
-      (by_result is.0.result (sym (ap (settings_by (Content (Some request))) is.2.answer_is) ∙ none))
-    where
-      by_body : (c : Command) (b : Body)
-          → settings_by (Content (Some (record { seq = request.seq; body = c })))
-          (Some (Answer request.seq (name_of request.body) (Ok b))) ≡ None
-          → command_leads c Fresh (stop_in step) ≡ Fresh
-      by_body (command.Initialize asked) b none = absurd cc
-      by_body _ b none = refl
-
-      by_result : (r : Result Body Refusal)
-          → settings_by (Content (Some request)) (Some (Answer request.seq (name_of request.body) r)) ≡ None
-          → item_leads (Content (Some request)) (Some (Answer request.seq (name_of request.body) r)) (stop_in step)
-          Fresh ≡ Fresh
-      by_result (Ok b) none = by_body request.body b none
-      by_result (Err why_) none = refl
+      grind (arith, common_steps, item_leads) steps 1500000
   stays_fresh (Loaded launch file) item_is ready is none fresh = let e = sym ready ∙ fresh in absurd cc
   stays_fresh (Accepted r) item_is accepted is none fresh = let e = sym accepted.0.running ∙ fresh in absurd cc
   stays_fresh _ item_is taken_ is none fresh = refl
@@ -132,11 +73,7 @@ module _ (past : History) (step : Step) (taken : IsTaken Any past step.item) (ca
           ∙ stays_fresh step.item refl taken causes none fresh)
 
 pub counted_kept : IsKept Any IsCounted
-counted_kept = record {
-  step = λ past item new taking taken after here. subst IsCounted (sym after.new_is)
-      (counted_more past after.step (subst (IsTaken Any past) (sym after.item_is) taken)
-      (subst (λ i. Causes past i after.step) (sym after.item_is) after.causes) here);
-}
+counted_kept = grind (arith, common_steps, counted_more) steps 1500000
 
 -- ---- the answers
 
@@ -163,17 +100,7 @@ module _ (main : Block) (less : ℕ) where
   module _ (b : SourceBreakpoint) where
     answers_line : (r : Resolution) (mine : List Breakpoint) → IsResolvedTo main (asked_as less b) r mine
         → AnswersLine main less b (answer_to_line main less r)
-    answers_line (At n) mine is =
-        let there = step_there (b.line + less) n is.0 in (
-          n,
-          there.0,
-          is.0,
-          there.1,
-          ap (λ k. k - less) (line_at n there.0 there.1),
-          record { condition = is.1.0.condition; reads = is.1.2.condition },
-          record { rule = is.1.0.rule; reads = is.1.2.rule },
-          record { message = is.1.0.message; reads = is.1.2.message },
-        )
+    answers_line (At n) mine is = grind (arith, common_steps, step_there, line_at) steps 1500000
     answers_line NoStep mine is = is.0
     answers_line BadCondition mine is = is.1
     answers_line BadHitCondition mine is = (is.2.0, is.2.1, is.2.2, is.1)
@@ -181,18 +108,7 @@ module _ (main : Block) (less : ℕ) where
 
     gives_line : (r : Resolution) (mine : List Breakpoint) → IsResolvedTo main (asked_as less b) r mine
         → GivesBreakpoint main less b (answer_to_line main less r) mine
-    gives_line (At n) mine is = (
-      n,
-      is.1.0,
-      is.0,
-      is.1.1,
-      record {
-        step_is = is.1.2.step;
-        condition_is = is.1.2.condition;
-        rule_is = is.1.2.rule;
-        message_is = is.1.2.message;
-      },
-    )
+    gives_line (At n) mine is = grind (arith, common_steps) steps 1500000
     gives_line NoStep mine is = is.1
     gives_line BadCondition mine is = is.0
     gives_line BadHitCondition mine is = is.0
@@ -237,32 +153,15 @@ reaction_answers : (past : History) {s : Situation} {asked : Command} {reaction 
     → (a : SetBreakpointsArguments) (b : Body) → asked ≡ command.SetBreakpoints a
     → (reply_of past reaction).result ≡ Ok b → AnswersSet past a (reply_of past reaction)
 reaction_answers past (by_setting s c l found bs there path_is resolved) a b asks granted =
-    subst (λ x. AnswersSet past x
-    (reply_with (body.Breakpoints (map (answer_to_line l.program (line_offset past)) found))
-    (effect_in (situation past) past bs))) (let e : c ≡ a = cc in e) (record {
-      l = l;
-      answers = map (answer_to_line l.program (line_offset past)) found;
-      there = there;
-      result_is = refl;
-      ours = λ same. answers_lines l.program (line_offset past) c.breakpoints found bs resolved;
-      others = λ not. absurd (not (at_path c.path l.path path_is));
-    })
+    grind (arith, common_steps, map, answers_lines, at_path) steps 1500000
 reaction_answers past (by_answering s asked body calm) a b asks granted =
-    let here = subst (λ c. IsCalm past s c body) asks calm in record {
-      l = here.0;
-      answers = other_source a.breakpoints;
-      there = here.1;
-      result_is = ap Ok here.3;
-      ours = λ same. absurd (let e = sym (at_path_so a.path here.0.path same) ∙ here.2 in cc);
-      others = λ not. refl;
-    }
+    grind (arith, common_steps, at_path_so) steps 1500000
 reaction_answers past _ a b asks granted = absurd cc
 
 -- lines are set after `initialize`
 not_fresh : (s : Situation) (past : History) (a : SetBreakpointsArguments) (reply : Reply) (b : Body)
     → RepliesIn s past (command.SetBreakpoints a) reply → reply.result ≡ Ok b → ¬ (s ≡ Fresh)
-not_fresh Fresh past a reply b is granted fresh =
-    let e = sym (ap (λ (r : Reply). r.result) (replied _ is is.reacts)) ∙ granted in absurd cc
+not_fresh Fresh past a reply b is granted fresh = grind (arith, common_steps, replied) steps 1500000
 not_fresh _ past a reply b is granted fresh = absurd cc
 
 -- ---- the law
@@ -291,13 +190,11 @@ lines_answered f events past rest history before step after request asked past_i
   settings before,
   there.answers,
   there.there,
-  counts_so before
-      (not_fresh (situation before) before asked is.0 granted.body
-      (subst (λ c. RepliesIn (situation before) before c is.0) asked_is is.1) result_is)
-      was.held,
-  (let e = sym result_is ∙ there.result_is in cc),
-  λ path_is. subst (λ n. AnswersLines there.l.program n asked.breakpoints there.answers)
-      (offset_is (settings before).lines_start_at_1) (there.ours path_is),
+  counts_so before (not_fresh (situation before) before asked
+      is.0 granted.body (rw (← asked_is) is.1) result_is) was.held,
+  (let e = sym result_is ∙ there.result_is in
+      cc),
+  λ path_is. rw (← (offset_is (settings before).lines_start_at_1)) (there.ours path_is),
   there.others,
 )
   where

@@ -1,13 +1,12 @@
 -- Each run is under the breakpoints of the lines that were set last, and counts from where they were set.
-use Rattle.dap_history.proofs.Common.{FirstSeq, Accepted, Accepts, AreLawful, Body, Breakpoint, BreakpointAnswer, Causes, Command, Configuring, Content, Effect, Ended, Event, Fault, Faulted, Fresh, GiveBreakpoints, Go, Heading, History, Hold, Incoming, InitializeArguments, InputEnd, IsHistoryOf, IsResolved, IsStopped, Item, Launch, Launched, Launches, Loaded, MemoryFailure, Mode, None, Ok, Option, Orders, Outgoing, PlainOrder, PlainReport, Plan, Quit, Reaction, ReadFailure, Ready, Reason, Refusal, Reply, Resolution, Rest, Running, SetBreakpointsArguments, Situation, SliceOutcome, Some, SourceBreakpoint, Step, Stopped, ThreadArguments, WrittenJoins, [], answer_to_line, ap, body_of, due_first, effect_in, end_of, enters, exception_of, exited_events, from_next, go, goes_back, held_effect, hold_once, if◌then◌else◌, inl, inr, is_back, is_same_path, is_some, last_run, last_such, launched, launches, line_offset, message_mark, name_of, no_plan, nothing, offset, only_orders, option_map_or, or_else, order_mark, plan, put_in_at, refl, refused, reply_of, reply_with, report_effect, resumes, run_in, runs, settings, settings_by, situation, starts_by, step_mark, stop_of, stopped_events, subst, sym, unwrap_or, waiting_pause, waiting_plan, waits_by, ℕ, ◌++◌, ◌+◌, ◌||◌, ◌∙◌, ◌∷◌, ◌≡◌}
-use Rattle.std.proofs.Common.{List, Bool, true, false, Result}
+use Rattle.dap_history.proofs.Common.{FirstSeq, Accepted, Accepts, AreLawful, Body, Breakpoint, Causes, Command, Configuring, Content, Effect, Event, Fault, Faulted, Fresh, Go, Heading, History, Hold, Incoming, InitializeArguments, InputEnd, IsHistoryOf, IsResolved, IsStopped, Item, Launch, Launched, Launches, Loaded, MemoryFailure, Mode, None, Ok, Option, Orders, Outgoing, PlainOrder, PlainReport, Plan, Quit, Reaction, ReadFailure, Ready, Reason, Refusal, Reply, Resolution, Rest, Running, SetBreakpointsArguments, Situation, SliceOutcome, Some, SourceBreakpoint, Step, Stopped, ThreadArguments, WrittenJoins, [], ap, effect_in, end_of, enters, from_next, go, goes_back, held_effect, if◌then◌else◌, inl, inr, is_back, is_same_path, is_some, last_run, last_such, launched, launches, line_offset, message_mark, name_of, no_plan, nothing, offset, only_orders, option_map_or, or_else, plan, put_in_at, refl, refused, reply_of, reply_with, report_effect, resumes, run_in, runs, settings, settings_by, situation, starts_by, step_mark, subst, sym, unwrap_or, waiting_pause, waiting_plan, waits_by, ℕ, ◌++◌, ◌||◌, ◌∙◌, ◌∷◌, ◌≡◌, answer_to_line, Ended, body_of, exception_of, exited_events, hold_once, order_mark, stop_of, stopped_events}
+use Rattle.std.proofs.Common.{List, Bool, true, false, Result, arith}
 use Rattle.std.specs.Prelude.{map, option_map}
 use Rattle.dap_msg.specs.declared.command.Command.TheVariants as command
 use Rattle.dap_msg.specs.declared.command.CommandName.TheVariants as name
 use Rattle.dap_msg.specs.declared.command.Supported.TheVariants as supported
 use Rattle.dap_msg.specs.declared.outgoing.Outgoing.TheVariants.{Answer}
 use Rattle.dap_msg.specs.declared.outgoing.Body.TheVariants as body
-use Rattle.dap_msg.specs.declared.outgoing.StopReason.TheVariants as stop
 use Rattle.dbg_runner.specs.declared.outcome.SliceOutcome.TheVariants as slice
 use Rattle.dap_history.specs.Readings.{is_held, position}
 use Rattle.dap_history.specs.Reports.{put_in_by}
@@ -27,6 +26,8 @@ use Rattle.dap_history.proofs.Ordering.{is_back_is}
 use Rattle.dap_history.proofs.Once.{ordered_last}
 use Rattle.dap_history.proofs.Asked.{no_go_in, no_go_held}
 use Rattle.dap_history.proofs.LineAnswers.{offset_is, give_lines, counts_so, counted_now, counted_before}
+use Rattle.std.proofs.lemmas.Grind.{common_steps}
+use Rattle.dap_msg.specs.declared.outgoing.StopReason.TheVariants as stop
 
 -- ---- what is read of a history in which this program is launched
 
@@ -41,11 +42,7 @@ spelled : (l : Launched) (counting : InitializeArguments) (lines : Option (List 
     (bs : List Breakpoint) → AreOfLines l (offset counting.lines_start_at_1) lines bs → AreSpelled l counting lines bs
 spelled l counting None bs is = is
 spelled l counting (Some lines) bs is =
-    subst (λ n. (answers : List BreakpointAnswer) × GiveBreakpoints l.program n lines answers bs)
-    (offset_is counting.lines_start_at_1) (
-      map (answer_to_line l.program (offset counting.lines_start_at_1)) is.0,
-      give_lines l.program (offset counting.lines_start_at_1) lines is.0 bs is.1,
-    )
+    rw (← (offset_is counting.lines_start_at_1)) (map _ is.0, give_lines l.program _ lines is.0 bs is.1)
 
 record View : Type 0 where
   settings : InitializeArguments
@@ -86,18 +83,15 @@ view-snoc : (l : Launched) (past : History) (step : Step) → view l (past ++ st
 view-snoc l past step =
     let new = past ++ step ∷ [] in
     let n = next l step (view l past) in
-    ap (λ x. view_of x (lines_set l.path new) (plan new) (waiting_plan new) (last_run new) (position new)
-    (are_anew l.path new)) (settings-snoc past step)
-    ∙ ap (λ x. view_of n.settings x (plan new) (waiting_plan new) (last_run new) (position new) (are_anew l.path new))
-    (lines_set-snoc l.path past step)
-    ∙ ap (λ x. view_of n.settings n.lines x (waiting_plan new) (last_run new) (position new) (are_anew l.path new))
-    (plan-snoc past step)
-    ∙ ap (λ x. view_of n.settings n.lines n.now x (last_run new) (position new) (are_anew l.path new))
-    (waiting_plan-snoc past step)
-    ∙ ap (λ x. view_of n.settings n.lines n.now n.waits x (position new) (are_anew l.path new))
-    (last_run-snoc past step)
-    ∙ ap (λ x. view_of n.settings n.lines n.now n.waits n.last x (are_anew l.path new)) (position-snoc past step)
-    ∙ ap (λ x. view_of n.settings n.lines n.now n.waits n.last n.here x) (are_anew-snoc l.path past step)
+    cc (
+      settings-snoc past step,
+      lines_set-snoc l.path past step,
+      plan-snoc past step,
+      waiting_plan-snoc past step,
+      last_run-snoc past step,
+      position-snoc past step,
+      are_anew-snoc l.path past step,
+    )
 
 -- ---- what holds of it
 
@@ -201,12 +195,6 @@ module _ (l : Launched) (v : View) where
     abbrev anew_then : Bool → Bool
     anew_then t = unwrap_or (option_map (λ (lines : List SourceBreakpoint). true) (lines_then t)) v.anew
 
-    -- they are put in
-    abbrev put_then : ℕ → Bool → View
-    put_then n t =
-        view_of v.settings (or_else (lines_then t) v.lines) (record { breakpoints = bs; counted_from = n }) v.waits
-        v.last v.here (anew_then t)
-
     -- they wait
     abbrev wait_then : Bool → View
     wait_then t = view_of v.settings (or_else (lines_then t) v.lines) v.now (Some bs) v.last v.here (anew_then t)
@@ -222,12 +210,9 @@ module _ (l : Launched) (v : View) where
 
     sets_planned : (past : History) (s : Situation) → position past ≡ v.here → Planned l s v
         → After l s (answering seq (command.SetBreakpoints a) (Ok b) (effect_in s past bs)) v
-    sets_planned past Configuring stands here =
-        subst (λ t. Planned l Configuring (put_then 0 t)) (sym same) (are, refl, here.2)
-    sets_planned past Stopped stands here =
-        subst (λ t. Planned l Stopped (put_then (position past + 1) t)) (sym same) (are, ap (λ n. n + 1) stands)
-    sets_planned past Faulted stands here =
-        subst (λ t. Planned l Faulted (put_then (position past + 1) t)) (sym same) (are, ap (λ n. n + 1) stands)
+    sets_planned past Configuring stands here = rw same (are, refl, here.2)
+    sets_planned past Stopped stands here = rw same (are, cc)
+    sets_planned past Faulted stands here = rw same (are, cc)
     sets_planned past Running stands here = sets_running (runs past) (is_held past || is_back past) here
     sets_planned past _ stands here = tt
 
@@ -235,8 +220,7 @@ module _ (l : Launched) (v : View) where
   begins_planned : (past : History) (seq : ℕ) (l' : Launched) (why : Option Reason) → plan past ≡ v.now
       → Planned l Configuring v → After l Configuring
       (answering seq command.ConfigurationDone (Ok body.None) (enters past l' why)) v
-  begins_planned past seq l' None plan_is here =
-      (here.0, _, refl, ap (λ (p : Plan). p.counted_from) (sym plan_is), refl)
+  begins_planned past seq l' None plan_is here = (here.0, _, refl, cc, refl)
   begins_planned past seq l' (Some r) plan_is here =
       subst (λ o. Planned l (unwrap_or (or_else o None) Configuring)
       (next l (answering seq command.ConfigurationDone (Ok body.None) (enters past l' (Some r))) v))
@@ -255,8 +239,7 @@ module _ (past : History) (l : Launched) (there : launched past ≡ Some l) (seq
   reaction_planned : {s : Situation} {asked : Command} {reaction : Reaction} → Reacted past s asked reaction
       → s ≡ situation past → Planned l s (view l past) → Replied s asked (reply_of past reaction)
   reaction_planned (by_refusing s asked why) is here = here
-  reaction_planned (by_answering s asked b calm) is here =
-      calm_planned l (view l past) past seq s asked b there calm here
+  reaction_planned (by_answering s asked b calm) is here = calm_planned l _ past seq s asked b there calm here
   reaction_planned (by_setting s a k found bs there' path_is resolved) is here =
       let one = same_program k there' in
       subst (λ t. After l t (answering seq (command.SetBreakpoints a)
@@ -267,16 +250,14 @@ module _ (past : History) (l : Launched) (there : launched past ≡ Some l) (seq
       (body.Breakpoints (map (answer_to_line k.program (line_offset past)) found)) bs
       (found, subst (λ (k : Launched). IsResolved k.program (line_offset past) a.breakpoints found bs) one resolved)
       past (situation past) refl (subst (λ t. Planned l t (view l past)) is here))
-  reaction_planned (by_starting k there') is here =
-      begins_planned l (view l past) past seq k (due_first past k) refl here
+  reaction_planned (by_starting k there') is here = begins_planned l _ past seq k _ refl here
   reaction_planned (by_resuming kind a k there') is here =
       goes_planned l (view l past) seq (command.Resume kind a) tt (body_of kind) Stopped _ refl here
   reaction_planned (by_ending kind a) is here = tt
   reaction_planned (by_retreating s kind a k stands there') is here =
       goes_planned l (view l past) seq (command.Retreat kind a) tt body.None s _ refl
       (stands_there l (view l past) s stands here)
-  reaction_planned (by_interrupting a) is here =
-      pause_planned l (view l past) seq (runs past) a (is_held past || is_back past) here
+  reaction_planned (by_interrupting a) is here = pause_planned l _ seq (runs past) a (is_held past || is_back past) here
   reaction_planned (by_closing s) is here = here
 
 -- ---- reports
@@ -304,9 +285,7 @@ module _ (past : History) (r : PlainReport) (accepts : Accepts past r) (l : Laun
   plan_put = unwrap_or (put_in_by past r) (plan past)
 
   are_put : AreOfLines l (line_offset past) (lines_set l.path past) plan_put.breakpoints
-  are_put =
-      subst (AreOfLines l (line_offset past) (lines_set l.path past))
-      (sym (lines_put (goes_back r.mode) r.end (waiting_plan past) (plan past))) here.0
+  are_put = rw (lines_put (goes_back r.mode) r.end (waiting_plan past) (plan past)) here.0
 
   put_counts : plan_put.counted_from ≡ next_counted (are_anew l.path past || is_back past) (last_run past) r.end
   put_counts =
@@ -328,9 +307,7 @@ module _ (past : History) (r : PlainReport) (accepts : Accepts past r) (l : Laun
       planned
 
   held_planned : (pauses : Bool) → Reported slice.Held (held_effect past r pauses)
-  held_planned true =
-      by_mark slice.Held (held_effect past r true) (Some Stopped) refl (outputs_mark past r (stopped_events stop.Pause))
-      (are_put, put_counts)
+  held_planned true = by_mark slice.Held (held_effect past r true) _ refl (outputs_mark past r _) (are_put, put_counts)
   held_planned false = (are_put, _, refl, refl, refl)
 
   report_planned : (e : SliceOutcome) → Reported e (report_effect past r e)
@@ -471,33 +448,25 @@ module _ (one : OneProgram) (joins : WrittenJoins) where
   both_more : (past : History) (item : Item) (step : Step) → step.item ≡ item → IsTaken IsLawfulEvent past item
       → Causes past item step → Kept past → Both (past ++ step ∷ [])
   both_more past (Content None) step item_is taken is here =
-      subst (λ s. Both (past ++ s ∷ [])) (sym
-      (same_step step (Content None) None step.effect item_is is.answer_is refl))
-      (aside past (Content None) [] (λ path. refl) step.effect is.effect_is (λ l planned. planned) here)
+      rw (same_step step (Content None) None step.effect item_is is.answer_is refl) (aside past (Content None) [] (λ
+      path. refl) step.effect is.effect_is (λ l planned. planned) here)
   both_more past (Content (Some request)) step item_is taken is here =
-      subst (λ s. Both (past ++ s ∷ [])) (sym
-      (same_step step (Content (Some request)) (Some (Answer request.seq (name_of request.body) is.0.result))
-      is.0.effect item_is is.2.answer_is is.2.effect_is))
-      (still past (answering request.seq request.body is.0.result is.0.effect)
-      (all_silent (situation past) past request.body is.0 is.1).no_launch
-      (λ none. by_reaction (λ (r : Reply). SetsNone (answering request.seq request.body r.result r.effect))
-      (λ reaction. reaction_none past none request.seq) is.1)
-      (λ l there. by_reaction (Replied past l there request.seq (situation past) request.body)
-      (λ reaction reacted. reaction_planned past l there request.seq reacted refl (here.planned l there)) is.1) here)
+      rw (same_step step (Content (Some request)) (Some (Answer request.seq (name_of request.body) is.0.result))
+      is.0.effect item_is is.2.answer_is is.2.effect_is) (still past (answering request.seq request.body is.0.result
+      is.0.effect) (all_silent (situation past) past request.body is.0 is.1).no_launch (λ none. by_reaction (λ (r :
+      Reply). SetsNone (answering request.seq request.body r.result r.effect)) (λ reaction. reaction_none past none
+      request.seq) is.1) (λ l there. by_reaction (Replied past l there request.seq (situation past) request.body) (λ
+      reaction reacted. reaction_planned past l there request.seq reacted refl (here.planned l there)) is.1) here)
   both_more past (Loaded launch file) step item_is taken is here =
-      subst (λ s. Both (past ++ s ∷ [])) (sym
-      (same_step step (Loaded launch file) (Some (Answer launch.seq (name.Supported supported.Launch) is.0.result))
-      is.0.effect item_is is.2.answer_is is.2.effect_is))
-      (launch_both past launch file is.0 taken is.1 here)
+      rw (same_step step (Loaded launch file) (Some (Answer launch.seq (name.Supported supported.Launch) is.0.result))
+      is.0.effect item_is is.2.answer_is is.2.effect_is) (launch_both past launch file is.0 taken is.1 here)
   both_more past (Accepted r) step item_is taken is here =
-      subst (λ s. Both (past ++ s ∷ [])) (sym
-      (same_step step (Accepted r) None (report_effect past r r.outcome) item_is is.answer_is is.effect_is))
-      (still past (step_of (Accepted r) None (report_effect past r r.outcome)) (report_launches past r r.outcome)
-      (λ none. absurd (let e = sym (here.ran.so_far.progress None none).1 ∙ taken.0.run_is in cc))
-      (λ l there. subst (λ s. After l s (step_of (Accepted r) None (report_effect past r r.outcome)) (view l past))
-      (sym taken.0.running)
-      (report_planned past r taken.0 l (subst (λ s. Planned l s (view l past)) taken.0.running (here.planned l there))
-      r.outcome)) here)
+      rw (same_step step (Accepted r) None (report_effect past r r.outcome) item_is is.answer_is is.effect_is) (still
+      past (step_of (Accepted r) None (report_effect past r r.outcome)) (report_launches past r r.outcome) (λ none.
+      absurd (let e = sym (here.ran.so_far.progress None none).1 ∙ taken.0.run_is in
+      cc)) (λ l there. subst (λ s. After l s (step_of (Accepted r) None (report_effect past r r.outcome)) (view l past))
+      (sym taken.0.running) (report_planned past r taken.0 l (subst (λ s. Planned l s (view l past)) taken.0.running
+      (here.planned l there)) r.outcome)) here)
   both_more past (Fault k) step item_is taken is here =
       subst (λ s. Both (past ++ s ∷ [])) (sym (same_step step (Fault k) None step.effect item_is is.answer_is refl))
       (aside past (Fault k) [] (λ path. refl) step.effect is.effect_is (λ l planned. planned) here)
@@ -552,16 +521,7 @@ module _ (one : OneProgram) (joins : WrittenJoins) where
   from_there : (past : History) (l : Launched) (seq : ℕ) (asked : Command) (b : Body) (m : Mode)
       → launched past ≡ Some l → IsGoing asked → Stands l (view l past) → (run : Heading)
       → last_such go (resumes past l m) ≡ Some run → RunsSo past (Some (Answer seq (name_of asked) (Ok b))) run
-  from_there past l seq asked b m there going stands run goes =
-      let same = ap (λ o. unwrap_or o run) goes in (
-        l,
-        there,
-        subst (AreOfLines l (line_offset past) (lines_set l.path past)) (ap (λ (h : Heading). h.plan) same) stands.0,
-        ap (λ (h : Heading). h.counted_from) (sym same) ∙ stands.1
-            ∙ ap (λ (h : Heading). next_counted (are_anew l.path past || is_back past) (last_run past) h.start) same
-            ∙ ap (λ t. if t then 0 else next_counted (are_anew l.path past || is_back past) (last_run past) run.start)
-            (sym (not_a_start seq asked b going)),
-      )
+  from_there past l seq asked b m there going stands run goes = grind (arith, common_steps, not_a_start) steps 200000
 
   begins_so : (past : History) (l : Launched) (seq : ℕ) (why : Option Reason) → launched past ≡ Some l
       → Planned l Configuring (view l past) → (run : Heading) → last_such go (enters past l why).orders ≡ Some run
@@ -589,15 +549,13 @@ module _ (one : OneProgram) (joins : WrittenJoins) where
       (Ok (body.Breakpoints (map (answer_to_line l.program (line_offset past)) found))))) run
       (effect_in (situation past) past bs).orders _ refl (no_go_in (situation past) past bs) goes
   reaction_so past here seq (by_starting l there) is run goes =
-      begins_so past l seq (due_first past l) there
-      (subst (λ s. Planned l s (view l past)) (sym is) (here.planned l there)) run goes
+      begins_so past l seq _ there (subst (λ s. Planned l s (view l past)) (sym is) (here.planned l there)) run goes
   reaction_so past here seq (by_resuming kind a l there) is run goes =
       from_there past l seq (command.Resume kind a) (body_of kind) _ there tt
       (subst (λ s. Planned l s (view l past)) (sym is) (here.planned l there)) run goes
   reaction_so past here seq (by_retreating s kind a l stands there) is run goes =
-      from_there past l seq (command.Retreat kind a) body.None _ there tt
-      (stands_there l (view l past) s stands (subst (λ s. Planned l s (view l past)) (sym is) (here.planned l there)))
-      run goes
+      from_there past l seq (command.Retreat kind a) body.None _ there tt (stands_there l (view l past) s stands (rw is
+      (here.planned l there))) run goes
   reaction_so past here seq (by_interrupting a) is run goes =
       none_so past (Some (Answer seq (name_of (command.Pause a)) (Ok body.None))) run (hold_once past) _ refl
       (no_go_held past) goes
@@ -607,20 +565,8 @@ module _ (one : OneProgram) (joins : WrittenJoins) where
   held_so : (past : History) (r : PlainReport) → Accepts past r → (l : Launched) → launched past ≡ Some l
       → Planned l Running (view l past) → (e : SliceOutcome) (run : Heading)
       → last_such go (report_effect past r e).orders ≡ Some run → RunsSo past None run
-  held_so past r accepts l there planned slice.Held run goes = by_pause (waiting_pause past) goes
-    where
-      by_pause : (pauses : Bool) → last_such go (held_effect past r pauses).orders ≡ Some run → RunsSo past None run
-      by_pause true goes = absurd cc
-      by_pause false goes =
-          let same = ap (λ o. unwrap_or o run) goes in (
-            l,
-            there,
-            subst (AreOfLines l (line_offset past) (lines_set l.path past)) (ap (λ (h : Heading). h.plan) same)
-                (are_put past r accepts l planned),
-            ap (λ (h : Heading). h.counted_from) (sym same) ∙ put_counts past r accepts l planned
-                ∙ ap (λ (h : Heading). next_counted (are_anew l.path past || is_back past) (last_run past) h.start)
-                same,
-          )
+  held_so past r accepts l there planned slice.Held run goes =
+      grind (arith, common_steps, go, true, false, are_put, put_counts) steps 200000
   held_so past r accepts l there planned slice.More run goes = absurd cc
   held_so past r accepts l there planned _ run goes = absurd cc
 
@@ -636,18 +582,14 @@ module _ (one : OneProgram) (joins : WrittenJoins) where
   item_so : (past : History) (item : Item) (step : Step) → IsTaken IsLawfulEvent past item → Causes past item step
       → Kept past → (run : Heading) → run_in step ≡ Some run → RunsSo past step.answer run
   item_so past (Content (Some request)) step taken is here run goes =
-      subst (λ a. RunsSo past a run) (sym is.2.answer_is)
-      (by_reaction (λ (r : Reply). last_such go r.effect.orders ≡ Some run
-      → RunsSo past (Some (Answer request.seq (name_of request.body) r.result)) run)
-      (λ reaction reacted goes. reaction_so past here request.seq reacted refl run goes) is.1
-      (ap (λ (e : Effect). last_such go e.orders) (sym is.2.effect_is) ∙ goes))
+      rw is.2.answer_is (by_reaction (λ (r : Reply). last_such go r.effect.orders ≡ Some run → RunsSo past (Some (Answer
+      request.seq (name_of request.body) r.result)) run) (λ reaction reacted goes. reaction_so past here request.seq
+      reacted refl run goes) is.1 (cc is.2.effect_is))
   item_so past (Loaded launch file) step taken is here run goes =
       none_so past step.answer run step.effect.orders _ (ap (λ (e : Effect). e.orders) is.2.effect_is)
       (loaded_orders launch file is.0 is.1) goes
   item_so past (Accepted r) step taken is here run goes =
-      subst (λ a. RunsSo past a run) (sym is.answer_is)
-      (report_so past r taken.0 here (launched past) refl run
-      (ap (λ (e : Effect). last_such go e.orders) (sym is.effect_is) ∙ goes))
+      rw is.answer_is (report_so past r taken.0 here (launched past) refl run (cc is.effect_is))
   item_so past _ step taken is here run goes =
       none_so past step.answer run step.effect.orders _ (ap (λ (e : Effect). e.orders) is.effect_is) refl goes
 
@@ -719,12 +661,9 @@ module _ (one : OneProgram) (joins : WrittenJoins) where
       → past ≡ before ++ step ∷ after → (l : Launched) → launched before ≡ Some l → situation before ≡ Configuring
       → (plan before).counted_from ≡ 0
   first_counts f events past rest lawful history before step after past_is l there configuring =
-      (in_force l (view l before) (situation before) (subst HasDebuggee (sym configuring) tt)
-      (kept_before.planned l there)).1 configuring
+      (in_force l (view l before) (situation before) (rw configuring tt) (kept_before.planned l there)).1 configuring
     where
       kept_before : Kept before
       kept_before =
-          ((along IsLawfulEvent (EachTaken IsLawfulEvent Kept) (each_kept IsLawfulEvent Kept kept_kept)
-          (each_first IsLawfulEvent Kept kept_first) f events past rest (lawful_events events lawful) history).each
-          before
-          step after past_is).held
+          ((along IsLawfulEvent _ (each_kept IsLawfulEvent Kept kept_kept) (each_first IsLawfulEvent Kept kept_first) f
+          events past rest (lawful_events events lawful) history).each before step after past_is).held

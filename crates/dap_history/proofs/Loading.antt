@@ -1,5 +1,5 @@
 -- A launch launches the program of its file, and no other step launches one.
-use Rattle.dap_history.proofs.Common.{Accepted, Answers, Causes, Content, Effect, History, IsSome, Item, Launch, Launches, Loaded, None, Option, Reply, Some, Step, ap, inl, inr, is_some, refl, situation, subst, sym, ℕ, ◌∙◌, ◌≡◌}
+use Rattle.dap_history.proofs.Common.{Accepted, Answers, Causes, Content, Effect, History, IsSome, Item, Launch, Launches, Loaded, None, Option, Reply, Some, Step, ap, inl, inr, is_some, refl, sym, ℕ, ◌∙◌, ◌≡◌, situation, subst}
 use Rattle.std.proofs.Common.{List}
 use Rattle.dap_msg.specs.declared.command.CommandName.TheVariants as name
 use Rattle.dap_msg.specs.declared.command.Supported.TheVariants as supported
@@ -14,8 +14,7 @@ module _ (launch : Launch) (step : Step) (reply : Reply)
     (answers : Answers launch.seq (name.Supported supported.Launch) reply step) where
   answer_as : (known : Reply) → reply ≡ known
       → step.answer ≡ Some (Answer launch.seq (name.Supported supported.Launch) known.result)
-  answer_as known is =
-      answers.answer_is ∙ ap (λ (r : Reply). Some (Answer launch.seq (name.Supported supported.Launch) r.result)) is
+  answer_as known is = cc answers.answer_is
 
   effect_as : (known : Reply) → reply ≡ known → step.effect ≡ known.effect
   effect_as known is = answers.effect_is ∙ ap (λ (r : Reply). r.effect) is

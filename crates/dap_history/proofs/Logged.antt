@@ -1,10 +1,10 @@
 -- The logs reported are those of the positions considered.
-use Rattle.dap_history.proofs.Common.{Accepted, Accepts, Block, Breakpoint, Causes, EndsBy, Heading, History, Incoming, IsLawfulReport, IsPassed, Launched, LogsAreSaid, None, PlainReport, SliceOutcome, Some, Step, Went, WentOn, WrittenJoins, [], all_runs, ap, append-nil, arith, at, cases_lt, cons_option, end_in, faults, filter_map, flat_map, flat_map-append, go, goes_back, if◌then◌else◌, inl, inr, is_due, lacks_memory, launched, logs_told, range_with_len, refl, run_end, run_texts, runs, subst, sym, takes_all, text_of_log, unwrap_or, ℕ, ◌++◌, ◌+◌, ◌-◌, ◌<◌, ◌∙◌, ◌∷◌, ◌≡◌, ◌≤◌, ◌⊎◌, back_if}
+use Rattle.dap_history.proofs.Common.{Accepted, Accepts, Block, Breakpoint, Causes, EndsBy, Heading, History, Incoming, IsLawfulReport, Launched, LogsAreSaid, None, PlainReport, SliceOutcome, Some, Step, Went, WentOn, WrittenJoins, [], all_runs, ap, append-nil, arith, at, cases_lt, end_in, faults, filter_map, flat_map, flat_map-append, go, goes_back, if◌then◌else◌, is_due, lacks_memory, launched, logs_told, range_with_len, refl, run_end, run_texts, runs, subst, sym, takes_all, text_of_log, ℕ, ◌++◌, ◌+◌, ◌-◌, ◌<◌, ◌∙◌, ◌∷◌, ◌≡◌, back_if, inl, inr, unwrap_or, ◌⊎◌}
 use Rattle.std.proofs.Common.{List, Bool, true, false, append_assoc}
 use Rattle.std.specs.Prelude.{map, ◌&&◌}
 use Rattle.std.specs.List.{enumerate_from}
 use Rattle.dbg_plan.specs.Due.{is_hit, arrives_in, accepts, arrivals}
-use Rattle.dbg_plan.specs.Logs.{log_in, log_at, logs as position_logs}
+use Rattle.dbg_plan.specs.Logs.{log_at, logs as position_logs}
 use Rattle.dbg_runner.specs.declared.outcome.SliceOutcome.TheVariants as slice
 use Rattle.dbg_runner.specs.Lawful.{is_over, is_held, logs_in}
 use Rattle.dap_history.specs.Considered.{texts_at}
@@ -16,6 +16,7 @@ use Rattle.dap_history.proofs.Progress.{report_program}
 use Rattle.dap_history.proofs.Passing.{Ran, starts_here, begun_there}
 use Rattle.dap_history.proofs.Runs.{AreNumbered, AreBelow, before_last, ranges_join, none_between}
 use Rattle.dap_history.proofs.Counted.{all_runs-snoc, run_end-snoc, next_runs, Counted, last_of_all, accepted_number, if_other, if_same, new_run_end}
+use Rattle.std.proofs.lemmas.Grind.{common_steps}
 
 -- ---- a program that is over logs nothing
 
@@ -25,10 +26,7 @@ over_unhit main t m b over = ap (λ c. arrives_in main b c && accepts b.rule (ar
 over_unlogged : (main : Block) (bs : List Breakpoint) (t m k : ℕ) → at main m ≡ Some []
     → filter_map (log_at main t m) (enumerate_from k bs) ≡ []
 over_unlogged main [] t m k over = refl
-over_unlogged main (b ∷ bs) t m k over =
-    ap (λ h. cons_option (if h then log_in main (at main m) k b.message else None)
-    (filter_map (log_at main t m) (enumerate_from (k + 1) bs))) (over_unhit main t m b over)
-    ∙ over_unlogged main bs t m (k + 1) over
+over_unlogged main (b ∷ bs) t m k over = cc (over_unhit main t m b over, over_unlogged main bs t m (k + 1) over)
 
 -- ---- what positions log that a report goes over
 
@@ -45,15 +43,11 @@ module _ (main : Block) (r : PlainReport) where
       let n : ℕ = r.end - r.start - 1 in
       let count : r.end - r.start ≡ n + 1 = omega (arith, moved) in
       let last : r.start + 1 + n ≡ r.end = omega (arith, moved) in
-      ap (λ k. flat_map texts_in_run (range_with_len (r.start + 1) k)) count
-      ∙ ap (flat_map texts_in_run) (ranges_join (r.start + 1) n 1)
-      ∙ flat_map-append texts_in_run (range_with_len (r.start + 1) n) (range_with_len (r.start + 1 + n) 1)
-      ∙ ap (λ l. l ++ flat_map texts_in_run (range_with_len (r.start + 1 + n) 1))
-      (none_between texts_in_run (r.start + 1) n
-      (λ m above below. ap (map (text_of_log r.plan))
-      (went.passed m (omega (arith, above)) (omega (arith, below, last))).silent))
-      ∙ append-nil (texts_in_run (r.start + 1 + n))
-      ∙ ap texts_in_run last
+      ap (λ k. flat_map texts_in_run (range_with_len (r.start + 1) k)) count ∙ ap (flat_map texts_in_run) (ranges_join
+      (r.start + 1) n 1) ∙ flat_map-append texts_in_run (range_with_len (r.start + 1) n) (range_with_len (r.start + 1 +
+      n) 1) ∙ ap (λ l. l ++ flat_map texts_in_run (range_with_len (r.start + 1 + n) 1)) (none_between texts_in_run
+      (r.start + 1) n (λ m above below. ap (map (text_of_log r.plan)) (went.passed m (omega (arith, above))
+      (omega (arith, below, last))).silent)) ∙ append-nil _ ∙ ap texts_in_run last
 
   nothing_after : r.end ≡ r.start → after_start ≡ []
   nothing_after stays =
@@ -71,19 +65,8 @@ module _ (main : Block) (r : PlainReport) where
   by_outcome went slice.Held (is_held stays runs) = nothing_after stays
   by_outcome went slice.Done (is_over moved over) =
       last_alone went moved ∙ ap (map (text_of_log r.plan)) (over_unlogged main r.plan r.counted_from r.end 0 over)
-  by_outcome went (slice.Fault fault) (faults early passed fails runs) = by_end passed (over_start went.begun)
-    where
-      over_start : r.start ≤ r.end → (r.end ≡ r.start) ⊎ (r.start < r.end)
-      over_start begun = by_order (cases_lt r.start r.end)
-        where
-          by_order : (r.start < r.end) ⊎ (r.end ≤ r.start) → (r.end ≡ r.start) ⊎ (r.start < r.end)
-          by_order (inl less) = inr less
-          by_order (inr no_more) = inl (omega (arith, begun, no_more))
-
-      by_end : (r.end ≡ r.start) ⊎ IsPassed main r r.end → (r.end ≡ r.start) ⊎ (r.start < r.end) → after_start ≡ []
-      by_end (inl stays) moved = nothing_after stays
-      by_end (inr is) (inl stays) = nothing_after stays
-      by_end (inr is) (inr moved) = last_alone went moved ∙ ap (map (text_of_log r.plan)) is.silent
+  by_outcome went (slice.Fault fault) (faults early passed fails runs) =
+      grind (arith, common_steps, cases_lt, nothing_after, last_alone, map) steps 200000
   by_outcome went slice.NoMemory (lacks_memory stays runs) = nothing_after stays
 
   -- The positions that a report goes over log what it tells.
@@ -100,18 +83,13 @@ SameEnds past step (run ∷ rs) = (run_end (past ++ step ∷ []) run ≡ run_end
 pub same_texts : (l : Launched) (past : History) (step : Step) (rs : List Heading) → SameEnds past step rs
     → flat_map (run_texts l (past ++ step ∷ [])) rs ≡ flat_map (run_texts l past) rs
 same_texts l past step [] same = refl
-same_texts l past step (run ∷ rs) same =
-    ap (λ n. flat_map (texts_at l run.plan run.counted_from)
-    (if goes_back run.mode then [] else range_with_len (run.start + 1) (n - run.start))
-    ++ flat_map (run_texts l (past ++ step ∷ [])) rs) same.0
-    ∙ ap (λ ts. run_texts l past run ++ ts) (same_texts l past step rs same.1)
+same_texts l past step (run ∷ rs) same = cc (same.0, same_texts l past step rs same.1)
 
 -- a step that reports of no run
 pub aside_same : (past : History) (step : Step) → ((n : ℕ) → end_in n step.item ≡ None) → (rs : List Heading)
     → SameEnds past step rs
 aside_same past step none [] = tt
-aside_same past step none (run ∷ rs) =
-    (run_end-snoc past step run ∙ ap (λ o. unwrap_or o (run_end past run)) (none run.run), aside_same past step none rs)
+aside_same past step none (run ∷ rs) = (cc (run_end-snoc past step run, none run.run), aside_same past step none rs)
 
 -- a report of a later run
 later_same : (past : History) (step : Step) (r : PlainReport) → step.item ≡ Accepted r → (rs : List Heading)
@@ -183,11 +161,7 @@ module _ (one : OneProgram) (joins : WrittenJoins) (said : LogsAreSaid) where
     stood = counted.stands run accepts.run_is ∙ sym (starts_here one joins past r accepts lawful ran l is)
 
     comes : run_end (past ++ step ∷ []) run ≡ r.end
-    comes =
-        run_end-snoc past step run
-        ∙ ap (λ i. unwrap_or (end_in run.run i) (run_end past run)) item_is
-        ∙ ap (λ o. unwrap_or o (run_end past run))
-        (if_same r.run run.run (Some r.end) (ap (λ (h : Heading). h.run) accepts.expected))
+    comes = cc (run_end-snoc past step run, if_same r.run run.run _ (ap (λ (h : Heading). h.run) accepts.expected))
 
     abbrev up_to : ℕ → List (List ℕ)
     up_to n = flat_map texts (range_with_len (run.start + 1) (n - run.start))
@@ -229,16 +203,6 @@ module _ (one : OneProgram) (joins : WrittenJoins) (said : LogsAreSaid) where
         let number = accepted_number past r counted accepts in
         let below = before_last 1 last.front run (subst (AreNumbered 1) last.runs_are counted.numbered) in
         let same_number : run.run ≡ r.run = last.number_is ∙ sym number in
-        let before =
-        same_texts l past step last.front
-        (later_same past step r item_is last.front (subst (λ n. AreBelow n last.front) same_number below)) in
-        ap (flat_map (run_texts l (past ++ step ∷ []))) last.runs_are
-        ∙ flat_map-append (run_texts l (past ++ step ∷ [])) last.front (run ∷ [])
-        ∙ ap (λ ts. ts ++ (run_texts l (past ++ step ∷ []) run ++ [])) before
-        ∙ ap (λ ts. flat_map (run_texts l past) last.front ++ (ts ++ [])) run_more
-        ∙ simp (append-nil, append_assoc) refl
-        ∙ ap (λ ts. ts ++ told_texts r)
-        (sym
-        (ap (flat_map (run_texts l past)) last.runs_are
-        ∙ flat_map-append (run_texts l past) last.front (run ∷ [])
-        ∙ ap (λ ts. flat_map (run_texts l past) last.front ++ ts) (append-nil (run_texts l past run))))
+        let before = same_texts l past step last.front (later_same past step r item_is last.front (subst (λ n. AreBelow
+        n last.front) same_number below)) in
+        grind (arith, common_steps, flat_map, flat_map-append, run_more, append-nil, append_assoc) steps 200000

@@ -1,27 +1,26 @@
 -- The logs reported are those of the positions considered, step by step.
-use Rattle.dap_history.proofs.Common.{Accepted, Causes, Content, Effect, Event, EventBody, Fault, HasEffect, Heading, History, InputEnd, Item, Launch, Launched, Launches, Loaded, LogsAreSaid, MemoryFailure, None, Option, PlainOrder, PlainReport, ReadFailure, Ready, Reply, Some, Step, WrittenJoins, [], all_runs, ap, append-nil, before_start, end_in, filter_map-append, flat_map, go, inl, inr, last_run, launched, log_of, log_texts, messages, messages_of, or_else, orders_of, plan, refl, run_texts, situation, starts_by, subst, sym, ℕ, ◌++◌, ◌∙◌, ◌∷◌, ◌≡◌, ◌⊎◌}
+use Rattle.dap_history.proofs.Common.{Accepted, Causes, Content, Effect, EventBody, Fault, HasEffect, Heading, History, InputEnd, Item, Launch, Launched, Launches, Loaded, LogsAreSaid, MemoryFailure, None, Option, PlainOrder, PlainReport, ReadFailure, Ready, Reply, Some, Step, WrittenJoins, [], all_runs, ap, append-nil, before_start, end_in, filter_map-append, flat_map, go, inl, inr, last_run, launched, log_of, log_texts, messages, messages_of, or_else, orders_of, refl, run_texts, situation, starts_by, subst, sym, ℕ, ◌++◌, ◌∙◌, ◌∷◌, ◌≡◌, ◌⊎◌}
 use Rattle.std.proofs.Common.{List, Bool, true, false, append_assoc}
-use Rattle.dap_msg.specs.declared.outgoing.EventBody.TheVariants as event
-use Rattle.dbg_plan.specs.Logs.{logs as position_logs}
 use Rattle.dap_history.specs.Considered.{first_texts, logged}
 use Rattle.dap_history.specs.Laws.{LogsAreOfPositions, StopsFollowLogs}
 use Rattle.dap_history.proofs.Readings.{messages_of-snoc, launched-snoc}
 use Rattle.dap_history.proofs.Along.{IsTaken, IsKept, IsLawfulEvent, lawful_events, along}
-use Rattle.dap_history.proofs.Each.{EachTaken, each_kept, each_first}
-use Rattle.dap_history.proofs.Early.{IsEarly}
+use Rattle.dap_history.proofs.Each.{each_kept, each_first}
 use Rattle.dap_history.proofs.Told.{texts_in, texts_of_logs}
 use Rattle.dap_history.proofs.Silent.{LogsBy, no_logs, logs_first, all_silent}
 use Rattle.dap_history.proofs.Outputs.{answer_unlogged, no_answer_unlogged, told_texts, report_texts, report_launches}
 use Rattle.dap_history.proofs.Went.{nothing_told}
 use Rattle.dap_history.proofs.Texts.{OneProgram}
 use Rattle.dap_history.proofs.Progress.{Progress}
-use Rattle.dap_history.proofs.Passing.{IsConfiguring, none_left, Ran}
+use Rattle.dap_history.proofs.Passing.{none_left, Ran}
 use Rattle.dap_history.proofs.Stopping.{ran_first, ran_more}
 use Rattle.dap_history.proofs.StopOrder.{IsStop, logs_after_stops, all_so_far}
-use Rattle.dap_history.proofs.Started.{IsYoung, here_if, before_start-snoc, StartsBy, starts_not, starts_here, whether_starts, Unstarted, unstarted_more}
+use Rattle.dap_history.proofs.Started.{here_if, before_start-snoc, StartsBy, starts_not, starts_here, whether_starts, Unstarted, unstarted_more}
 use Rattle.dap_history.proofs.Runs.{none_such}
 use Rattle.dap_history.proofs.Counted.{Counted, counted_more, counted_first}
 use Rattle.dap_history.proofs.Logged.{same_texts, aside_same, runs_texts, report_texts_more}
+use Rattle.std.proofs.Common.{arith}
+use Rattle.std.proofs.lemmas.Grind.{common_steps}
 
 -- ---- what a step logs
 
@@ -41,20 +40,11 @@ by_logs said past events false l is (no_logs none) = none
 by_logs said past events true None is (logs_first k more configuring there events_are none) =
     absurd (let e = sym is ∙ there in cc)
 by_logs said past events true (Some l) is (logs_first k more configuring there events_are none) =
-    let same : k ≡ l = let e = sym there ∙ is in cc in
-    ap texts_in events_are
-    ∙ texts_of_logs (plan past).breakpoints (position_logs k.program (plan past).breakpoints (plan past).counted_from 0)
-    more
-    ∙ ap (λ ts. ts ++ texts_in more) (said k.program (plan past).breakpoints (plan past).counted_from 0)
-    ∙ ap (λ ts. first_texts k (Some past) ++ ts) none
-    ∙ append-nil (first_texts k (Some past))
-    ∙ ap (λ l. first_texts l (Some past)) same
+    grind (arith, common_steps, texts_of_logs, append-nil) steps 1500000
 
 unlogged : (past : History) (step : Step) (effect : Effect) (l : Option Launched) → HasEffect effect step
     → texts_in effect.events ≡ [] → log_texts (messages step) ≡ start_texts (starts_by step.answer) l past
-unlogged past step effect l has none =
-    no_answer_unlogged step has.answer_is ∙ ap (λ (e : Effect). texts_in e.events) has.effect_is ∙ none
-    ∙ ap (λ a. start_texts (starts_by a) l past) (sym has.answer_is)
+unlogged past step effect l has none = grind (arith, common_steps, no_answer_unlogged) steps 1500000
 
 launch_texts : (launch : Launch) (file : Option (List ℕ)) (reply : Reply) → Launches launch.arguments file reply
     → texts_in reply.effect.events ≡ []
@@ -73,23 +63,11 @@ step_texts : LogsAreSaid → (past : History) (item : Item) (step : Step) (l : O
     → log_texts (messages step) ≡ start_texts (starts_by step.answer) l past ++ item_texts item
 step_texts said past (Content None) step l is taken causes = unlogged past step _ l causes refl ∙ sym (append-nil _)
 step_texts said past (Content (Some request)) step l is taken causes =
-    answer_unlogged _ _ _ step causes.2.answer_is
-    ∙ ap (λ (e : Effect). texts_in e.events) causes.2.effect_is
-    ∙ by_logs said past causes.0.effect.events _ l is
-    (all_silent (situation past) past request.body causes.0 causes.1).logs
-    ∙ ap (λ a. start_texts (starts_by a) l past) (sym causes.2.answer_is)
-    ∙ sym (append-nil _)
+    grind (arith, common_steps, answer_unlogged, by_logs, all_silent, append-nil) steps 1500000
 step_texts said past (Loaded launch file) step l is ready causes =
-    answer_unlogged _ _ _ step causes.2.answer_is
-    ∙ ap (λ (e : Effect). texts_in e.events) causes.2.effect_is
-    ∙ launch_texts launch file causes.0 causes.1
-    ∙ sym (no_start (starts_by step.answer) l past step (whether_starts past (Loaded launch file) step causes) ready)
-    ∙ sym (append-nil _)
+    grind (arith, common_steps, answer_unlogged, launch_texts, no_start, whether_starts, append-nil) steps 1500000
 step_texts said past (Accepted r) step l is taken causes =
-    no_answer_unlogged step causes.answer_is
-    ∙ ap (λ (e : Effect). texts_in e.events) causes.effect_is
-    ∙ report_texts past r r.outcome (nothing_told taken.1.program r taken.1.lawful)
-    ∙ ap (λ a. start_texts (starts_by a) l past ++ told_texts r) (sym causes.answer_is)
+    grind (arith, common_steps, no_answer_unlogged, report_texts, nothing_told) steps 1500000
 step_texts said past (Fault k) step l is taken causes = unlogged past step _ l causes refl ∙ sym (append-nil _)
 step_texts said past InputEnd step l is taken causes = unlogged past step _ l causes refl ∙ sym (append-nil _)
 step_texts said past ReadFailure step l is taken causes = unlogged past step _ l causes refl ∙ sym (append-nil _)
@@ -101,12 +79,9 @@ launches_once : (past : History) (item : Item) (step : Step) (l : Launched) → 
     → IsTaken IsLawfulEvent past item → Causes past item step → step.effect.launched ≡ None
 launches_once past (Content None) step l so_far is taken causes = ap (λ (e : Effect). e.launched) causes.effect_is
 launches_once past (Content (Some request)) step l so_far is taken causes =
-    ap (λ (e : Effect). e.launched) causes.2.effect_is ∙ (all_silent (situation past) past request.body causes.0
-    causes.1).no_launch
-launches_once past (Loaded launch file) step l so_far is ready causes =
-    absurd (let e = sym (so_far.early (subst IsEarly (sym ready) tt)) ∙ is in cc)
-launches_once past (Accepted r) step l so_far is taken causes =
-    ap (λ (e : Effect). e.launched) causes.effect_is ∙ report_launches past r r.outcome
+    grind (arith, common_steps, all_silent) steps 1500000
+launches_once past (Loaded launch file) step l so_far is ready causes = grind (arith, common_steps) steps 1500000
+launches_once past (Accepted r) step l so_far is taken causes = cc (causes.effect_is, report_launches past r r.outcome)
 launches_once past (Fault k) step l so_far is taken causes = ap (λ (e : Effect). e.launched) causes.effect_is
 launches_once past InputEnd step l so_far is taken causes = ap (λ (e : Effect). e.launched) causes.effect_is
 launches_once past ReadFailure step l so_far is taken causes = ap (λ (e : Effect). e.launched) causes.effect_is
@@ -122,8 +97,7 @@ reports_or_not _ = inr ((λ n. refl), refl)
 
 logs-snoc : (past : History) (step : Step) → log_texts (messages_of (past ++ step ∷ [])) ≡ log_texts (messages_of past)
     ++ log_texts (messages step)
-logs-snoc past step = ap log_texts (messages_of-snoc past step) ∙ filter_map-append log_of (messages_of past)
-    (messages step)
+logs-snoc past step = grind (arith, common_steps, messages_of-snoc, filter_map-append) steps 1500000
 
 abbrev ToldOf : History → Option Launched → Type 0
 ToldOf past None = log_texts (messages_of past) ≡ []
@@ -172,21 +146,24 @@ module _ (one : OneProgram) (joins : WrittenJoins) (said : LogsAreSaid) where
     none_told : launched past ≡ None → log_texts (messages_of new) ≡ []
     none_told is =
         let progress = so_far.ran.so_far.progress None is in
-        logs-snoc past step
-        ∙ ap (λ ts. ts ++ log_texts (messages step)) (so_far.told None is)
-        ∙ step_texts said past step.item step None is taken causes
-        ∙ ap (λ ts. ts ++ item_texts step.item) (none_texts (starts_by step.answer))
-        ∙ item_none step.item taken progress.1
+        cc (
+          logs-snoc past step,
+          so_far.told None is,
+          step_texts said past step.item step None is taken causes,
+          none_texts (starts_by step.answer),
+          item_none step.item taken progress.1,
+        )
 
     -- what is logged where the program was just launched
     first_told : (l : Launched) → launched past ≡ None → log_texts (messages_of new) ≡ logged l new
     first_told l is =
         let progress = so_far.ran.so_far.progress None is in
-        none_told is
-        ∙ sym
-        (ap (λ o. first_texts l o ++ flat_map (run_texts l new) (all_runs new)) (unlaunched_more is)
-        ∙ runs_texts IsLawfulEvent past step taken causes so_far.counted l
-        ∙ ap (flat_map (run_texts l new)) (no_runs_yet past progress.1))
+        cc (
+          none_told is,
+          unlaunched_more is,
+          runs_texts IsLawfulEvent past step taken causes so_far.counted l,
+          no_runs_yet past progress.1,
+        )
 
     module _ (l : Launched) (is : launched past ≡ Some l) where
       abbrev runs_before : List (List ℕ)
@@ -198,41 +175,34 @@ module _ (one : OneProgram) (joins : WrittenJoins) (said : LogsAreSaid) where
       -- what position 0 logs
       first_more : (b : Bool) → StartsBy past step b → first_texts l
           (or_else (before_start past) (here_if b past)) ≡ first_before ++ start_texts b (Some l) past
-      first_more false starts_not = ap (first_texts l) (or_none (before_start past)) ∙ sym (append-nil first_before)
-        where
-          or_none : (o : Option History) → or_else o None ≡ o
-          or_none None = refl
-          or_none (Some x) = refl
-      first_more true (starts_here k configuring there effect_is leads) =
-          let none = so_far.unstarted (subst IsYoung (sym configuring) tt) in
-          ap (λ o. first_texts l (or_else o (Some past))) none
-          ∙ ap (λ o. first_texts l o ++ first_texts l (Some past)) (sym none)
+      first_more false starts_not = grind (arith, common_steps, append-nil) steps 1500000
+      first_more true (starts_here k configuring there effect_is leads) = grind (arith, common_steps) steps 1500000
 
       -- and the runs
       runs_more : Reports step.item → flat_map (run_texts l new) (all_runs new) ≡ runs_before ++ item_texts step.item
       runs_more (inl report) =
           let taken_report = subst (IsTaken IsLawfulEvent past) report.1 taken in
-          runs_texts IsLawfulEvent past step taken causes so_far.counted l
-          ∙ report_texts_more one joins said past step report.0 report.1 taken_report.0 taken_report.1 so_far.ran
-          so_far.counted l is
-          ∙ ap (λ i. runs_before ++ item_texts i) (sym report.1)
+          cc (
+            runs_texts IsLawfulEvent past step taken causes so_far.counted l,
+            report_texts_more one joins said past
+                step report.0 report.1 taken_report.0 taken_report.1 so_far.ran so_far.counted l is,
+            report.1,
+          )
       runs_more (inr aside) =
-          runs_texts IsLawfulEvent past step taken causes so_far.counted l
-          ∙ same_texts l past step (all_runs past) (aside_same past step aside.0 (all_runs past))
-          ∙ sym (append-nil runs_before)
-          ∙ ap (λ ts. runs_before ++ ts) (sym aside.1)
+          cc (
+            runs_texts IsLawfulEvent past step taken causes so_far.counted l,
+            same_texts l past step (all_runs past)
+                (aside_same past step aside.0 (all_runs past)),
+            append-nil runs_before,
+            aside.1,
+          )
 
       -- where position 0 logs, no run was ordered
       apart : (b : Bool) → StartsBy past step b → runs_before
           ++ start_texts b (Some l) past ≡ start_texts b (Some l) past ++ runs_before
       apart false starts_not = append-nil runs_before
       apart true (starts_here k configuring there effect_is leads) =
-          let none =
-          ap (flat_map (run_texts l past))
-          (no_runs_yet past (so_far.ran.configuring (subst IsConfiguring (sym configuring) tt)).0) in
-          ap (λ ts. ts ++ first_texts l (Some past)) none
-          ∙ sym (append-nil (first_texts l (Some past)))
-          ∙ ap (λ ts. first_texts l (Some past) ++ ts) (sym none)
+          grind (arith, common_steps, flat_map, no_runs_yet, append-nil) steps 1500000
 
       told_on : log_texts (messages_of new) ≡ logged l new
       told_on =
@@ -257,9 +227,7 @@ module _ (one : OneProgram) (joins : WrittenJoins) (said : LogsAreSaid) where
         → ToldOf new l
     told_more None is None there = none_told is
     told_more None is (Some l) there = first_told l is
-    told_more (Some k) is None there =
-        absurd (let e = sym there ∙ launched-snoc past step ∙ ap (λ o. or_else o (launched past))
-        (launches_once past step.item step k so_far.ran.so_far is taken causes) ∙ is in cc)
+    told_more (Some k) is None there = grind (arith, common_steps, launched-snoc, launches_once) steps 1500000
     told_more (Some k) is (Some l) there =
         let same : k ≡ l =
         let e = sym is ∙ sym (ap (λ o. or_else o (launched past))
@@ -268,15 +236,17 @@ module _ (one : OneProgram) (joins : WrittenJoins) (said : LogsAreSaid) where
         told_on l (is ∙ ap Some same)
 
     pub logging_more : Logging new
-    logging_more = record {
-      ran = ran_more one joins past step taken causes so_far.ran;
-      counted = counted_more IsLawfulEvent past step taken causes so_far.counted;
-      unstarted = unstarted_more IsLawfulEvent past step taken causes so_far.unstarted;
-      unlaunched =
-          λ none. unlaunched_more (none_left step.effect.launched (launched past)
-          (sym (launched-snoc past step) ∙ none)).1;
-      told = λ l there. told_more (launched past) refl l there;
-    }
+    logging_more =
+        record {
+          ran = ran_more one joins past step taken causes so_far.ran;
+          counted = counted_more IsLawfulEvent past
+              step taken causes so_far.counted;
+          unstarted = unstarted_more IsLawfulEvent past step taken causes
+              so_far.unstarted;
+          unlaunched = λ none. unlaunched_more (none_left step.effect.launched _ (sym (launched-snoc
+              past step) ∙ none)).1;
+          told = λ l there. told_more (launched past) refl l there;
+        }
 
   logging_kept : IsKept IsLawfulEvent Logging
   logging_kept = record {
@@ -287,18 +257,7 @@ module _ (one : OneProgram) (joins : WrittenJoins) (said : LogsAreSaid) where
   }
 
   logging_first : Logging []
-  logging_first =
-      record {
-        ran = ran_first one joins;
-        counted = counted_first;
-        unstarted = λ young. refl;
-        unlaunched = λ none. refl;
-        told = first;
-      }
-    where
-      first : (l : Option Launched) → launched [] ≡ l → ToldOf [] l
-      first None is = refl
-      first (Some l) is = absurd cc
+  logging_first = grind (arith, common_steps, ran_first, counted_first) steps 1500000
 
   pub logs_of_positions : LogsAreOfPositions
   logs_of_positions f events past rest lawful history =
@@ -309,10 +268,8 @@ module _ (one : OneProgram) (joins : WrittenJoins) (said : LogsAreSaid) where
 
   pub stops_follow_logs : StopsFollowLogs
   stops_follow_logs f events past rest lawful history front step more past_is l is before reason after split =
-      let all =
-      along IsLawfulEvent (EachTaken IsLawfulEvent Logging) (each_kept IsLawfulEvent Logging logging_kept)
-      (each_first IsLawfulEvent Logging logging_first) f events past rest (lawful_events events lawful) history in
+      let all = along IsLawfulEvent _ (each_kept IsLawfulEvent Logging logging_kept) (each_first IsLawfulEvent Logging
+      logging_first) f events past rest (lawful_events events lawful) history in
       let was = all.each front step more past_is in
-      all_so_far (List ℕ) IsStop log_of front step before (Event (event.Stopped reason)) after tt refl
-      (logs_after_stops front step was.taken was.causes) split
-      ∙ (logging_more front step was.taken was.causes was.held).told (Some l) is
+      all_so_far _ IsStop log_of front step before _ after tt refl (logs_after_stops front step was.taken was.causes)
+      split ∙ (logging_more front step was.taken was.causes was.held).told (Some l) is

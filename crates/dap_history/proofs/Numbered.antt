@@ -1,5 +1,5 @@
 -- The message numbered n is the nth.
-use Rattle.dap_history.proofs.Common.{Accepted, AreReadAs, Content, ContentsAreOfTheStream, FirstSeq, FramesAreFew, History, IsRequestFrom, Item, Loaded, None, Option, Outgoing, Request, Some, Step, [], ap, arith, filter_map, launch_request, messages_of, read_as, refl, slice_get, suc, sym, waiting, zero, ℕ, ◌++◌, ◌+◌, ◌<◌, ◌^◌, ◌∙◌, ◌∷◌, ◌≡◌}
+use Rattle.dap_history.proofs.Common.{Accepted, AreReadAs, Content, ContentsAreOfTheStream, FirstSeq, FramesAreFew, History, IsRequestFrom, Item, Loaded, None, Option, Outgoing, Request, Some, Step, [], ap, arith, filter_map, messages_of, read_as, refl, slice_get, suc, waiting, zero, ℕ, ◌++◌, ◌+◌, ◌<◌, ◌^◌, ◌∙◌, ◌∷◌, ◌≡◌, sym}
 use Rattle.std.proofs.Common.{List, map}
 use Rattle.std.specs.Prelude.{option_map}
 use Rattle.dap_frame.specs.Frame.{frame_of}
@@ -40,8 +40,7 @@ item_small echo f (Content None) others waits (c ∷ cs) are = (tt, (cs, are.1))
 item_small echo f (Content (Some request)) others waits [] are = absurd are
 item_small echo f (Content (Some request)) others waits (c ∷ cs) are = (seq_small echo f c request are.0, (cs, are.1))
 item_small echo f (Loaded launch file) others waits [] are = absurd are
-item_small echo f (Loaded launch file) others waits (c ∷ cs) are =
-    (seq_small echo f c (launch_request launch) are.0, (cs, are.1))
+item_small echo f (Loaded launch file) others waits (c ∷ cs) are = (seq_small echo f c _ are.0, (cs, are.1))
 item_small echo f (Accepted r) others waits contents are = (tt, (contents, are))
 item_small echo f _ others waits contents are = (tt, (contents, are))
 
@@ -55,12 +54,6 @@ items_small echo f (step ∷ past) waits contents are =
 pub frames_read_back : ContentsAreOfTheStream → RequestsEcho → MessagesAreReadBack → FramesAreFew → FramesAreReadBack
 frames_read_back contents echo back few f events past rest history n message is small =
     let stream = contents f events past rest history in
-    let fits =
-    message_fits (messages_of past) n message
-    (history_fits few f events past rest history (items_small echo f past
-    (waiting rest.launch) stream.0 stream.2)) is
-    in (
-      text_of message (n + 1),
-      numbers_count (messages_of past) n ∙ ap (option_map (λ m. frame_of (text_of m (n + 1)))) is,
-      back message (n + 1) fits small,
-    )
+    let fits = message_fits (messages_of past) n message (history_fits few f events past rest history (items_small echo
+    f past (waiting rest.launch) stream.0 stream.2)) is in
+    (text_of message (n + 1), cc (numbers_count (messages_of past) n), back message (n + 1) fits small)

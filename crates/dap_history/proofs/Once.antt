@@ -1,5 +1,5 @@
 -- A step orders at most one run and reports at most one stop, so what is so of the last is so of each.
-use Rattle.dap_history.proofs.Common.{Accepted, Breakpoint, Causes, Command, Content, Effect, EventBody, Fresh, Heading, History, Item, Launch, Launched, Launches, Loaded, Log, None, Option, Orders, PlainReport, Reaction, Reason, Reply, Situation, SliceOutcome, Some, Step, StopReason, [], ap, append-nil, cons_option, due_first, effect_in, enters, exception_of, exited_events, filter_map, filter_map-append, first_logs, go, held_effect, inl, inr, last_such, log_events, or_else, outputs, plan, refl, reply_of, report_effect, run_in, situation, stop_in, stop_of, stop_of_event, stopped_events, subst, sym, waiting_pause, ℕ, ◌++◌, ◌∙◌, ◌∷◌, ◌≡◌}
+use Rattle.dap_history.proofs.Common.{Accepted, Breakpoint, Causes, Command, Content, Effect, EventBody, Fresh, Heading, History, Item, Launch, Launched, Launches, Loaded, Log, None, Option, Orders, PlainReport, Reaction, Reason, Reply, Situation, SliceOutcome, Some, Step, StopReason, [], ap, append-nil, cons_option, due_first, effect_in, enters, exited_events, filter_map, filter_map-append, first_logs, go, held_effect, inl, inr, last_such, log_events, or_else, outputs, plan, refl, reply_of, report_effect, run_in, situation, stop_in, stop_of, stop_of_event, stopped_events, subst, sym, waiting_pause, ℕ, ◌++◌, ◌∙◌, ◌∷◌, ◌≡◌}
 use Rattle.std.proofs.Common.{List, true, false, Bool}
 use Rattle.std.specs.Prelude.{map, ℤ}
 use Rattle.dap_msg.specs.declared.outgoing.EventBody.TheVariants as event
@@ -83,34 +83,28 @@ stops_of_logs bs (l ∷ ls) es = stops_of_logs bs ls es
 
 outputs_stops : (past : History) (r : PlainReport) (es : List EventBody) → stops_in (outputs past r ++ es) ≡ stops_in es
 outputs_stops past r es =
-    ap stops_in (outputs_apart past r es) ∙ stops_of_numbers (told_numbers past r) (log_events r.plan r.logs ++ es)
-    ∙ stops_of_logs r.plan r.logs es
+    ap stops_in (outputs_apart past r es) ∙ stops_of_numbers (told_numbers past r) _ ∙ stops_of_logs r.plan r.logs es
 
 abbrev StopsOnce : Effect → Type 0
 StopsOnce effect = AtMostOne (stops_in effect.events)
 
 report_stops_once : (past : History) (r : PlainReport) (e : SliceOutcome) → StopsOnce (report_effect past r e)
-report_stops_once past r slice.More =
-    subst AtMostOne (sym (ap stops_in (sym (append-nil (outputs past r))) ∙ outputs_stops past r [])) tt
-report_stops_once past r (slice.Due reason) = subst AtMostOne
-    (sym (outputs_stops past r (stopped_events (stop_of reason)))) tt
+report_stops_once past r slice.More = rw (ap stops_in (sym (append-nil (outputs past r))) ∙ outputs_stops past r []) tt
+report_stops_once past r (slice.Due reason) = rw (outputs_stops past r (stopped_events (stop_of reason))) tt
 report_stops_once past r slice.Held = by_pause (waiting_pause past)
   where
     by_pause : (pauses : Bool) → StopsOnce (held_effect past r pauses)
     by_pause true = subst AtMostOne (sym (outputs_stops past r (stopped_events stop.Pause))) tt
-    by_pause false =
-        subst AtMostOne (sym (ap stops_in (sym (append-nil (outputs past r))) ∙ outputs_stops past r [])) tt
+    by_pause false = rw (ap stops_in (sym (append-nil (outputs past r))) ∙ outputs_stops past r []) tt
 report_stops_once past r slice.Done = subst AtMostOne (sym (outputs_stops past r (exited_events 0))) tt
-report_stops_once past r (slice.Fault fault) =
-    subst AtMostOne (sym (outputs_stops past r (stopped_events (stop.Exception (exception_of fault))))) tt
+report_stops_once past r (slice.Fault fault) = subst AtMostOne (sym (outputs_stops past r _)) tt
 report_stops_once past r slice.NoMemory = tt
 
 enters_stop_once : (past : History) (l : Launched) (why : Option Reason) → StopsOnce (enters past l why)
 enters_stop_once past l None =
     subst AtMostOne (sym (ap stops_in (sym (append-nil (first_logs past l)))
     ∙ stops_of_logs (plan past).breakpoints (first_at past l) [])) tt
-enters_stop_once past l (Some r) =
-    subst AtMostOne (sym (stops_of_logs (plan past).breakpoints (first_at past l) (stopped_events (stop_of r)))) tt
+enters_stop_once past l (Some r) = subst AtMostOne (sym (stops_of_logs (plan past).breakpoints (first_at past l) _)) tt
 
 pub quiet_in : (s : Situation) (past : History) (bs : List Breakpoint) → (effect_in s past bs).events ≡ []
 quiet_in Fresh past bs = refl
@@ -137,10 +131,8 @@ launch_stops_once launch (Some text) reply (inr is) =
 step_stops_once : (past : History) (item : Item) (step : Step) → Causes past item step → StopsOnce step.effect
 step_stops_once past (Content None) step is = subst StopsOnce (sym is.effect_is) tt
 step_stops_once past (Content (Some request)) step is =
-    subst StopsOnce (sym is.2.effect_is)
-    (by_reaction (λ (r : Reply). StopsOnce r.effect) (λ reaction. reaction_stops_once past) is.1)
-step_stops_once past (Loaded launch file) step is =
-    subst StopsOnce (sym is.2.effect_is) (launch_stops_once launch file is.0 is.1)
+    rw is.2.effect_is (by_reaction (λ (r : Reply). StopsOnce r.effect) (λ reaction. reaction_stops_once past) is.1)
+step_stops_once past (Loaded launch file) step is = rw is.2.effect_is (launch_stops_once launch file is.0 is.1)
 step_stops_once past (Accepted r) step is = subst StopsOnce (sym is.effect_is) (report_stops_once past r r.outcome)
 step_stops_once past _ step is = subst StopsOnce (sym is.effect_is) tt
 

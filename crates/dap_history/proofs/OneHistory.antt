@@ -1,10 +1,12 @@
 -- A list of events has one history, where an item has one effect.
-use Rattle.dap_history.proofs.Common.{Accepted, Content, Err, Fault, File, FirstSeq, History, Incoming, InputEnd, IsAfter, IsInFront, IsRequestFrom, IsTaking, Item, Launch, LeadsByEvent, LeadsByEvents, LeadsByFile, LeadsByPiece, LeadsByReport, LoadFault, Loaded, Loads, MayTake, MemoryFailure, NoMemory, None, Ok, Option, Piece, PlainReport, ReadFailed, ReadFailure, Report, Request, Rest, Some, Rests, Takes, TakesSome, [], ap, closed, faulty, inl, inr, no_content, one_content, open_ended, refl, situation, subst, sym, waits, wanted_in, ℕ, ◌++◌, ◌∙◌, ◌∷◌, ◌≡◌, ◌⊎◌}
+use Rattle.dap_history.proofs.Common.{Accepted, Content, Err, Fault, File, FirstSeq, History, Incoming, InputEnd, IsAfter, IsInFront, IsTaking, Item, Launch, LeadsByEvent, LeadsByEvents, LeadsByFile, LeadsByPiece, LeadsByReport, LoadFault, Loaded, Loads, MayTake, MemoryFailure, NoMemory, None, Ok, Option, Piece, PlainReport, ReadFailed, ReadFailure, Report, Request, Rest, Some, Rests, Takes, TakesSome, [], ap, closed, faulty, inl, inr, no_content, one_content, open_ended, refl, situation, sym, waits, wanted_in, ℕ, ◌++◌, ◌∙◌, ◌∷◌, ◌≡◌, ◌⊎◌}
 use Rattle.std.proofs.Common.{List, Result}
 use Rattle.dap_frame.specs.Laws.{FramesAreUnique, FaultsAreUnique, NeverBoth}
 use Rattle.dap_msg.specs.Laws.{OneReading}
 use Rattle.dap_history.specs.declared.fault.LoadFault.TheVariants as load_fault
 use Rattle.dap_history.specs.Events.{End}
+use Rattle.std.proofs.Common.{arith}
+use Rattle.std.proofs.lemmas.Grind.{common_steps}
 
 -- bytes have one frame or one fault in front, a content is one request or none, and an item leads to one history
 pub record IsReadOnce : Type 0 where
@@ -19,11 +21,8 @@ module _ (once : IsReadOnce) where
   one_front : (first : FirstSeq) (bytes : List ℕ) (a b : Option Request) (x y : List ℕ)
       → IsInFront first bytes a x → IsInFront first bytes b y → (a ≡ b) × (x ≡ y)
   one_front first bytes a b x y here there =
-      let same = once.one_frame bytes here.content there.content x y here.framed there.framed in (
-        once.one_request first here.content a b here.read
-            (subst (λ c. IsRequestFrom first c b) (sym same.0) there.read),
-        same.1,
-      )
+      let same = once.one_frame bytes here.content there.content x y here.framed there.framed in
+      (once.one_request first here.content a b here.read (rw same.0 there.read), same.1)
 
   -- where no further content is taken, none that wants no file stands in front
   none_in_front : {first : FirstSeq} {past new : History} {bytes : List ℕ} {rest : Rest}
@@ -47,15 +46,12 @@ module _ (once : IsReadOnce) where
   further no_content all rests = all
   further (one_content {more = more} request taking front unwanted after some) no_content rests =
       absurd (none_in_front rests request more taking front unwanted)
-  further {first = first} {past = past} {last = last} {bytes = bytes} {more = more}
-      (one_content {mid = a} {more = x} request taking front unwanted after some)
-      (one_content {mid = b} {more = y} request' taking' front' unwanted' after' all) rests =
+  further {first = first} {past = past} {last = last} {bytes = bytes} {more = more} (one_content {mid = a} {more =
+      x} request taking front unwanted after some) (one_content {mid = b} {more = y} request' taking' front' unwanted'
+      after' all) rests =
       let same = one_front first bytes request' request y x front' front in
-      let here : a ≡ b =
-      once.one_after past (Content request) a b after (subst (λ r. IsAfter past (Content r) b) same.0 after') in
-      further some
-      (subst (λ h. TakesSome first h x last more) (sym here) (subst (λ z. TakesSome first b z last more) same.1 all))
-      rests
+      let here : a ≡ b = once.one_after past (Content request) a b after (rw (← same.0) after') in
+      further some (rw here (rw (← same.1) all)) rests
 
   none_further : {first : FirstSeq} {past mid new : History} {bytes left : List ℕ} {rest : Rest}
       → Rests first past bytes new rest
@@ -80,11 +76,8 @@ module _ (once : IsReadOnce) where
       absurd (is.no_frame front.content more front.framed)
   one_resting (faulty k new taking fault after) (closed not) = absurd (not taking)
   one_resting (faulty k new taking fault after) (open_ended taking' is) = absurd (is.no_fault k fault)
-  one_resting {past = past} {bytes = bytes} (faulty k new taking fault after) (faulty k' new' taking' fault' after') = (
-    once.one_after past (Fault k) new new' after
-        (subst (λ j. IsAfter past (Fault j) new') (once.one_fault bytes k' k fault' fault) after'),
-    refl,
-  )
+  one_resting {past = past} {bytes = bytes} (faulty k new taking fault after) (faulty k' new' taking' fault' after') =
+      grind (arith, common_steps, Fault) steps 1500000
   one_resting {bytes = bytes} (faulty k new taking fault after) (waits request launch more taking' front wanted) =
       absurd (once.not_both bytes front.content more k front.framed fault)
   one_resting (waits request launch more taking front wanted) (closed not) = absurd (not taking)
@@ -92,21 +85,18 @@ module _ (once : IsReadOnce) where
       absurd (is.no_frame front.content more front.framed)
   one_resting {bytes = bytes} (waits request launch more taking front wanted) (faulty k new taking' fault after) =
       absurd (once.not_both bytes front.content more k front.framed fault)
-  one_resting {first = first} {past = past} {bytes = bytes} (waits request launch more taking front wanted)
-      (waits request' launch' more' taking' front' wanted') =
+  one_resting {first = first} {past = past} {bytes = bytes} (waits request launch more taking front wanted) (waits
+      request' launch' more' taking' front' wanted') =
       let same = one_front first bytes request request' more more' front front' in
-      let launches : launch ≡ launch' = let e = sym wanted ∙ ap (wanted_in (situation past)) same.0 ∙ wanted' in cc in (
-        refl,
-        ap (λ (l : Launch). record { launch = Some l; bytes = more }) launches
-            ∙ ap (λ b. record { launch = Some launch'; bytes = b }) same.1,
-      )
+      let launches : launch ≡ launch' =
+      let e = sym wanted ∙ ap (wanted_in (situation past)) same.0 ∙ wanted' in
+      cc in
+      (refl, cc same.1)
 
   one_taking : (first : FirstSeq) (past new other : History) (bytes : List ℕ) (rest left : Rest)
       → Takes first past bytes new rest → Takes first past bytes other left → Same new rest other left
   one_taking first past new other bytes rest left a b =
-      let same = none_further a.3 (further a.2 b.2 b.3) in
-      one_resting a.3
-      (subst (λ h. Rests first h a.1 other left) same.0 (subst (λ x. Rests first b.0 x other left) same.1 b.3))
+      grind (arith, common_steps, none_further, further, one_resting) steps 1500000
 
   one_may : (past : History) (item : Item) (new other : History) → MayTake past item new → MayTake past item other
       → new ≡ other
@@ -127,9 +117,8 @@ module _ (once : IsReadOnce) where
       (rest left : Rest) → Loads first past launch file bytes new rest → Loads first past launch file bytes other left
       → Same new rest other left
   one_loads first past launch file bytes new other rest left a b =
-      one_taking first a.mid new other bytes rest left a.after
-      (subst (λ h. Takes first h bytes other left)
-      (sym (once.one_after past (Loaded launch file) a.mid b.mid a.loaded b.loaded)) b.after)
+      one_taking first a.mid new other bytes rest left a.after (rw (once.one_after past (Loaded launch file) a.mid b.mid
+      a.loaded b.loaded) b.after)
 
   abbrev MayLoad : FirstSeq → History → Rest → Launch → Option (List ℕ) → History → Rest → Type 0
   MayLoad first past before launch file new rest =
@@ -177,8 +166,7 @@ module _ (once : IsReadOnce) where
       (one_may past ReadFailure new other a.0 b.0, a.1 ∙ sym b.1)
   one_event first past before NoMemory new other rest left a b =
       (one_may past MemoryFailure new other a.0 b.0, a.1 ∙ sym b.1)
-  one_event first past before (File file) new other rest left a b =
-      one_file first past before before.launch file new other rest left a b
+  one_event first past before (File file) new other rest left a b = grind (arith, common_steps, one_file) steps 1500000
   one_event first past before (Report r) new other rest left a b = (one_report past r new other a.0 b.0, a.1 ∙ sym b.1)
 
   pub one_history : (first : FirstSeq) (past : History) (before : Rest) (events : List Incoming) (new other : History)
@@ -188,6 +176,4 @@ module _ (once : IsReadOnce) where
   one_history first past before [] new other rest left a b = (a.0 ∙ sym b.0, a.1 ∙ sym b.1)
   one_history first past before (e ∷ events) new other rest left a b =
       let same = one_event first past before e a.0 b.0 a.1 b.1 a.2 b.2 in
-      one_history first a.0 a.1 events new other rest left a.3
-      (subst (λ h. LeadsByEvents first h a.1 events other left) (sym same.0)
-      (subst (λ r. LeadsByEvents first b.0 r events other left) (sym same.1) b.3))
+      one_history first a.0 a.1 events new other rest left a.3 (rw same.0 (rw same.1 b.3))

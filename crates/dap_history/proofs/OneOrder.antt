@@ -1,6 +1,6 @@
 -- A step orders at most one thing.
-use Rattle.dap_history.proofs.Common.{Accepted, Breakpoint, Causes, Command, Content, Effect, History, Item, Launch, Launched, Launches, Loaded, None, Option, PlainReport, Reaction, Reason, Reply, Running, Situation, SliceOutcome, Some, [], due_first, effect_in, enters, held_effect, hold_once, if◌then◌else◌, inl, inr, is_back, report_effect, reply_of, runs, situation, subst, sym, waiting_pause, Hold, ℕ, ◌∷◌, ◌||◌}
-use Rattle.std.proofs.Common.{List, Bool, true, false}
+use Rattle.dap_history.proofs.Common.{Accepted, Breakpoint, Causes, Command, Content, Effect, History, Item, Launch, Launched, Launches, Loaded, None, Option, PlainReport, Reaction, Reason, Reply, Running, Situation, SliceOutcome, Some, due_first, effect_in, enters, hold_once, inl, inr, report_effect, reply_of, runs, situation, subst, sym, ℕ, [], held_effect, if◌then◌else◌, is_back, waiting_pause, Hold, ◌∷◌, ◌||◌}
+use Rattle.std.proofs.Common.{List, true, false, Bool}
 use Rattle.dbg_runner.specs.declared.outcome.SliceOutcome.TheVariants as slice
 use Rattle.dap_history.specs.History.{Step}
 use Rattle.dap_history.specs.Readings.{is_held}
@@ -50,10 +50,8 @@ launch_once launch (Some text) reply (inr is) = subst (λ (r : Reply). OrdersOnc
 
 step_once : (past : History) (item : Item) (step : Step) → Causes past item step → OrdersOnce step.effect
 step_once past (Content (Some request)) step is =
-    subst OrdersOnce (sym is.2.effect_is)
-    (by_reaction (λ (r : Reply). OrdersOnce r.effect) (λ reaction. reaction_once past) is.1)
-step_once past (Loaded launch file) step is =
-    subst OrdersOnce (sym is.2.effect_is) (launch_once launch file is.0 is.1)
+    rw is.2.effect_is (by_reaction (λ (r : Reply). OrdersOnce r.effect) (λ reaction. reaction_once past) is.1)
+step_once past (Loaded launch file) step is = rw is.2.effect_is (launch_once launch file is.0 is.1)
 step_once past (Accepted r) step is = subst OrdersOnce (sym is.effect_is) (report_once past r r.outcome)
 step_once past _ step is = subst OrdersOnce (sym is.effect_is) tt
 

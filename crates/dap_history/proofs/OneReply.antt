@@ -1,5 +1,5 @@
 -- A command and a launch each have at most one reply, and so an item has at most one step.
-use Rattle.dap_history.proofs.Common.{Accepted, Answers, AreResolved, At, AtMostOne, BadCondition, BadHitCondition, BadLogMessage, Block, Breakpoint, Causes, Command, CommandName, Configuration, Configuring, Content, DivideByZero, Effect, Err, EvalFault, EvaluatesIn, Faulted, Frame, Fresh, HasConditionAt, HasEffect, HasRule, History, Inspects, InspectsAs, IsAfter, IsResolvedTo, IsTreeOf, Item, LaunchArguments, Launched, Launches, Loaded, NoStep, None, OfProgram, Ok, Option, Overflow, Path, Question, Reaction, Reacts, ReadsConditionAt, ReadsMessageAt, ReadsRule, Ready, RepliesAt, RepliesFrom, RepliesIn, Reply, Resolution, Resume, Retreat, SetBreakpoints, SetBreakpointsArguments, SetsOf, Situation, Some, SourceBreakpoint, Start, Step, Stopped, Subject, [], answer_to_line, ap, arith, asked_as, at, for_thread, frame_by_id, get_or, inl, inr, is_same_path, launched, launches, line_offset, refl, refused, reply_of, reply_with, result_answer, situation, step_from, subject_in, subst, sym, value, ℕ, ∥∥₁_elim, ◌++◌, ◌<◌, ◌^◌, ◌∙◌, ◌∷◌, ◌≡◌}
+use Rattle.dap_history.proofs.Common.{Accepted, Answers, AreResolved, At, AtMostOne, BadCondition, BadHitCondition, BadLogMessage, Block, Breakpoint, Causes, Command, CommandName, Configuration, Configuring, Content, DivideByZero, Effect, Err, EvalFault, EvaluatesIn, Faulted, Frame, Fresh, HasConditionAt, HasEffect, HasRule, History, Inspects, InspectsAs, IsAfter, IsResolvedTo, IsTreeOf, Item, LaunchArguments, Launched, Launches, Loaded, NoStep, None, OfProgram, Ok, Option, Overflow, Path, Question, Reaction, Reacts, ReadsConditionAt, ReadsMessageAt, ReadsRule, Ready, RepliesAt, RepliesFrom, RepliesIn, Reply, Resolution, Resume, Retreat, SetBreakpointsArguments, SetsOf, Situation, Some, SourceBreakpoint, Start, Step, Stopped, Subject, [], ap, arith, at, for_thread, get_or, inl, inr, refl, refused, reply_of, result_answer, situation, step_from, subst, sym, value, ℕ, ∥∥₁_elim, ◌<◌, ◌^◌, ◌∙◌, ◌∷◌, ◌≡◌, is_same_path, launched, SetBreakpoints, answer_to_line, asked_as, line_offset, subject_in, ◌++◌}
 use Rattle.std.proofs.Common.{Bool, true, false, ℤ, List, Result}
 use Rattle.std.specs.Prelude.{map}
 use Rattle.std.specs.Fmt.{decimal}
@@ -8,8 +8,6 @@ use Rattle.dap_msg.specs.declared.question.Question.TheVariants as question
 use Rattle.dap_msg.specs.declared.question.Shown.{Shown}
 use Rattle.dap_msg.specs.declared.outgoing.Refusal.{Refusal}
 use Rattle.dap_msg.specs.declared.command.Command.TheVariants as command
-use Rattle.dap_msg.specs.declared.outgoing.Body.TheVariants as body
-use Rattle.dap_msg.specs.declared.outgoing.Outgoing.TheVariants.{Answer}
 use Rattle.pl0_tree.specs.Steps.{step_path}
 use Rattle.pl0_tree.specs.Faults.{IsFirstFault, IsConditionOf, IsExpressionOf}
 use Rattle.pl0_syntax.specs.Laws.{OneFault, FaultExcludesTrees}
@@ -20,11 +18,11 @@ use Rattle.dbg_plan.specs.Resolutions.{AskedLine, HasMessageAt, IsBreakpointOf}
 use Rattle.dbg_plan.specs.Values.{answered as evaluated}
 use Rattle.dbg_plan.specs.Breakpoints.{TextCondition}
 use Rattle.dap_history.specs.Readings.{position}
-use Rattle.dap_history.specs.Launching.{syntax}
 use Rattle.dap_history.specs.Reactions.{Resolves, Sets}
 use Rattle.dap_history.proofs.Texts.{one_program}
 use Rattle.dap_history.proofs.MessageParts.{one_parts}
 use Rattle.dap_history.proofs.Questions.{inspects_there, reaction_with}
+use Rattle.dap_history.specs.Launching.{syntax}
 
 -- a text reads in one way, or has one first fault; so does an editor's
 pub record IsTextOnce : Type 0 where
@@ -67,8 +65,7 @@ one_rule text (Some (Every k)) None x y = absurd (let e = sym y ∙ x.0 in cc)
 one_rule text (Some (From j)) (Some (From k)) x y = ap (λ n. Some (From n)) (same_number j k x.2 y.2 (sym x.0 ∙ y.0))
 one_rule text (Some (From j)) (Some (Every k)) x y = absurd (rule_first j (decimal k) x.1 x.2 (sym y.0 ∙ x.0))
 one_rule text (Some (Every j)) (Some (From k)) x y = absurd (rule_first k (decimal j) y.1 y.2 (sym x.0 ∙ y.0))
-one_rule text (Some (Every j)) (Some (Every k)) x y =
-    ap (λ n. Some (Every n)) (same_number j k x.2 y.2 (ap tail_of (sym x.0 ∙ y.0)))
+one_rule text (Some (Every j)) (Some (Every k)) x y = cc (same_number j k x.2 y.2 (ap tail_of (sym x.0 ∙ y.0)))
 
 module _ (once : IsTextOnce) where
   -- ---- breakpoints
@@ -130,11 +127,9 @@ module _ (once : IsTextOnce) where
 
     fails : (a : Resolution) (bs : List Breakpoint) → IsResolvedTo main x a bs → ¬ Passes a
     fails NoStep bs is p = let e = sym is.0 ∙ p.1 in absurd cc
-    fails BadCondition bs is p =
-        is.1.2 (subst (λ n. HasConditionAt main n x.condition) (one_step p.0 is.1.0 p.1 is.1.1) p.2)
+    fails BadCondition bs is p = is.1.2 (rw (← (one_step p.0 is.1.0 p.1 is.1.1)) p.2)
     fails BadHitCondition bs is p = is.1 p
-    fails BadLogMessage bs is p =
-        is.2.3 (subst (λ n. HasMessageAt main n x.log_message) (one_step p.0 is.2.0 p.1 is.2.1) p.2)
+    fails BadLogMessage bs is p = is.2.3 (rw (← (one_step p.0 is.2.0 p.1 is.2.1)) p.2)
     fails (At n) bs is p = p
 
     passes : (b a : Resolution) (bs : List Breakpoint) → rank a < rank b → IsResolvedTo main x b bs → Passes a
@@ -181,10 +176,8 @@ module _ (once : IsTextOnce) where
   one_lines main (x ∷ lines) (a ∷ answers) [] bs cs here there = absurd there
   one_lines main (x ∷ lines) (a ∷ answers) (b ∷ others) bs cs here there =
       let first = one_line main x a b here.0 there.0 here.3 there.3 in
-      let rest = one_lines main lines answers others here.1 there.1 here.4 there.4 in (
-        ap (λ c. c ∷ answers) first.0 ∙ ap (λ cs. b ∷ cs) rest.0,
-        here.2 ∙ ap (λ m. m ++ here.1) first.1 ∙ ap (λ m. there.0 ++ m) rest.1 ∙ sym there.2,
-      )
+      let rest = one_lines main lines answers others here.1 there.1 here.4 there.4 in
+      (cc (first.0, rest.0), cc (here.2, first.1, rest.1, there.2))
 
   one_resolves : (past : History) (l : Launched) (lines : List SourceBreakpoint) (r s : Reaction)
       → Resolves past l lines r → Resolves past l lines s → r ≡ s
@@ -248,8 +241,7 @@ module _ (once : IsTextOnce) where
 
   one_from : (of : Subject) (c : Configuration) (question : Question) (r s : Result Shown Refusal)
       → RepliesFrom of c question r → RepliesFrom of c question s → r ≡ s
-  one_from of c (question.Evaluate asked) r s a b =
-      one_evaluates of.program c asked.frame_id (frame_by_id c asked.frame_id) asked.expression r s a b
+  one_from of c (question.Evaluate asked) r s a b = one_evaluates of.program c asked.frame_id _ asked.expression r s a b
   one_from of c _ r s a b = a ∙ sym b
 
   one_at : (of : Subject) (c : Option Configuration) (question : Question) (r s : Result Shown Refusal)
@@ -279,14 +271,10 @@ module _ (once : IsTextOnce) where
   one_reaction past Fresh (command.SetBreakpoints q) a b x y = ap (reply_of past) (x ∙ sym y)
   one_reaction past Ready (command.SetBreakpoints q) a b x y = ap (reply_of past) (x ∙ sym y)
   one_reaction past s (command.SetBreakpoints q) a b x y = ap (reply_of past) (one_sets past q a b x y)
-  one_reaction past Configuring command.ConfigurationDone a b x y =
-      ap (reply_of past) (one_as (launched past) Start a b x y)
-  one_reaction past Stopped (command.Resume k q) a b x y =
-      ap (reply_of past) (one_as (launched past) (λ l. for_thread q (Resume l k)) a b x y)
-  one_reaction past Stopped (command.Retreat k q) a b x y =
-      ap (reply_of past) (one_as (launched past) (λ l. for_thread q (Retreat l k)) a b x y)
-  one_reaction past Faulted (command.Retreat k q) a b x y =
-      ap (reply_of past) (one_as (launched past) (λ l. for_thread q (Retreat l k)) a b x y)
+  one_reaction past Configuring command.ConfigurationDone a b x y = ap (reply_of past) (one_as _ Start a b x y)
+  one_reaction past Stopped (command.Resume k q) a b x y = cc (one_as _ (λ l. for_thread q (Resume l k)) a b x y)
+  one_reaction past Stopped (command.Retreat k q) a b x y = cc (one_as _ (λ l. for_thread q (Retreat l k)) a b x y)
+  one_reaction past Faulted (command.Retreat k q) a b x y = cc (one_as _ (λ l. for_thread q (Retreat l k)) a b x y)
   one_reaction past Stopped (command.Inspect q) a b x y = one_answer past q a b x y
   one_reaction past Faulted (command.Inspect q) a b x y = one_answer past q a b x y
   one_reaction past s asked a b x y = ap (reply_of past) (x ∙ sym y)
@@ -308,8 +296,7 @@ module _ (once : IsTextOnce) where
   one_launch arguments (Some text) r s (inr a) (inl b) =
       absurd (∥∥₁_elim a.reads none_prop (λ reads. once.not_both text b.kind b.place a.program b.first reads))
   one_launch arguments (Some text) r s (inr a) (inr b) =
-      a.reply_is ∙ ap (λ p. reply_with body.None (launches arguments text p))
-      (one_program once.one_tree text a.program b.program a.reads b.reads) ∙ sym b.reply_is
+      cc (a.reply_is, one_program once.one_tree text a.program b.program a.reads b.reads, b.reply_is)
 
   -- ---- items
 
@@ -321,10 +308,7 @@ module _ (once : IsTextOnce) where
 
   same_answer : (seq : ℕ) (c : CommandName) (r q : Reply) (s t : Step) → r ≡ q → Answers seq c r s → Answers seq c q t
       → SameCause s t
-  same_answer seq c r q s t is a b = (
-    a.answer_is ∙ ap (λ (x : Reply). Some (Answer seq c x.result)) is ∙ sym b.answer_is,
-    a.effect_is ∙ ap (λ (x : Reply). x.effect) is ∙ sym b.effect_is,
-  )
+  same_answer seq c r q s t is a b = (cc (a.answer_is, b.answer_is), cc (a.effect_is, b.effect_is))
 
   one_cause : (past : History) (item : Item) (s t : Step) → Causes past item s → Causes past item t → SameCause s t
   one_cause past (Content None) s t a b = same_effect _ s t a b

@@ -1,11 +1,11 @@
 -- Which run a reply orders, which plan it puts in, and that it holds none that goes back.
-use Rattle.dap_history.proofs.Common.{Body, Breakpoint, Command, Configuring, Effect, Ended, Faulted, Fresh, Heading, History, Hold, IsSome, IsStopped, Launched, Mode, None, Ok, Option, Plan, Reaction, Ready, Reason, RepliesIn, Reply, ResumeKind, RetreatKind, Running, Situation, Some, Stopped, ThreadArguments, [], ap, back_by, back_of, depth_at, due_first, effect_in, enters, go, goes_back, held_by, if◌then◌else◌, inl, inr, is_back, last_such, mode_of, nothing, plan, refl, reply_of, retreat_mode, runs, situation, subst, sym, ℕ, ◌+◌, ◌||◌, ◌∷◌, ◌≡◌, ◌⊎◌}
+use Rattle.dap_history.proofs.Common.{Body, Breakpoint, Command, Configuring, Effect, Ended, Faulted, Fresh, Heading, History, Hold, IsSome, IsStopped, Launched, Mode, None, Ok, Option, Plan, Reaction, Ready, Reason, RepliesIn, Reply, ResumeKind, RetreatKind, Running, Situation, Some, Stopped, ThreadArguments, [], ap, back_by, back_of, depth_at, due_first, effect_in, enters, go, goes_back, held_by, if◌then◌else◌, inl, inr, is_back, last_such, mode_of, nothing, plan, refl, reply_of, retreat_mode, runs, situation, sym, ℕ, ◌+◌, ◌||◌, ◌∷◌, ◌≡◌, ◌⊎◌}
 use Rattle.std.proofs.Common.{List, Bool, true, false}
 use Rattle.dap_msg.specs.declared.command.Command.TheVariants as command
 use Rattle.dap_msg.specs.declared.requests.resume.ResumeKind.TheVariants as resume
 use Rattle.dap_msg.specs.declared.requests.resume.RetreatKind.TheVariants as retreat
 use Rattle.dap_history.specs.Readings.{is_held, position}
-use Rattle.dap_history.proofs.Reacted.{IsCalm, Reacted, by_refusing, by_answering, by_setting, by_starting, by_resuming, by_ending, by_retreating, by_interrupting, by_closing, by_reaction}
+use Rattle.dap_history.proofs.Reacted.{Reacted, by_refusing, by_answering, by_setting, by_starting, by_resuming, by_ending, by_retreating, by_interrupting, by_closing, by_reaction, IsCalm}
 
 -- where a reply may order a run
 abbrev pub CanRun : Situation → Type 0
@@ -92,9 +92,7 @@ module _ (past : History) where
       → s ≡ situation past → OrdersAs (back_by asked) s past (reply_of past reaction).effect
   reaction_orders (by_refusing s asked why) here = orders_nothing (back_by asked) s past
   reaction_orders (by_answering s asked b calm) here = orders_nothing (back_by asked) s past
-  reaction_orders (by_setting s a l found bs there path_is resolved) here =
-      subst (λ t. OrdersAs None t past (effect_in (situation past) past bs)) (sym here)
-      (effect_orders (situation past) past bs)
+  reaction_orders (by_setting s a l found bs there path_is resolved) here = rw here (effect_orders _ past bs)
   reaction_orders (by_starting l there) here = enters_orders past l (due_first past l)
   reaction_orders (by_resuming kind a l there) here =
       let m = mode_of kind (depth_at l.program (position past)) in

@@ -1,11 +1,13 @@
 -- Which run an item orders, and under which plan.
-use Rattle.dap_history.proofs.Common.{Accepted, Accepts, Block, Causes, Content, Effect, GoesBackBy, Heading, History, Item, Launch, Launches, Loaded, Mode, None, Option, PlainReport, Plan, Reply, SliceOutcome, Some, Step, Went, ap, back_by, back_in, back_of, go, goes_back, held_by, held_effect, if◌then◌else◌, inl, inr, is_back, last_such, option_map_or, plan, refl, report_effect, situation, subst, sym, unwrap_or, waiting_pause, ℕ, ◌∙◌, ◌≡◌, ◌⊎◌, back_if, direction}
+use Rattle.dap_history.proofs.Common.{Accepted, Accepts, Block, Causes, Content, Effect, GoesBackBy, Heading, History, Item, Launch, Launches, Loaded, Mode, None, Option, PlainReport, Plan, Reply, SliceOutcome, Some, Step, Went, ap, back_by, back_in, back_of, go, goes_back, held_by, held_effect, if◌then◌else◌, inl, inr, is_back, last_such, plan, refl, report_effect, situation, subst, sym, unwrap_or, waiting_pause, ℕ, ◌∙◌, ◌≡◌, ◌⊎◌, direction}
 use Rattle.std.proofs.Common.{List, Bool, true, false}
 use Rattle.dbg_runner.specs.declared.outcome.SliceOutcome.TheVariants as slice
 use Rattle.dap_history.specs.Readings.{position}
 use Rattle.dap_history.proofs.Along.{IsTaken, IsLawfulEvent}
 use Rattle.dap_history.proofs.Passing.{loaded_orders}
 use Rattle.dap_history.proofs.Ordered.{CanRun, RunsAs, runs_none, runs_one, all_orders}
+use Rattle.std.proofs.Common.{arith}
+use Rattle.std.proofs.lemmas.Grind.{common_steps}
 
 -- the run is ordered where the program stands or is started, under the plan that is in force there
 abbrev pub IsResumed : History → Heading → Type 0
@@ -26,16 +28,13 @@ by_reply : (past : History) (back : Option Mode) (put : Option Plan) (o : Option
     → RunsAs (situation past) past back put o → Ordered past back put o
 by_reply past back put None runs_none = ordered_none
 by_reply past back put (Some run) (runs_one run' goes under counted starts none can) =
-    ordered_one run goes (under ∙ ap (λ o. (unwrap_or o (plan past)).breakpoints) (sym none))
-    (counted ∙ ap (λ o. (unwrap_or o (plan past)).counted_from) (sym none)) (inl (can, counted, starts))
+    ordered_one run goes (cc) (cc) (inl (can, counted, starts))
 
 -- ---- reports
 
 -- the run goes back where its report does
 pub is_back_is : (past : History) (r : PlainReport) → Accepts past r → is_back past ≡ goes_back r.mode
-is_back_is past r accepts =
-    ap (λ o. option_map_or (λ (run : Heading). goes_back run.mode) o false) accepts.run_is
-    ∙ ap (λ (h : Heading). goes_back h.mode) (sym accepts.expected)
+is_back_is past r accepts = grind (arith, common_steps, goes_back, false) steps 1500000
 
 -- a run that goes back is never held
 no_rule : (main : Block) (r : PlainReport) → GoesBackBy main r slice.Held → ⊥
@@ -43,8 +42,7 @@ no_rule main r by = elim by [ ]
 
 never_held : (main : Block) (r : PlainReport) → goes_back r.mode ≡ true → Went main r (direction r.mode)
     → r.outcome ≡ slice.Held → ⊥
-never_held main r back went is =
-    no_rule main r (subst (λ e. GoesBackBy main r e) is (subst (λ b. Went main r (back_if b)) back went).outcome)
+never_held main r back went is = grind (arith, common_steps, no_rule) steps 1500000
 
 report_ordered : (past : History) (r : PlainReport) (e : SliceOutcome) → Accepts past r
     → (goes_back r.mode ≡ true → e ≡ slice.Held → ⊥) → OrderedBy past None (report_effect past r e)
@@ -74,16 +72,12 @@ report_ordered past r slice.Held accepts not = by_pause (waiting_pause past)
 pub item_ordered : (past : History) (item : Item) (step : Step) → IsTaken IsLawfulEvent past item
     → Causes past item step → OrderedBy past (back_in item) step.effect
 item_ordered past (Content (Some request)) step taken is =
-    subst (OrderedBy past (back_by request.body)) (sym is.2.effect_is)
-    (by_reply past (back_by request.body) is.0.effect.put_in (last_such go is.0.effect.orders)
-    (all_orders (situation past) past request.body is.0 refl is.1).run)
+    grind (arith, common_steps, back_by, by_reply, go, all_orders) steps 1500000
 item_ordered past (Loaded launch file) step taken is =
-    subst (OrderedBy past None) (sym is.2.effect_is)
-    (subst (Ordered past None is.0.effect.put_in) (sym (loaded_orders launch file is.0 is.1)) ordered_none)
+    rw is.2.effect_is (rw (loaded_orders launch file is.0 is.1) ordered_none)
 item_ordered past (Accepted r) step taken is =
-    subst (OrderedBy past None) (sym is.effect_is)
-    (report_ordered past r r.outcome taken.0
-    (λ back is_held. never_held taken.1.program r back taken.1.lawful.went is_held))
+    rw is.effect_is (report_ordered past r r.outcome taken.0 (λ back is_held. never_held taken.1.program r back
+    taken.1.lawful.went is_held))
 item_ordered past _ step taken is = subst (OrderedBy past None) (sym is.effect_is) ordered_none
 
 -- ---- the run that is ordered
@@ -100,12 +94,7 @@ pub ordered_under : (past : History) (back : Option Mode) (put : Option Plan) (o
     (plan past)).counted_from)
 ordered_under past back put None ordered_none run is = absurd cc
 ordered_under past back put (Some other) (ordered_one other' goes under counted from) run is =
-    let same : other ≡ run =
-    cc in (
-      ap (λ (h : Heading). h.plan) (sym same) ∙ under,
-      ap (λ (h : Heading). h.counted_from) (sym same)
-          ∙ counted,
-    )
+    grind (arith, common_steps) steps 1500000
 
 pub ordered_from : (past : History) (back : Option Mode) (put : Option Plan) (o : Option Heading)
     → Ordered past back put o → (run : Heading) → o ≡ Some run → IsResumed past run ⊎ (is_back past ≡ false)
@@ -122,11 +111,7 @@ report_holds past r (slice.Due reason) = refl
 report_holds past r slice.Done = refl
 report_holds past r (slice.Fault fault) = refl
 report_holds past r slice.NoMemory = refl
-report_holds past r slice.Held = by_pause (waiting_pause past)
-  where
-    by_pause : (pauses : Bool) → last_such held_by (held_effect past r pauses).orders ≡ None
-    by_pause true = refl
-    by_pause false = refl
+report_holds past r slice.Held = grind (arith, common_steps, true, false) steps 1500000
 
 loaded_holds : (launch : Launch) (file : Option (List ℕ)) (reply : Reply) → Launches launch.arguments file reply
     → last_such held_by reply.effect.orders ≡ None
@@ -138,10 +123,7 @@ loaded_holds launch (Some text) reply (inr is) = ap (λ (r : Reply). last_such h
 pub item_holds : (past : History) (item : Item) (step : Step) → Causes past item step → is_back past ≡ true
     → last_such held_by step.effect.orders ≡ None
 item_holds past (Content (Some request)) step is back =
-    ap (λ (e : Effect). last_such held_by e.orders) is.2.effect_is
-    ∙ (all_orders (situation past) past request.body is.0 refl is.1).hold back
-item_holds past (Loaded launch file) step is back =
-    ap (λ (e : Effect). last_such held_by e.orders) is.2.effect_is ∙ loaded_holds launch file is.0 is.1
-item_holds past (Accepted r) step is back =
-    ap (λ (e : Effect). last_such held_by e.orders) is.effect_is ∙ report_holds past r r.outcome
+    cc (is.2.effect_is, (all_orders (situation past) past request.body is.0 refl is.1).hold back)
+item_holds past (Loaded launch file) step is back = grind (arith, common_steps, loaded_holds) steps 1500000
+item_holds past (Accepted r) step is back = grind (arith, common_steps, report_holds) steps 1500000
 item_holds past _ step is back = ap (λ (e : Effect). last_such held_by e.orders) is.effect_is

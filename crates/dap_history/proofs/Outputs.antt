@@ -42,29 +42,23 @@ outputs_apart past r es = append_assoc (map event.Output (told_numbers past r)) 
 pub outputs_numbers : (past : History) (r : PlainReport) (es : List EventBody)
     → numbers_in (outputs past r ++ es) ≡ told_numbers past r ++ numbers_in es
 outputs_numbers past r es =
-    ap numbers_in (outputs_apart past r es)
-    ∙ numbers_of_numbers (told_numbers past r) (log_events r.plan r.logs ++ es)
-    ∙ ap (λ l. told_numbers past r ++ l) (numbers_of_logs r.plan r.logs es)
+    ap numbers_in (outputs_apart past r es) ∙ numbers_of_numbers (told_numbers past r) _ ∙ ap (λ l. told_numbers past r
+    ++ l) (numbers_of_logs r.plan r.logs es)
 
 pub outputs_texts : (past : History) (r : PlainReport) (es : List EventBody)
     → texts_in (outputs past r ++ es) ≡ told_texts r ++ texts_in es
 outputs_texts past r es =
-    ap texts_in (outputs_apart past r es) ∙ texts_of_numbers (told_numbers past r) (log_events r.plan r.logs ++ es)
-    ∙ texts_of_logs r.plan r.logs es
+    ap texts_in (outputs_apart past r es) ∙ texts_of_numbers (told_numbers past r) _ ∙ texts_of_logs r.plan r.logs es
 
 pub outputs_stop : (past : History) (r : PlainReport) (es : List EventBody)
     → last_such stop_of_event (outputs past r ++ es) ≡ last_such stop_of_event es
 outputs_stop past r es =
-    ap (last_such stop_of_event) (outputs_apart past r es)
-    ∙ stop_of_numbers (told_numbers past r) (log_events r.plan r.logs ++ es)
-    ∙ stop_of_logs r.plan r.logs es
+    cc (outputs_apart past r es, stop_of_numbers (told_numbers past r) _, stop_of_logs r.plan r.logs es)
 
 pub outputs_mark : (past : History) (r : PlainReport) (es : List EventBody)
     → last_such message_mark (map Event (outputs past r ++ es)) ≡ last_such message_mark (map Event es)
 outputs_mark past r es =
-    ap (λ l. last_such message_mark (map Event l)) (outputs_apart past r es)
-    ∙ mark_of_numbers (told_numbers past r) (log_events r.plan r.logs ++ es)
-    ∙ mark_of_logs r.plan r.logs es
+    cc (outputs_apart past r es, mark_of_numbers (told_numbers past r) _, mark_of_logs r.plan r.logs es)
 
 -- alone they report no stop, and lead to no situation
 module _ (past : History) (r : PlainReport) where
@@ -72,8 +66,7 @@ module _ (past : History) (r : PlainReport) where
   outputs_stop_not = ap (last_such stop_of_event) (sym (append-nil (outputs past r))) ∙ outputs_stop past r []
 
   pub outputs_unmarked : last_such message_mark (map Event (outputs past r)) ≡ None
-  outputs_unmarked =
-      ap (λ es. last_such message_mark (map Event es)) (sym (append-nil (outputs past r))) ∙ outputs_mark past r []
+  outputs_unmarked = cc (append-nil (outputs past r), outputs_mark past r [])
 
 abbrev pub if_paused : Bool → List EventBody
 if_paused true = stopped_events stop.Pause
@@ -102,12 +95,7 @@ report_events past r slice.Held none = by_pause (waiting_pause past)
 report_events past r slice.Done none = refl
 report_events past r (slice.Fault fault) none = refl
 report_events past r slice.NoMemory none =
-    sym
-    (append-nil (outputs past r)
-    ∙ ap (λ vs. map event.Output (drop (numbers_told past - r.numbers_before) vs) ++ log_events r.plan r.logs)
-    (none refl).0
-    ∙ ap (λ vs. map event.Output vs ++ log_events r.plan r.logs) (drop-nil (numbers_told past - r.numbers_before))
-    ∙ ap (log_events r.plan) (none refl).1)
+    cc (append-nil (outputs past r), (none refl).0, drop-nil (numbers_told past - r.numbers_before), (none refl).1)
 
 pub following_numbers : (past : History) (e : SliceOutcome) → numbers_in (following past e) ≡ []
 following_numbers past slice.More = refl
@@ -138,18 +126,14 @@ module _ (past : History) (r : PlainReport) (e : SliceOutcome)
   -- whatever the report's end, its numbers are reported but for those that were before
   pub report_numbers : numbers_in (report_effect past r e).events ≡ told_numbers past r
   report_numbers =
-      ap numbers_in (report_events past r e none)
-      ∙ outputs_numbers past r (following past e)
-      ∙ ap (λ l. told_numbers past r ++ l) (following_numbers past e)
-      ∙ append-nil (told_numbers past r)
+      ap numbers_in (report_events past r e none) ∙ outputs_numbers past r _ ∙ ap (λ l. told_numbers past r ++ l)
+      (following_numbers past e) ∙ append-nil _
 
   -- and all its logs
   pub report_texts : texts_in (report_effect past r e).events ≡ told_texts r
   report_texts =
-      ap texts_in (report_events past r e none)
-      ∙ outputs_texts past r (following past e)
-      ∙ ap (λ l. told_texts r ++ l) (following_texts past e)
-      ∙ append-nil (told_texts r)
+      ap texts_in (report_events past r e none) ∙ outputs_texts past r _ ∙ ap (λ l. told_texts r ++ l) (following_texts
+      past e) ∙ append-nil _
 
 pub report_launches : (past : History) (r : PlainReport) (e : SliceOutcome) → (report_effect past r e).launched ≡ None
 report_launches past r slice.More = refl

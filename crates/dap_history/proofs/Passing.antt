@@ -1,12 +1,11 @@
 -- A run passes no position that is due, and none was ordered before `configurationDone`.
-use Rattle.dap_history.proofs.Common.{Accepted, Accepts, Block, Body, Causes, Command, CommandName, Configuring, Content, Effect, Ended, EndsBy, Err, Event, EventBody, Faulted, Go, GoesBackBy, HasEffect, Heading, History, Hold, Incoming, IsLawfulReport, IsPassed, Item, Launch, Launched, Launches, Loaded, None, NoneDueBefore, NoneDueUpTo, Ok, Option, Outgoing, PlainOrder, PlainReport, Quit, Reason, Refusal, RepliesIn, Reply, Running, Situation, SliceOutcome, Some, Step, Stopped, WentBack, WentOn, WrittenJoins, [], answer_mark, ap, arith, cases_lt, command_mark, due, due_in_run, end_of, event_mark, exited_events, faults, go, goes_back, has_come, has_no_memory, inl, inr, is_spent, lacks_memory, last_run, last_such, launched, message_mark, messages, name_of, or_else, order_mark, refl, report_effect, situation, step_mark, stop_of, stopped_events, subst, sym, takes_all, unwrap_or, with_answer, ℕ, ⊎_elim, ◌<◌, ◌∙◌, ◌∷◌, ◌≡◌, ◌≤◌, ◌⊎◌}
+use Rattle.dap_history.proofs.Common.{Accepted, Accepts, Block, Body, Causes, Command, CommandName, Configuring, Content, Effect, Ended, EndsBy, Err, Event, EventBody, Faulted, Go, GoesBackBy, HasEffect, Heading, History, Hold, Incoming, IsLawfulReport, IsPassed, Item, Launch, Launched, Launches, Loaded, None, NoneDueBefore, NoneDueUpTo, Ok, Option, Outgoing, PlainOrder, PlainReport, Quit, Reason, Refusal, RepliesIn, Reply, Running, Situation, SliceOutcome, Some, Step, Stopped, WentBack, WentOn, WrittenJoins, [], answer_mark, ap, arith, cases_lt, command_mark, due, due_in_run, end_of, exited_events, faults, go, goes_back, has_come, has_no_memory, inl, inr, is_spent, lacks_memory, last_run, last_such, launched, message_mark, messages, name_of, or_else, order_mark, refl, report_effect, situation, step_mark, subst, sym, takes_all, unwrap_or, with_answer, ℕ, ⊎_elim, ◌<◌, ◌∙◌, ◌∷◌, ◌≡◌, ◌≤◌, ◌⊎◌, stop_of, stopped_events}
 use Rattle.std.proofs.Common.{List, true}
 use Rattle.std.specs.Prelude.{map, Result}
 use Rattle.dap_msg.specs.declared.command.Command.TheVariants as command
 use Rattle.dap_msg.specs.declared.command.CommandName.TheVariants as name
 use Rattle.dap_msg.specs.declared.command.Supported.TheVariants as supported
 use Rattle.dap_msg.specs.declared.outgoing.Outgoing.TheVariants.{Answer}
-use Rattle.dap_msg.specs.declared.outgoing.EventBody.TheVariants as event
 use Rattle.dbg_runner.specs.Lawful.{is_held, due_in as due_of}
 use Rattle.dbg_runner.specs.declared.outcome.SliceOutcome.TheVariants as slice
 use Rattle.dap_history.specs.Readings.{position}
@@ -18,6 +17,7 @@ use Rattle.dap_history.proofs.Told.{by_stop_mark}
 use Rattle.dap_history.proofs.Standing.{MarkIs, mark_else, IsAnswer}
 use Rattle.dap_history.proofs.Progress.{Progress, report_program}
 use Rattle.dap_history.proofs.Reacted.{replied}
+use Rattle.std.proofs.lemmas.Grind.{common_steps}
 
 -- ---- who leads to Configuring, and to Running
 
@@ -31,47 +31,19 @@ IsRunning _ = ⊥
 
 orders_not : (os : List PlainOrder) → ¬ MarkIs IsConfiguring (last_such order_mark os)
 orders_not [] is = is
-orders_not (o ∷ os) is = neither (orders_not os) (mark_else IsConfiguring (last_such order_mark os) (order_mark o) is)
-  where
-    order_not : (o : PlainOrder) → ¬ MarkIs IsConfiguring (order_mark o)
-    order_not (Go run) is = is
-    order_not (Hold run) is = is
-    order_not Quit is = is
-
-    neither : ¬ MarkIs IsConfiguring (last_such order_mark os)
-        → ¬ (MarkIs IsConfiguring (last_such order_mark os) ⊎ ((last_such order_mark os ≡ None)
-        × MarkIs IsConfiguring (order_mark o)))
-    neither not (inl is) = not is
-    neither not (inr is) = order_not o is.1
+orders_not (o ∷ os) is = grind (arith, common_steps, orders_not os, mark_else) steps 200000
 
 -- no event leads to a situation of which neither Stopped, Faulted nor Ended is one
 events_not : (P : Situation → Type 0) → ¬ P Stopped → ¬ P Faulted → ¬ P Ended → (es : List EventBody)
     → ¬ MarkIs P (last_such message_mark (map Event es))
 events_not P stopped faulted ended [] is = is
 events_not P stopped faulted ended (e ∷ es) is =
-    neither (events_not P stopped faulted ended es)
-    (mark_else P (last_such message_mark (map Event es)) (event_mark e) is)
-  where
-    event_not : (e : EventBody) → ¬ MarkIs P (event_mark e)
-    event_not event.Initialized is = is
-    event_not (event.Stopped why) is = by_stop_mark (λ s. ¬ P s) stopped faulted why is
-    event_not (event.Output v) is = is
-    event_not (event.Log text) is = is
-    event_not (event.Exited code) is = ended is
-    event_not event.Terminated is = is
-
-    neither : ¬ MarkIs P (last_such message_mark (map Event es))
-        → ¬ (MarkIs P (last_such message_mark (map Event es))
-        ⊎ ((last_such message_mark (map Event es) ≡ None) × MarkIs P (event_mark e)))
-    neither not (inl is) = not is
-    neither not (inr is) = event_not e is.1
+    grind (arith, common_steps, events_not P stopped faulted ended es, mark_else, map, by_stop_mark) steps 200000
 
 -- a step leads to Configuring by its answer alone
 configured_by : (step : Step) → MarkIs IsConfiguring (step_mark step)
     → MarkIs IsConfiguring (last_such message_mark (with_answer step.answer []))
-configured_by step is =
-    by_orders (mark_else IsConfiguring (last_such order_mark step.effect.orders)
-    (last_such message_mark (messages step)) is)
+configured_by step is = by_orders (mark_else IsConfiguring _ _ is)
   where
     by_answer : (a : Option Outgoing) → MarkIs IsConfiguring
         (last_such message_mark (with_answer a (map Event step.effect.events)))
@@ -116,9 +88,8 @@ IsLoaded _ = ⊥
 pub loaded_there : (past : History) (item : Item) (step : Step) → Causes past item step
     → MarkIs IsConfiguring (step_mark step) → IsLoaded item
 loaded_there past (Content (Some request)) step is mark =
-    absurd (reply_not (situation past) past request.body is.0 is.1
-    (subst (λ a. MarkIs IsConfiguring (last_such message_mark (with_answer a []))) is.2.answer_is
-    (configured_by step mark)))
+    absurd (reply_not _ past request.body is.0 is.1 (subst (λ a. MarkIs IsConfiguring (last_such message_mark
+    (with_answer a []))) is.2.answer_is (configured_by step mark)))
 loaded_there past (Loaded launch file) step is mark = tt
 loaded_there past _ step is mark =
     absurd (subst (λ a. MarkIs IsConfiguring (last_such message_mark (with_answer a []))) is.answer_is
@@ -127,22 +98,7 @@ loaded_there past _ step is mark =
 -- a step leads to Running only where it orders a run
 orders_run : (os : List PlainOrder) → last_such go os ≡ None → ¬ MarkIs IsRunning (last_such order_mark os)
 orders_run [] none is = is
-orders_run (o ∷ os) none is =
-    by_last (orders_run os) (last_such go os) refl none
-    (mark_else IsRunning (last_such order_mark os) (order_mark o) is)
-  where
-    by_order : (o : PlainOrder) → go o ≡ None → ¬ MarkIs IsRunning (order_mark o)
-    by_order (Go run) none is = absurd cc
-    by_order (Hold run) none is = is
-    by_order Quit none is = is
-
-    by_last : (last_such go os ≡ None → ¬ MarkIs IsRunning (last_such order_mark os)) → (l : Option Heading)
-        → last_such go os ≡ l → or_else (last_such go os) (go o) ≡ None
-        → ¬ (MarkIs IsRunning (last_such order_mark os) ⊎ ((last_such order_mark os ≡ None)
-        × MarkIs IsRunning (order_mark o)))
-    by_last not (Some run) is none either = let e = sym (ap (λ l. or_else l (go o)) is) ∙ none in absurd cc
-    by_last not None is none (inl mark) = not is mark
-    by_last not None is none (inr mark) = by_order o (sym (ap (λ l. or_else l (go o)) is) ∙ none) mark.1
+orders_run (o ∷ os) none is = grind (arith, common_steps, orders_run os, go, mark_else) steps 200000
 
 answer_runs_not : (a : Option Outgoing) → IsAnswer a → (es : List EventBody)
     → ¬ MarkIs IsRunning (last_such message_mark (with_answer a (map Event es)))
@@ -206,9 +162,7 @@ loaded_begins here o is = subst (BeginsAt here) (sym is) none_begins
 pub item_begins : (past : History) (item : Item) (step : Step) → Causes past item step
     → BeginsHere (unwrap_or (end_of item) (position past)) step.effect
 item_begins past (Content (Some request)) step is =
-    subst (BeginsHere (position past)) (sym is.2.effect_is)
-    (begins_by past (last_such go is.0.effect.orders)
-    (all_silent (situation past) past request.body is.0 is.1).goes)
+    rw is.2.effect_is (begins_by past (last_such go is.0.effect.orders) (all_silent _ past request.body is.0 is.1).goes)
 item_begins past (Loaded launch file) step is =
     subst (BeginsHere (position past)) (sym is.2.effect_is)
     (loaded_begins (position past) (last_such go is.0.effect.orders) (loaded_orders launch file is.0 is.1))
@@ -223,8 +177,7 @@ pub launches_not : (Q : Incoming → Type 0) (past : History) (item : Item) (ste
 launches_not Q past (Content (Some request)) step taken is running =
     ap (λ (e : Effect). e.launched) is.2.effect_is ∙ (all_silent (situation past) past request.body is.0 is.1).no_launch
 launches_not Q past (Loaded launch file) step taken is running = absurd (subst IsRunning taken running)
-launches_not Q past (Accepted r) step taken is running =
-    ap (λ (e : Effect). e.launched) is.effect_is ∙ report_launches past r r.outcome
+launches_not Q past (Accepted r) step taken is running = cc (is.effect_is, report_launches past r r.outcome)
 launches_not Q past _ step taken is running = ap (λ (e : Effect). e.launched) is.effect_is
 
 -- ---- the marks of a report
@@ -236,8 +189,7 @@ none_left (Some x) b is = absurd cc
 pub no_mark_no_go : (os : List PlainOrder) → last_such order_mark os ≡ None → last_such go os ≡ None
 no_mark_no_go [] is = refl
 no_mark_no_go (o ∷ os) is =
-    ap (λ l. or_else l (go o)) (no_mark_no_go os (none_left (last_such order_mark os) (order_mark o) is).0)
-    ∙ none_here o (none_left (last_such order_mark os) (order_mark o) is).1
+    ap (λ l. or_else l (go o)) (no_mark_no_go os (none_left _ _ is).0) ∙ none_here o (none_left _ _ is).1
   where
     none_here : (o : PlainOrder) → order_mark o ≡ None → go o ≡ None
     none_here (Go run) is = absurd cc
@@ -248,10 +200,7 @@ abbrev pub mark_of_effect : Effect → Option Situation
 mark_of_effect effect = or_else (last_such order_mark effect.orders) (last_such message_mark (map Event effect.events))
 
 pub mark_of : (effect : Effect) (step : Step) → HasEffect effect step → step_mark step ≡ mark_of_effect effect
-mark_of effect step has =
-    ap (λ a. or_else (last_such order_mark step.effect.orders)
-    (last_such message_mark (with_answer a (map Event step.effect.events)))) has.answer_is
-    ∙ ap mark_of_effect has.effect_is
+mark_of effect step has = cc (has.answer_is, has.effect_is)
 
 -- where a report leads nowhere, its end isn't due
 abbrev pub NotDueAtEnd : Block → PlainReport → Type 0

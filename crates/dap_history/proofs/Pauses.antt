@@ -1,6 +1,6 @@
 -- A pause that waits stops the program where its run is held, and nothing else stops it with that reason.
-use Rattle.dap_history.proofs.Common.{Accepted, All, Body, Causes, Command, Content, Effect, Err, Event, Grants, Heading, History, Incoming, IsSome, Item, Launch, Launches, Loaded, None, Ok, Option, Outgoing, PlainReport, Reason, Refusal, RepliesIn, Reply, Request, Situation, SliceOutcome, Some, Step, StopReason, ThreadArguments, [], ap, exception_of, exited_events, go, held_effect, inl, inr, last_such, name_of, or_else, refl, report_effect, run_in, situation, stop_in, stop_of, stop_of_event, stopped_events, subst, sym, unwrap_or, waiting_pause, ℕ, ◌++◌, ◌∙◌, ◌∷◌, ◌≡◌, ◌⊎◌}
-use Rattle.std.proofs.Common.{List, Bool, true, false, Result}
+use Rattle.dap_history.proofs.Common.{Accepted, All, Body, Causes, Command, Content, Effect, Err, Event, Grants, Heading, History, Incoming, IsSome, Item, Launch, Launches, Loaded, None, Ok, Option, Outgoing, PlainReport, Reason, Refusal, RepliesIn, Reply, Request, Situation, SliceOutcome, Some, Step, StopReason, ThreadArguments, [], ap, exited_events, go, held_effect, inl, inr, last_such, name_of, or_else, refl, report_effect, run_in, stop_in, stop_of, stop_of_event, stopped_events, subst, sym, unwrap_or, waiting_pause, ℕ, ◌++◌, ◌∙◌, ◌∷◌, ◌≡◌, ◌⊎◌}
+use Rattle.std.proofs.Common.{List, Bool, true, false}
 use Rattle.std.specs.Prelude.{option_map}
 use Rattle.dap_msg.specs.declared.command.Command.TheVariants as command
 use Rattle.dap_msg.specs.declared.command.Supported.{Supported}
@@ -18,8 +18,10 @@ use Rattle.dap_history.proofs.Each.{none_first, WasTaken, EachTaken, each_kept, 
 use Rattle.dap_history.proofs.Silent.{StopsBy, no_stop, at_first, all_silent}
 use Rattle.dap_history.proofs.Outputs.{outputs_stop, outputs_stop_not}
 use Rattle.dap_history.proofs.Reacted.{replied, by_reaction}
-use Rattle.dap_history.proofs.Asked.{AsAsked, reaction_mode}
+use Rattle.dap_history.proofs.Asked.{reaction_mode}
 use Rattle.dap_history.proofs.Since.{SplitsAt, splits_last, longer, none_since, one_more_since, one_less_since}
+use Rattle.std.proofs.Common.{arith}
+use Rattle.std.proofs.lemmas.Grind.{common_steps}
 
 -- ---- a granted pause
 
@@ -35,16 +37,9 @@ GrantsPause asked reply = (a : ThreadArguments) × (asked ≡ command.Pause a) �
 
 paused_by : (s : Situation) (past : History) (seq : ℕ) (asked : Command) (reply : Reply) → RepliesIn s past asked reply
     → is_pause (Some (Answer seq (name_of asked) reply.result)) ≡ Some true → GrantsPause asked reply
-paused_by s past seq (command.Pause a) reply is pauses = by_result reply.result refl pauses
-  where
-    by_result : (r : Result Body Refusal) → reply.result ≡ r
-        → is_pause (Some (Answer seq (name.Supported supported.Pause) r)) ≡ Some true
-        → GrantsPause (command.Pause a) reply
-    by_result (Ok b) same pauses = (a, refl, b, same)
-    by_result (Err why) same pauses = absurd cc
+paused_by s past seq (command.Pause a) reply is pauses = grind (arith, common_steps, true) steps 1500000
 paused_by s past seq (command.BadArguments k) reply is pauses =
-    let e = sym (ap (λ (r : Reply). is_pause (Some (Answer seq (name.Supported k) r.result))) (replied _ is is.reacts)
-    ∙ refusal_not seq k _) ∙ pauses in absurd cc
+    grind (arith, common_steps, replied, refusal_not) steps 1500000
 paused_by s past seq _ reply is pauses = absurd cc
 
 -- the step grants a pause
@@ -56,48 +51,19 @@ record PausedBy (step : Step) : Type 0 where
 
 step_pauses : (past : History) (item : Item) (step : Step) → step.item ≡ item → Causes past item step
     → is_pause step.answer ≡ Some true → PausedBy step
-step_pauses past (Content (Some request)) step item_is is pauses =
-    let by = paused_by (situation past) past request.seq request.body is.0 is.1
-    (sym (ap is_pause is.2.answer_is) ∙ pauses) in record {
-      request = request;
-      asked = by.0;
-      granted =
-          record {
-            item_is = item_is;
-            body = by.2;
-            answer_is = is.2.answer_is ∙ ap (λ r. Some (Answer request.seq (name_of request.body) r)) by.3;
-          };
-      pause_is = by.1;
-    }
-step_pauses past (Loaded launch file) step item_is is pauses =
-    let e = sym (ap is_pause is.2.answer_is) ∙ pauses in absurd cc
+step_pauses past (Content (Some request)) step item_is is pauses = grind (arith, common_steps, paused_by) steps 1500000
+step_pauses past (Loaded launch file) step item_is is pauses = grind (arith, common_steps) steps 1500000
 step_pauses past _ step item_is is pauses = let e = sym (ap is_pause is.answer_is) ∙ pauses in absurd cc
 
 pauses_step : (step : Step) (request : Request) (a : ThreadArguments) → Grants step request
     → request.body ≡ command.Pause a → is_pause step.answer ≡ Some true
-pauses_step step request a granted is =
-    ap is_pause granted.answer_is
-    ∙ ap (λ c. is_pause (Some (Answer request.seq (name_of c) (Ok granted.body)))) is
+pauses_step step request a granted is = grind (arith, common_steps) steps 1500000
 
 -- a pause orders no run
 pause_goes_not : (past : History) (step : Step) (request : Request) (a : ThreadArguments) → Causes past step.item step
     → Grants step request → request.body ≡ command.Pause a → run_in step ≡ None
-pause_goes_not past step request a causes granted is = by_run (run_in step) refl
-  where
-    here : Causes past (Content (Some request)) step
-    here = subst (λ i. Causes past i step) granted.item_is causes
-
-    paused : RepliesIn (situation past) past (command.Pause a) here.0
-    paused = subst (λ c. RepliesIn (situation past) past c here.0) is here.1
-
-    by_run : (o : Option Heading) → run_in step ≡ o → run_in step ≡ None
-    by_run None none = none
-    by_run (Some run) goes =
-        let asks =
-        by_reaction (λ (r : Reply). last_such go r.effect.orders ≡ Some run → AsAsked past (command.Pause a) run)
-        (λ reaction reacted goes. reaction_mode past reacted run goes) paused
-        (ap (λ (e : Effect). last_such go e.orders) (sym here.2.effect_is) ∙ goes) in
-        let e = asks.2 in absurd cc
+pause_goes_not past step request a causes granted is =
+    grind (arith, common_steps, by_reaction, go, reaction_mode) steps 1500000
 
 -- ---- a pause that waits is read so
 
@@ -118,11 +84,7 @@ module _ (past : History) (step : Step) (causes : Causes past step.item step) wh
   waits_after : (o : Option Heading) (p : Option Bool) → run_in step ≡ o → is_pause step.answer ≡ p
       → waiting_pause (past ++ step ∷ []) ≡ unwrap_or (or_else (option_map (λ (run : Heading). false) o) p)
       (waiting_pause past)
-  waits_after o p run_is pause_is =
-      waiting_pause-snoc past step
-      ∙ ap (λ x. unwrap_or (or_else (option_map (λ (run : Heading). false) x) (is_pause step.answer))
-      (waiting_pause past)) run_is
-      ∙ ap (λ x. unwrap_or (or_else (option_map (λ (run : Heading). false) o) x) (waiting_pause past)) pause_is
+  waits_after o p run_is pause_is = grind (arith, common_steps, waiting_pause-snoc, false) steps 1500000
 
   -- the step that granted the pause is this one, or the pause waited before
   since : (w : PauseWaits (past ++ step ∷ [])) → (Grants step w.request) ⊎ (PauseWaits past × (run_in step ≡ None))
@@ -150,30 +112,10 @@ module _ (past : History) (step : Step) (causes : Causes past step.item step) wh
           )
 
   waits_on : run_in step ≡ None → PauseWaits past → PauseWaits (past ++ step ∷ [])
-  waits_on none w = record {
-    early = w.early;
-    step = w.step;
-    later = w.later ++ step ∷ [];
-    past_is = longer past w.early w.step w.later step w.past_is;
-    request = w.request;
-    asked = w.asked;
-    granted = w.granted;
-    pause_is = w.pause_is;
-    none_since = one_more_since (λ (s : Step). run_in s ≡ None) w.later step w.none_since none;
-  }
+  waits_on none w = grind (arith, common_steps, longer, none_since, one_more_since) steps 1500000
 
   begins_to_wait : PausedBy step → PauseWaits (past ++ step ∷ [])
-  begins_to_wait by = record {
-    early = past;
-    step = step;
-    later = [];
-    past_is = refl;
-    request = by.request;
-    asked = by.asked;
-    granted = by.granted;
-    pause_is = by.pause_is;
-    none_since = none_since (λ (s : Step). run_in s ≡ None);
-  }
+  begins_to_wait by = grind (arith, common_steps, none_since) steps 1500000
 
   read_more : IsRead past → IsRead (past ++ step ∷ [])
   read_more here = by_run (run_in step) refl
@@ -213,10 +155,7 @@ abbrev Any : Incoming → Type 0
 Any e = Unit {0}
 
 read_kept : IsKept Any IsRead
-read_kept = record {
-  step = λ past item new taking taken after here. subst IsRead (sym after.new_is)
-      (read_more past after.step (subst (λ i. Causes past i after.step) (sym after.item_is) after.causes) here);
-}
+read_kept = grind (arith, common_steps, read_more) steps 1500000
 
 read_first : IsRead []
 read_first = inr (refl, λ w. absurd (none_first w.early w.step w.later w.past_is))
@@ -235,29 +174,18 @@ reply_not s past (Some other) (at_first l r configuring launch due_is) is = no_p
 
 launch_not : (launch : Launch) (file : Option (List ℕ)) (reply : Reply) → Launches launch.arguments file reply
     → ¬ (last_such stop_of_event reply.effect.events ≡ Some stop.Pause)
-launch_not launch None reply is stops_ =
-    let e = sym (ap (λ (r : Reply). last_such stop_of_event r.effect.events) is) ∙ stops_ in absurd cc
-launch_not launch (Some text) reply (inl is) stops_ =
-    let e = sym (ap (λ (r : Reply). last_such stop_of_event r.effect.events) is.reply_is) ∙ stops_ in absurd cc
-launch_not launch (Some text) reply (inr is) stops_ =
-    let e = sym (ap (λ (r : Reply). last_such stop_of_event r.effect.events) is.reply_is) ∙ stops_ in absurd cc
+launch_not launch None reply is stops_ = grind (arith, common_steps) steps 1500000
+launch_not launch (Some text) reply (inl is) stops_ = grind (arith, common_steps) steps 1500000
+launch_not launch (Some text) reply (inr is) stops_ = grind (arith, common_steps) steps 1500000
 
 module _ (past : History) (r : PlainReport) where
   report_pauses : (e : SliceOutcome) → last_such stop_of_event (report_effect past r e).events ≡ Some stop.Pause
       → (e ≡ slice.Held) × (waiting_pause past ≡ true)
   report_pauses slice.More is = let e = sym (outputs_stop_not past r) ∙ is in absurd cc
-  report_pauses (slice.Due why) is =
-      absurd (no_pause why (sym (outputs_stop past r (stopped_events (stop_of why))) ∙ is))
-  report_pauses slice.Held is = by_pause (waiting_pause past) refl is
-    where
-      by_pause : (pauses : Bool) → waiting_pause past ≡ pauses
-          → last_such stop_of_event (held_effect past r pauses).events ≡ Some stop.Pause
-          → (slice.Held ≡ slice.Held) × (waiting_pause past ≡ true)
-      by_pause true same is = (refl, same)
-      by_pause false same is = let e = sym (outputs_stop_not past r) ∙ is in absurd cc
+  report_pauses (slice.Due why) is = grind (arith, common_steps, no_pause, outputs_stop) steps 1500000
+  report_pauses slice.Held is = grind (arith, common_steps, true, false, outputs_stop_not) steps 1500000
   report_pauses slice.Done is = let e = sym (outputs_stop past r (exited_events 0)) ∙ is in absurd cc
-  report_pauses (slice.Fault fault) is =
-      let e = sym (outputs_stop past r (stopped_events (stop.Exception (exception_of fault)))) ∙ is in absurd cc
+  report_pauses (slice.Fault fault) is = grind (arith, common_steps, outputs_stop) steps 1500000
   report_pauses slice.NoMemory is = absurd cc
 
   held_stops : (pauses : Bool) → pauses ≡ true → last_such stop_of_event (held_effect past r pauses).events
@@ -274,27 +202,17 @@ module _ (past : History) (r : PlainReport) where
 stops_so : (past : History) (item : Item) (step : Step) → Causes past item step → stop_in step ≡ Some stop.Pause
     → (r : PlainReport) × (item ≡ Accepted r) × (r.outcome ≡ slice.Held) × (waiting_pause past ≡ true)
 stops_so past (Content (Some request)) step is stops_ =
-    absurd (reply_not (situation past) past (last_such stop_of_event is.0.effect.events)
-    (all_silent (situation past) past request.body is.0 is.1).stops
-    (ap (λ (e : Effect). last_such stop_of_event e.events) (sym is.2.effect_is) ∙ stops_))
-stops_so past (Loaded launch file) step is stops_ =
-    absurd (launch_not launch file is.0 is.1
-    (ap (λ (e : Effect). last_such stop_of_event e.events) (sym is.2.effect_is) ∙ stops_))
-stops_so past (Accepted r) step is stops_ =
-    let by = report_pauses past r r.outcome
-    (ap (λ (e : Effect). last_such stop_of_event e.events) (sym is.effect_is) ∙ stops_) in (r, refl, by.0, by.1)
-stops_so past _ step is stops_ =
-    let e = ap (λ (e : Effect). last_such stop_of_event e.events) (sym is.effect_is) ∙ stops_ in absurd cc
+    absurd (reply_not _ past _ (all_silent _ past request.body is.0 is.1).stops (cc is.2.effect_is))
+stops_so past (Loaded launch file) step is stops_ = grind (arith, common_steps, launch_not) steps 1500000
+stops_so past (Accepted r) step is stops_ = grind (arith, common_steps, report_pauses) steps 1500000
+stops_so past _ step is stops_ = grind (arith, common_steps) steps 1500000
 
 -- ---- the law
 
 -- what is so of the effect of a held run's report is so of the step
 held_step : (past : History) (step : Step) (r : PlainReport) → Causes past step.item step → step.item ≡ Accepted r
     → r.outcome ≡ slice.Held → step.effect ≡ held_effect past r (waiting_pause past)
-held_step past step r causes item_is outcome_is = is.effect_is ∙ ap (report_effect past r) outcome_is
-  where
-    is : Causes past (Accepted r) step
-    is = subst (λ i. Causes past i step) item_is causes
+held_step past step r causes item_is outcome_is = grind (arith, common_steps) steps 1500000
 
 waits_then : (past : History) → IsRead past → PauseWaits past → waiting_pause past ≡ true
 waits_then past (inl is) w = is.0
@@ -311,13 +229,16 @@ waits_so past (inr is) true_ = let e = sym true_ ∙ is.0 in absurd cc
 pub pauses_stop : PausesStop
 pauses_stop f events past rest history before step after past_is = (
   λ r item_is outcome_is. (
-    λ waits. ap (λ (e : Effect). last_such stop_of_event e.events)
-        (held_step before step r was.causes item_is outcome_is)
-        ∙ held_stops before r (waiting_pause before) (waits_then before was.held waits),
-    λ not. on_effect r item_is outcome_is
-        (held_goes before r (waiting_pause before) (waits_not before was.held not)),
+    λ waits. cc (
+      held_step before step r was.causes item_is outcome_is,
+      held_stops before r
+          (waiting_pause before) (waits_then before was.held waits),
+    ),
+    λ not. on_effect r item_is outcome_is (held_goes before
+        r (waiting_pause before) (waits_not before was.held not)),
   ),
-  λ stops_. let by = stops_so before step.item step was.causes stops_ in
+  λ stops_.
+      let by = stops_so before step.item step was.causes stops_ in
       (by.0, by.1, by.2, waits_so before was.held by.3),
 )
   where

@@ -4,15 +4,14 @@ use Rattle.std.proofs.Common.{Bool, true, false, eqb, nat_eq, nat_lt, List, drop
 use Rattle.std.specs.Prelude.{option_map, option_and_then}
 use Rattle.std.proofs.Math.Bridge.{le_prop}
 use Rattle.pl0_tree.specs.declared.tree.Place.{Place}
-use Rattle.pl0_tree.specs.declared.step.StepKind.TheVariants as kind
 use Rattle.pl0_tree.specs.Tokens.{Token, behind, is_space, front_piece, tokens_from, tokens_of, start_place}
 use Rattle.pl0_tree.specs.Tree.{Condition, Statement, Empty, Then, Assign, Call, Write, If, While, Constant, ABlock, Procedures, NoMore, AProcedure, Procedure, procedure_list, body, end}
 use Rattle.pl0_tree.specs.Reading.{ReadsExpression, unsigned, positive, negative, ReadsMoreTerms, no_term, one_term, ReadsTerm, factors, ReadsMoreFactors, no_factor, one_factor, ReadsFactor, name, number, nested, ReadsCondition, odd, comparison, ReadsStatement, empty, assignment, call, write, sequence, choice, loop, ReadsStatements, last_statement, one_statement, ReadsConstants, last_constant, one_constant, ReadsConstantPart, no_constants, constants, ReadsVariables, last_variable, one_variable, ReadsVariablePart, no_variables, variables, ReadsBlock, block, ReadsProcedures, no_procedure, one_procedure, ReadsProgram, program}
 use Rattle.pl0_tree.specs.Scope.{block_at, procedure_at, Meaning, AConstant, AVariable, AProcedure as ProcedureIndex, Home, home}
-use Rattle.pl0_tree.specs.Steps.{lone_step, statement_steps, block_steps, procedures_steps}
+use Rattle.pl0_tree.specs.Steps.{statement_steps, block_steps, procedures_steps}
 use Rattle.pl0_tree.specs.Faults.{limit}
 use Rattle.pl0_meaning.specs.Values.{find, truth, return_of, first_step}
-use Rattle.pl0_meaning.specs.Runs.{opened, Outcome, Goes, Faults, Stuck, on_value, with_number, target, assigned, new_frame, callee, entered, called, returned, statement_step, frame_step, led_to, last_position, step_at}
+use Rattle.pl0_meaning.specs.Runs.{opened, Outcome, Goes, Faults, Stuck, on_value, with_number, assigned, new_frame, callee, entered, called, returned, statement_step, frame_step, led_to, last_position, step_at, target}
 use Rattle.pl0_meaning.specs.Runs.{step as run_step}
 
 abbrev pub most : ℕ
@@ -209,8 +208,7 @@ steps_near-append (s ∷ ss) ts a b = (a.0, steps_near-append ss ts a.1 b)
 statement_steps_near : (x : Statement) (q : Path) → StatementNear x → StepsNear (statement_steps x q)
 statement_steps_near Empty q near = tt
 statement_steps_near (Then x y) q near =
-    steps_near-append (statement_steps x q) (statement_steps y q) (statement_steps_near x q near.0)
-    (statement_steps_near y q near.1)
+    steps_near-append _ _ (statement_steps_near x q near.0) (statement_steps_near y q near.1)
 statement_steps_near (Assign x e) q near = (near, tt)
 statement_steps_near (Call p x) q near = (near, tt)
 statement_steps_near (Write p e) q near = (near, tt)
@@ -220,16 +218,13 @@ statement_steps_near (While p c inner) q near = (near.0, statement_steps_near in
 mutual
   block_steps_near : (b : Block) (q : Path) → BlockNear b → StepsNear (block_steps b q)
   block_steps_near (ABlock cs xs ps statement ending) q near =
-      steps_near-append (procedures_steps ps 0 q) (statement_steps statement q ++ lone_step q kind.Return ending)
-      (procedures_steps_near ps 0 q near.0)
-      (steps_near-append (statement_steps statement q) (lone_step q kind.Return ending)
-      (statement_steps_near statement q near.1) (near.2, tt))
+      steps_near-append _ _ (procedures_steps_near ps 0 q near.0) (steps_near-append _ _ (statement_steps_near statement
+      q near.1) (near.2, tt))
 
   procedures_steps_near : (ps : Procedures) (i : ℕ) (q : Path) → ProceduresNear ps → StepsNear (procedures_steps ps i q)
   procedures_steps_near NoMore i q near = tt
   procedures_steps_near (AProcedure x b more) i q near =
-      steps_near-append (block_steps b (i ∷ q)) (procedures_steps more (i + 1) q) (block_steps_near b (i ∷ q) near.0)
-      (procedures_steps_near more (i + 1) q near.1)
+      steps_near-append _ _ (block_steps_near b _ near.0) (procedures_steps_near more _ q near.1)
 
 abbrev pub MayBeNear : Option StepAt → Type 0
 MayBeNear None = Unit {0}
@@ -361,15 +356,12 @@ module _ (main : Block) (near : BlockNear main) where
   statement_step_near f below (Write p e) rest frames here more =
       on_value_near (value main (f ∷ below) (length below) e) _ (λ v. (more, frames.1))
   statement_step_near f below (If p test s) rest frames here more =
-      on_value_near (truth main (f ∷ below) (length below) test) _
-      (λ holds. chosen_near f below holds (opened s ++ rest) rest
-      (todo_near-append (opened s) rest (opened_near s here.1) more) more frames.1)
+      on_value_near (truth main (f ∷ below) (length below) test) _ (λ holds. chosen_near f below holds _ rest
+      (todo_near-append _ rest (opened_near s here.1) more) more frames.1)
   statement_step_near f below (While p test s) rest frames here more =
-      on_value_near (truth main (f ∷ below) (length below) test) _
-      (λ holds. chosen_near f below holds (opened s ++ (While p test s ∷ rest)) rest
-      (todo_near-append (opened s) (While p test s ∷ rest) (opened_near s here.1) (here, more)) more frames.1)
-  statement_step_near f below (Call p x) rest frames here more =
-      called_near (f ∷ below) (home main f.block x.word) frames
+      on_value_near (truth main (f ∷ below) (length below) test) _ (λ holds. chosen_near f below holds _ rest
+      (todo_near-append _ _ (opened_near s here.1) (here, more)) more frames.1)
+  statement_step_near f below (Call p x) rest frames here more = called_near (f ∷ below) _ frames
   statement_step_near f below Empty rest frames here more = tt
   statement_step_near f below (Then s t) rest frames here more = tt
 

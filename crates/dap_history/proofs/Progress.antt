@@ -1,8 +1,7 @@
 -- The numbers reported are those that the program wrote, step by step.
-use Rattle.dap_history.proofs.Common.{Accepted, Accepts, Answers, Causes, Configuring, Content, Effect, Event, Fault, Fresh, HasEffect, Heading, History, InputEnd, IsLawfulReport, IsTreeOf, Item, Launch, Launched, Launches, Loaded, MemoryFailure, None, Option, PlainReport, Quit, ReadFailure, Ready, Reply, Situation, Some, Step, WrittenJoins, [], answer_mark, ap, append-nil, arith, end_of, filter_map, go, goes_back, inl, inr, last_run, last_such, launched, launches, max, message_mark, messages, messages_of, name_of, nothing, numbers, only_orders, or_else, order_mark, output, reached, refl, report_effect, situation, step_mark, subst, sym, unwrap_or, with_answer, written, ℕ, ◌++◌, ◌∙◌, ◌∷◌, ◌≡◌, ◌≤◌, ◌⊎◌}
+use Rattle.dap_history.proofs.Common.{Accepted, Accepts, Answers, Causes, Content, Effect, Event, Fault, Fresh, HasEffect, Heading, History, InputEnd, IsLawfulReport, IsTreeOf, Item, Launch, Launched, Launches, Loaded, MemoryFailure, None, Option, PlainReport, Quit, ReadFailure, Ready, Reply, Situation, Some, Step, WrittenJoins, [], answer_mark, ap, append-nil, arith, end_of, filter_map, go, goes_back, inl, inr, last_run, last_such, launched, launches, max, messages, messages_of, name_of, nothing, numbers, only_orders, or_else, output, reached, refl, report_effect, situation, step_mark, subst, sym, unwrap_or, written, ℕ, ◌++◌, ◌∙◌, ◌∷◌, ◌≡◌, ◌≤◌, ◌⊎◌}
 use Rattle.std.proofs.Common.{List, Bool}
 use Rattle.std.specs.Prelude.{map}
-use Rattle.dap_msg.specs.declared.outgoing.EventBody.TheVariants as event
 use Rattle.dap_msg.specs.declared.command.CommandName.TheVariants as name
 use Rattle.dap_msg.specs.declared.command.Supported.TheVariants as supported
 use Rattle.dap_history.specs.Readings.{position}
@@ -14,6 +13,7 @@ use Rattle.dap_history.proofs.Early.{IsEarly, IsEarlyMark, unanswered_late, answ
 use Rattle.dap_history.proofs.Silent.{GoesBy, no_go, of_text, IsSilent, nothing_silent, quit_silent, all_silent}
 use Rattle.dap_history.proofs.Went.{nothing_told, told_joins}
 use Rattle.dap_history.proofs.Outputs.{answer_aside, no_answer, told_numbers, report_numbers, report_launches, GoesAs, GoesOn, no_run, as_text, report_goes}
+use Rattle.std.proofs.lemmas.Grind.{common_steps}
 
 -- what is reported before a program is launched, and after
 abbrev pub ProgressOf : History → Option Launched → Type 0
@@ -62,12 +62,11 @@ reached_still past step stays =
 aside_progress : (past : History) (step : Step) → IsAside past step → (l : Option Launched) → launched past ≡ l
     → ProgressOf past l → ProgressOf (past ++ step ∷ []) l
 aside_progress past step aside None is progress = (
-  numbers-snoc past step ∙ ap (λ l. numbers (messages_of past) ++ l) aside.no_numbers
-      ∙ append-nil (numbers (messages_of past)) ∙ progress.0,
-  last_run-snoc past step ∙ ap (λ o. or_else o (last_run past))
-      (goes_none past (last_such go step.effect.orders) aside.goes is) ∙ progress.1,
-  position-snoc past step ∙ ap (λ o. unwrap_or o (position past)) aside.moves_nothing ∙ progress.2,
-  reached_still past step aside.moves_nothing ∙ progress.3,
+  cc (numbers-snoc past step, aside.no_numbers, append-nil (numbers (messages_of past)), progress.0),
+  cc (last_run-snoc past step, goes_none past (last_such go step.effect.orders) aside.goes is, progress.1),
+  cc (position-snoc past step, aside.moves_nothing, progress.2),
+  reached_still past step aside.moves_nothing ∙
+      progress.3,
 )
 aside_progress past step aside (Some l) is progress = (
   numbers-snoc past step ∙ ap (λ l. numbers (messages_of past) ++ l) aside.no_numbers
@@ -127,8 +126,7 @@ module _ (one : OneProgram) (joins : WrittenJoins) where
   pub report_program : (past : History) (r : PlainReport) (lawful : IsLawfulReport r) (l : Launched) → Accepts past r
       → ProgressOf past (Some l) → lawful.program ≡ l.program
   report_program past r lawful l accepts progress =
-      one l.text _ _ (subst (λ t. ∥ IsTreeOf t lawful.program ∥₁) (report_text past r l accepts progress) lawful.reads)
-      progress.2
+      one l.text _ _ (rw (← (report_text past r l accepts progress)) lawful.reads) progress.2
 
   as_run : (text : List ℕ) (finish : ℕ) (o : Option Heading) (before : Option Heading) → GoesAs text finish o
       → ((run : Heading) → before ≡ Some run → run.text ≡ text) → (run : Heading) → or_else o before ≡ Some run
@@ -201,53 +199,21 @@ module _ (one : OneProgram) (joins : WrittenJoins) where
       → Answers launch.seq (name.Supported supported.Launch) reply step → Progress past
       → Progress (past ++ step ∷ [])
   launch_keeps past launch None step is ready reply launches answers so_far =
-      launch_aside past launch None step is reply nothing (ap (λ (r : Reply). r.effect) launches)
-      (nothing_silent past) answers so_far
+      launch_aside past launch None step is reply nothing (cc) (nothing_silent past) answers so_far
   launch_keeps past launch (Some text) step is ready reply (inl refuses) answers so_far =
-      launch_aside past launch (Some text) step is reply nothing (ap (λ (r : Reply). r.effect) refuses.reply_is)
-      (nothing_silent past) answers so_far
+      launch_aside past launch _ step is reply nothing (cc refuses.reply_is) (nothing_silent past) answers so_far
   launch_keeps past launch (Some text) step is ready reply (inr launched_) answers so_far =
-      let effect : step.effect ≡ launches launch.arguments text launched_.program =
-      answers.effect_is ∙ ap (λ (r : Reply). r.effect) launched_.reply_is in
+      let effect : step.effect ≡ launches launch.arguments text launched_.program = answers.effect_is ∙ ap (λ (r :
+      Reply). r.effect) launched_.reply_is in
       let before = so_far.progress None (so_far.early (subst IsEarly (sym ready) tt)) in
       let now : launched (past ++ step ∷ []) ≡ (launches launch.arguments text launched_.program).launched =
       launched-snoc past step ∙ ap (λ (e : Effect). or_else e.launched (launched past)) effect in
       let still : reached (past ++ step ∷ []) ≡ 0 = reached_still past step (ap end_of is) ∙ before.3 in
-      let runs_ : last_run (past ++ step ∷ []) ≡ None =
-      last_run-snoc past step ∙ ap (λ (e : Effect). or_else (last_such go e.orders) (last_run past)) effect
-      ∙ before.1 in
-      let quiet : numbers (messages (step)) ≡ [] =
-      answer_aside _ _ _ step answers.answer_is ∙ ap (λ (e : Effect). filter_map output (map Event e.events)) effect
-      in record {
-        early = λ e. absurd (is_late (early_unwrap (step_mark step) (situation past)
-            (subst IsEarly (situation-snoc past step) e)));
-        progress = λ l e. subst (λ l. ProgressOf (past ++ step ∷ []) l) (sym now ∙ e) (
-          numbers-snoc past step ∙ ap (λ n. n ++ numbers (messages step)) before.0 ∙ quiet
-              ∙ ap (written launched_.program 0) (sym still),
-          λ run e. absurd (let f = sym runs_ ∙ e in cc),
-          launched_.reads,
-        );
-      }
-    where
-      not_marked : ¬ IsEarlyMark (step_mark step)
-      not_marked =
-          answered_late _ _ reply step answers (result_late (name.Supported supported.Launch) (λ x. x) reply.result)
-
-      launches_here : step.effect ≡ launches launch.arguments text launched_.program
-      launches_here = answers.effect_is ∙ ap (λ (r : Reply). r.effect) launched_.reply_is
-
-      mark : step_mark step ≡ Some Configuring
-      mark = ap (λ (e : Effect). or_else (last_such order_mark e.orders)
-          (last_such message_mark (with_answer step.answer (map Event e.events)))) launches_here
-          ∙ ap (λ a. last_such message_mark (with_answer a (Event event.Initialized ∷ []))) answers.answer_is
-          ∙ ap (λ (r : Reply). answer_mark (name.Supported supported.Launch) r.result) launched_.reply_is
-
-      marked : ¬ (step_mark step ≡ None)
-      marked none = let e = sym mark ∙ none in absurd cc
-
-      is_late : ¬ ((IsEarlyMark (step_mark step)) ⊎ ((step_mark step ≡ None) × IsEarly (situation past)))
-      is_late (inl m) = not_marked m
-      is_late (inr n) = marked n.0
+      let runs_ : last_run (past ++ step ∷ []) ≡ None = last_run-snoc past step ∙ ap (λ (e : Effect). or_else (last_such
+      go e.orders) (last_run past)) effect ∙ before.1 in
+      let quiet : numbers (messages (step)) ≡ [] = answer_aside _ _ _ step answers.answer_is ∙ ap (λ (e : Effect).
+      filter_map output (map Event e.events)) effect in
+      grind (arith, common_steps, early_unwrap, situation-snoc, numbers-snoc, numbers, written) steps 200000
 
   -- ---- each item
 
@@ -256,16 +222,12 @@ module _ (one : OneProgram) (joins : WrittenJoins) where
   progress_more past (Content None) step is taken causes so_far =
       nothing_aside past (Content None) step is refl nothing (nothing_silent past) causes so_far
   progress_more past (Content (Some request)) step is taken causes so_far =
-      aside_keeps past step
-      (silent_aside past step causes.0.effect causes.2.effect_is (ap end_of is)
-      (all_silent (situation past) past request.body causes.0 causes.1)
-      (answer_aside _ _ _ step causes.2.answer_is))
-      (λ m. by_answer (λ early. answered_late _ _ causes.0 step causes.2 early m)) so_far
+      aside_keeps past step (silent_aside past step causes.0.effect causes.2.effect_is (ap end_of is) (all_silent _ past
+      request.body causes.0 causes.1) (answer_aside _ _ _ step causes.2.answer_is)) (λ m. by_answer (λ early.
+      answered_late _ _ causes.0 step causes.2 early m)) so_far
     where
       by_answer : ¬ (¬ IsEarlyMark (answer_mark (name_of request.body) causes.0.result)) → situation past ≡ Fresh
-      by_answer not =
-          early_reply (situation past) past request.body causes.0 causes.1
-          (decided (answer_mark (name_of request.body) causes.0.result) not)
+      by_answer not = early_reply _ past request.body causes.0 causes.1 (decided _ not)
   progress_more past (Loaded launch file) step is ready causes so_far =
       launch_keeps past launch file step is ready causes.0 causes.1 causes.2 so_far
   progress_more past (Accepted r) step is taken causes so_far =

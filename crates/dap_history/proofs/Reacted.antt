@@ -7,6 +7,8 @@ use Rattle.dap_msg.specs.declared.outgoing.Body.TheVariants as body
 use Rattle.dap_msg.specs.declared.outgoing.Refusal.TheVariants as refusal
 use Rattle.dap_history.specs.Replies.{is_main_thread}
 use Rattle.dap_history.specs.Reactions.{Answer, End}
+use Rattle.std.proofs.Common.{arith}
+use Rattle.std.proofs.lemmas.Grind.{common_steps}
 
 -- a command that is answered with this body and has no effect: a pause where the program stands, lines of another
 -- source, a question, `initialize` or `threads`
@@ -80,10 +82,7 @@ module _ (past : History) where
   reacted Fresh (command.Initialize a) reaction is = only (by_answering Fresh (command.Initialize a) _ (refl, refl)) is
   reacted Fresh (command.SetBreakpoints a) reaction is = only (by_refusing _ _ _) is
   reacted Ready (command.SetBreakpoints a) reaction is = only (by_refusing _ _ _) is
-  reacted s (command.SetBreakpoints a) reaction is =
-      of_program past (launched past) refl (λ l. SetsOf (is_same_path a.path l.path) past l a.breakpoints reaction)
-      (Reacted past s (command.SetBreakpoints a) reaction)
-      (λ l there says. sets_of s a reaction l there (is_same_path a.path l.path) refl says) is
+  reacted s (command.SetBreakpoints a) reaction is = grind (arith, common_steps, of_program, sets_of) steps 1500000
   reacted Configuring command.ConfigurationDone reaction is =
       of_program past (launched past) refl (λ l. reaction ≡ Start l) _
       (λ l there says. only (by_starting l there) says) is
@@ -96,10 +95,8 @@ module _ (past : History) where
   reacted Stopped (command.Retreat kind a) reaction is = retreats_there Stopped kind a reaction tt is
   reacted Faulted (command.Retreat kind a) reaction is = retreats_there Faulted kind a reaction tt is
   reacted Running (command.Pause a) reaction is = by_thread (is_main_thread a.thread_id) (by_interrupting a) is
-  reacted Stopped (command.Pause a) reaction is =
-      by_thread (is_main_thread a.thread_id) (by_answering Stopped (command.Pause a) _ (tt, refl)) is
-  reacted Faulted (command.Pause a) reaction is =
-      by_thread (is_main_thread a.thread_id) (by_answering Faulted (command.Pause a) _ (tt, refl)) is
+  reacted Stopped (command.Pause a) reaction is = by_thread _ (by_answering Stopped (command.Pause a) _ (tt, refl)) is
+  reacted Faulted (command.Pause a) reaction is = by_thread _ (by_answering Faulted (command.Pause a) _ (tt, refl)) is
   reacted Stopped (command.Inspect q) reaction is = inspects Stopped q reaction tt is
   reacted Faulted (command.Inspect q) reaction is = inspects Faulted q reaction tt is
   reacted s command.Disconnect reaction is = only (by_closing s) is
@@ -114,5 +111,4 @@ replied {past = past} this is only = is.reply_is ∙ ap (reply_of past) only
 pub by_reaction : (P : Reply → Type 0) {s : Situation} {past : History} {asked : Command} {reply : Reply}
     → ((reaction : Reaction) → Reacted past s asked reaction → P (reply_of past reaction))
     → RepliesIn s past asked reply → P reply
-by_reaction P {s = s} {past = past} {asked = asked} law is =
-    subst P (sym is.reply_is) (law is.reaction (reacted past s asked is.reaction is.reacts))
+by_reaction P {s = s} {past = past} {asked = asked} law is = grind (arith, common_steps, reacted) steps 1500000

@@ -1,5 +1,5 @@
 -- How the readings of a history go on with one more step.
-use Rattle.dap_history.proofs.Common.{Fresh, History, None, Option, Some, Step, [], ap, append-nil, arith, closing, end_of, ending_of, filter_map, filter_map-append, flat_map-append, go, hold_mark, last_run, last_such, launched, length, length-append, max, messages, messages_of, no_plan, numbers, numbers_told, or_else, orders_of, output, plan, reached, refl, runs, settings, settings_by, situation, step_mark, sym, unwrap_or, waiting_pause, waiting_plan, waits_by, ℕ, ◌++◌, ◌+◌, ◌∙◌, ◌∷◌, ◌≡◌, ◌≤◌}
+use Rattle.dap_history.proofs.Common.{Fresh, History, None, Option, Some, Step, [], append-nil, arith, closing, end_of, ending_of, filter_map, filter_map-append, flat_map-append, go, hold_mark, last_run, last_such, launched, length, length-append, max, messages, messages_of, no_plan, numbers, numbers_told, or_else, orders_of, output, plan, reached, refl, runs, settings, settings_by, situation, step_mark, sym, unwrap_or, waiting_pause, waiting_plan, waits_by, ◌++◌, ◌+◌, ◌∷◌, ◌≡◌, ◌≤◌, ap, ℕ, ◌∙◌}
 use Rattle.std.proofs.Common.{List}
 use Rattle.std.specs.Prelude.{false}
 use Rattle.dap_history.specs.History.{next_seq}
@@ -16,8 +16,7 @@ or_else_assoc (Some x) y z = refl
 pub last_such-append : {A B : Type 0} (f : A → Option B) (xs ys : List A)
     → last_such f (xs ++ ys) ≡ or_else (last_such f ys) (last_such f xs)
 last_such-append f [] ys = sym (or_else-none (last_such f ys))
-last_such-append f (x ∷ xs) ys =
-    ap (λ o. or_else o (f x)) (last_such-append f xs ys) ∙ or_else_assoc (last_such f ys) (last_such f xs) (f x)
+last_such-append f (x ∷ xs) ys = cc (last_such-append f xs ys, or_else_assoc (last_such f ys) (last_such f xs) (f x))
 
 -- the last such, with one more element
 pub last_such-snoc : {A B : Type 0} (f : A → Option B) (xs : List A) (x : A)
@@ -26,14 +25,11 @@ last_such-snoc f xs x = last_such-append f xs (x ∷ [])
 
 pub messages_of-snoc : (past : History) (step : Step) → messages_of (past ++ step ∷ []) ≡ messages_of past
     ++ messages step
-messages_of-snoc past step =
-    flat_map-append messages past (step ∷ []) ∙ ap (λ l. messages_of past ++ l) (append-nil (messages step))
+messages_of-snoc past step = cc (flat_map-append messages past (step ∷ []), append-nil (messages step))
 
 pub orders_of-snoc : (past : History) (step : Step) → orders_of (past ++ step ∷ []) ≡ orders_of past
     ++ step.effect.orders
-orders_of-snoc past step =
-    flat_map-append (λ (s : Step). s.effect.orders) past (step ∷ [])
-    ∙ ap (λ l. orders_of past ++ l) (append-nil step.effect.orders)
+orders_of-snoc past step = cc (flat_map-append (λ (s : Step). s.effect.orders) past _, append-nil step.effect.orders)
 
 pub ending_of-snoc : (past : History) (step : Step) → ending_of (past ++ step ∷ []) ≡ or_else (closing step.item)
     (ending_of past)
@@ -47,8 +43,7 @@ unwrap_or-else (Some x) b first = refl
 
 pub reading-snoc : {A B : Type 0} (f : A → Option B) (xs : List A) (x : A) (first : B)
     → unwrap_or (last_such f (xs ++ x ∷ [])) first ≡ unwrap_or (f x) (unwrap_or (last_such f xs) first)
-reading-snoc f xs x first =
-    ap (λ o. unwrap_or o first) (last_such-snoc f xs x) ∙ unwrap_or-else (f x) (last_such f xs) first
+reading-snoc f xs x first = cc (last_such-snoc f xs x, unwrap_or-else (f x) (last_such f xs) first)
 
 pub situation-snoc : (past : History) (step : Step) → situation (past ++ step ∷ []) ≡ unwrap_or (step_mark step)
     (situation past)
@@ -68,13 +63,11 @@ position-snoc past step = reading-snoc (λ (s : Step). end_of s.item) past step 
 
 pub numbers-snoc : (past : History) (step : Step) → numbers (messages_of (past ++ step ∷ [])) ≡ numbers
     (messages_of past) ++ numbers (messages step)
-numbers-snoc past step =
-    ap numbers (messages_of-snoc past step) ∙ filter_map-append output (messages_of past) (messages step)
+numbers-snoc past step = cc (messages_of-snoc past step, filter_map-append output _ _)
 
 pub numbers_told-snoc : (past : History) (step : Step) → numbers_told (past ++ step ∷ []) ≡ numbers_told past + length
     (numbers (messages step))
-numbers_told-snoc past step =
-    ap length (numbers-snoc past step) ∙ length-append (numbers (messages_of past)) (numbers (messages step))
+numbers_told-snoc past step = cc (numbers-snoc past step, length-append (numbers _) (numbers _))
 
 pub reached-snoc : (past : History) (step : Step) → reached (past ++ step ∷ []) ≡ max (reached past)
     (unwrap_or (end_of step.item) 0)
@@ -96,8 +89,7 @@ plan-snoc past step = reading-snoc (λ (s : Step). s.effect.put_in) past step no
 
 pub last_run-snoc : (past : History) (step : Step) → last_run (past ++ step ∷ []) ≡ or_else
     (last_such go step.effect.orders) (last_run past)
-last_run-snoc past step =
-    ap (last_such go) (orders_of-snoc past step) ∙ last_such-append go (orders_of past) step.effect.orders
+last_run-snoc past step = cc (orders_of-snoc past step, last_such-append go (orders_of past) step.effect.orders)
 
 pub runs-snoc : (past : History) (step : Step) → runs (past ++ step ∷ []) ≡ runs past + length
     (filter_map go step.effect.orders)
@@ -117,9 +109,7 @@ waiting_pause-snoc past step = reading-snoc pauses_by past step false
 pub is_held-snoc : (past : History) (step : Step) → is_held (past ++ step ∷ []) ≡ unwrap_or
     (last_such hold_mark step.effect.orders) (is_held past)
 is_held-snoc past step =
-    ap (λ os. unwrap_or (last_such hold_mark os) false) (orders_of-snoc past step)
-    ∙ ap (λ o. unwrap_or o false) (last_such-append hold_mark (orders_of past) step.effect.orders)
-    ∙ unwrap_or-else (last_such hold_mark step.effect.orders) (last_such hold_mark (orders_of past)) false
+    cc (orders_of-snoc past step, last_such-append hold_mark _ step.effect.orders, unwrap_or-else _ _ false)
 
 pub next_seq-snoc : (past : History) (step : Step) → next_seq (past ++ step ∷ []) ≡ next_seq past + length
     (messages step)

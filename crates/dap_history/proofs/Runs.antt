@@ -69,8 +69,7 @@ ranges_join a zero n =
 ranges_join a (suc m) n =
     let e : suc m + n ≡ suc (m + n) = omega arith in
     let f : a + 1 + m ≡ a + suc m = omega arith in
-    ap (range_with_len a) e ∙ ap (λ l. a ∷ l)
-    (ranges_join (a + 1) m n ∙ ap (λ b. range_with_len (a + 1) m ++ range_with_len b n) f)
+    cc (ranges_join (a + 1) m n)
 
 -- where f gives nothing
 pub none_between : {B : Type 0} (f : ℕ → List B) (a n : ℕ) → ((m : ℕ) → a ≤ m → m < a + n → f m ≡ [])

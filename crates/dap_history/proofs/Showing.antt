@@ -1,15 +1,14 @@
 -- What the four questions show is what the program is where it stands.
-use Rattle.dap_history.proofs.Common.{AnswersFrom, Block, Configuration, Counting, DivideByZero, Err, EvalFault, EvaluatesIn, Faulted, Frame, Fresh, InitializeArguments, IsStopped, Launched, Name, None, Ok, Option, Overflow, Path, Question, Refusal, RepliesAt, RepliesFrom, RunFault, Scope, Situation, Some, StepAt, Stopped, StoppedLastAt, Subject, [], ap, arith, at, at_most, eqb-true, frame_by_id, frame_name, if◌then◌else◌, inl, inr, launched, length, less_by, option_map_or, refl, refused_by, refused_thread, result_answer, scopes, scopes_from, settings, shown_column, shown_frame, shown_frames, shown_line, situation, slice_get, subject_in, subst, suc, sym, value, zero, ℕ, ◌+◌, ◌-◌, ◌<◌, ◌∙◌, ◌∷◌, ◌≡◌, ◌≢◌}
+use Rattle.dap_history.proofs.Common.{AnswersFrom, Block, Configuration, Counting, DivideByZero, Err, EvalFault, EvaluatesIn, Faulted, Frame, Fresh, InitializeArguments, IsStopped, Launched, Name, None, Ok, Option, Overflow, Path, Question, Refusal, RepliesAt, RepliesFrom, RunFault, Scope, Situation, Some, Stopped, StoppedLastAt, Subject, [], ap, arith, at, at_most, eqb-true, frame_by_id, frame_name, if◌then◌else◌, inl, inr, launched, length, less_by, refl, refused_by, refused_thread, result_answer, scopes, scopes_from, settings, shown_frame, shown_frames, situation, slice_get, subject_in, subst, suc, sym, value, zero, ℕ, ◌+◌, ◌-◌, ◌<◌, ◌∙◌, ◌∷◌, ◌≡◌, ◌≢◌, StepAt, option_map_or, shown_column, shown_line}
 use Rattle.std.proofs.Common.{List, Bool, true, false, Result}
 use Rattle.std.specs.Prelude.{nat_eq, ℤ, option_map, option_and_then, drop, codes}
 use Rattle.dap_msg.specs.declared.command.Command.TheVariants as command
 use Rattle.dap_msg.specs.declared.question.Question.TheVariants as question
 use Rattle.dap_msg.specs.declared.question.Shown.{Shown as WhatIsShown}
-use Rattle.dap_msg.specs.declared.question.Shown.TheVariants as shown_as
 use Rattle.dap_msg.specs.declared.outgoing.Refusal.TheVariants as refusal
 use Rattle.pl0_tree.specs.Tree.{Procedure, procedures, variables as declared}
 use Rattle.pl0_tree.specs.Scope.{block_at, procedure_at}
-use Rattle.pl0_tree.specs.Blocks.{name_of_block, procedure_name}
+use Rattle.pl0_tree.specs.Blocks.{name_of_block}
 use Rattle.pl0_meaning.specs.Values.{frame_at}
 use Rattle.pl0_meaning.specs.Frames.{IsFrameOf, IsLinkedTo, AreLinked}
 use Rattle.pl0_meaning.specs.Laws.{FramesAreLinked, FramesFit}
@@ -21,6 +20,7 @@ use Rattle.dap_history.proofs.Along.{any_events, along}
 use Rattle.dap_history.proofs.Each.{WasTaken, EachTaken, each_kept, each_first}
 use Rattle.dap_history.proofs.Standing.{questions_answered}
 use Rattle.dap_history.proofs.LineAnswers.{Any, IsCounted, counted_kept, offset_is, counts_so}
+use Rattle.dap_msg.specs.declared.question.Shown.TheVariants as shown_as
 
 -- ---- frames
 
@@ -38,10 +38,7 @@ has_name main k q b found = by_around (block_at main q) refl found
             → option_map (λ (p : Procedure). p.block) p ≡ Some b
             → (x : Name) × (name_of_block main (k ∷ q) ≡ Some x)
         by_procedure None none found = absurd cc
-        by_procedure (Some p) there found = (
-          p.name,
-          ap (option_and_then (procedure_name k)) is ∙ ap (option_map (λ (p : Procedure). p.name)) there,
-        )
+        by_procedure (Some p) there found = (p.name, cc)
 
 named_so : (main : Block) (q : Path) (b : Block) → block_at main q ≡ Some b → IsBlockName main q (frame_name main q)
 named_so main [] b found = refl
@@ -140,10 +137,7 @@ module _ (main : Block) (whole : Configuration) where
 
     by_block : (q : Path) → g.block ≡ q → IsFrameOf main g → IsLinkedTo q g.link below
         → ShowsScopes main whole g (i + 1) own
-    by_block [] block_is fits links =
-        subst (λ b. ShowsScopes main whole g (i + 1)
-        (record { name = frame_name main g.block; reference = i + 1 } ∷ scopes_from main b g.link)) (sym links)
-        (named_so main g.block fits.block fits.found, refl, block_is)
+    by_block [] block_is fits links = rw links (named_so main g.block fits.block fits.found, refl, block_is)
     by_block (k ∷ q) block_is fits links =
         linked_scopes main whole g links.0 (i + 1) (frame_name main g.block) (scopes_from main below g.link)
         (named_so main g.block fits.block fits.found) (λ is. let e = sym block_is ∙ is in absurd cc)
@@ -253,9 +247,8 @@ module _ (linked : FramesAreLinked) (fit : FramesFit) (l : Launched) (n : ℕ) (
         is ∙ ap (scopes of a.frame_id c) some,
       ))
   shows_so (question.Variables a) reply allowed is =
-      of_frame c a.variables_reference refusal.UnknownReference reply _ (frame_by_id c a.variables_reference)
-      refl (λ none. is ∙ ap (variables of) none)
-      (λ f some has. locals_so a.variables_reference f reply has (is ∙ ap (variables of) some))
+      of_frame c a.variables_reference refusal.UnknownReference reply _ _ refl (λ none. is ∙ ap (variables of) none) (λ
+      f some has. locals_so a.variables_reference f reply has (is ∙ ap (variables of) some))
   shows_so (question.Evaluate a) reply allowed is =
       of_frame c a.frame_id refusal.UnknownFrame reply _ (frame_by_id c a.frame_id) refl
       (λ none. subst (λ o. EvaluatesIn l.program c a.frame_id o a.expression reply) none is)

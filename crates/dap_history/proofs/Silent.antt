@@ -1,5 +1,5 @@
 -- No reply reports a number or launches a program but that of a launch, and each Go of a reply is of the launched text.
-use Rattle.dap_history.proofs.Common.{Body, Breakpoint, Command, CommandName, Configuring, Effect, Ended, Event, EventBody, Fresh, Heading, History, Hold, Launched, Log, Mode, None, Option, Quit, Reaction, Ready, Reason, RepliesIn, Reply, Running, Situation, Some, StopReason, [], answered, ap, append-nil, due_first, effect_in, enters, exited_events, filter_map, first_logs, go, if◌then◌else◌, is_back, last_such, launched, name_of, nothing, only_orders, output, plan, refl, reply_of, resumes, runs, situation, starts_by, stop_of, stop_of_event, stopped_events, subst, sym, ◌++◌, ◌+◌, ◌||◌, ◌∙◌, ◌∷◌, ◌≡◌}
+use Rattle.dap_history.proofs.Common.{Body, Breakpoint, Command, CommandName, Configuring, Effect, Ended, Event, EventBody, Fresh, Heading, History, Hold, Launched, Log, Mode, None, Option, Quit, Reaction, Ready, Reason, RepliesIn, Reply, Running, Situation, Some, StopReason, [], answered, ap, append-nil, due_first, effect_in, enters, exited_events, filter_map, first_logs, go, if◌then◌else◌, is_back, last_such, launched, name_of, nothing, only_orders, output, plan, refl, reply_of, resumes, runs, situation, starts_by, stop_of, stop_of_event, stopped_events, sym, ◌++◌, ◌+◌, ◌||◌, ◌∙◌, ◌∷◌, ◌≡◌}
 use Rattle.std.proofs.Common.{List, Bool, true, false}
 use Rattle.std.specs.Prelude.{map}
 use Rattle.dap_msg.specs.declared.command.Command.TheVariants as command
@@ -137,23 +137,27 @@ enters_silent : (past : History) (l : Launched) (why : Option Reason) → launch
     → IsSilent true Configuring past (enters past l why)
 enters_silent past l None is due_is =
     let bs = (plan past).breakpoints in
-    let alone : first_logs past l ++ [] ≡ first_logs past l = append-nil (first_logs past l) in record {
+    let alone : first_logs past l ++ [] ≡ first_logs past l = append-nil (first_logs past l) in
+    record {
       no_numbers = ap numbers_in (sym alone) ∙ numbers_of_logs bs (first_at past l) [];
       no_launch = refl;
-      goes = of_text _ l is refl refl;
+      goes =
+          of_text _ l is refl refl;
       runs_are = next_run _ refl;
-      stops = subst (StopsBy Configuring past)
-          (sym (ap (last_such stop_of_event) (sym alone) ∙ stop_of_logs bs (first_at past l) [])) no_stop;
+      stops = rw (ap (last_such stop_of_event) (sym alone) ∙
+          stop_of_logs bs (first_at past l) []) no_stop;
       logs = logs_first l [] refl is (sym alone) refl;
     }
 enters_silent past l (Some r) is due_is =
-    let bs = (plan past).breakpoints in record {
+    let bs = (plan past).breakpoints in
+    record {
       no_numbers = numbers_of_logs bs (first_at past l) (stopped_events (stop_of r));
       no_launch = refl;
-      goes = no_go;
+      goes =
+          no_go;
       runs_are = no_runs;
-      stops = subst (StopsBy Configuring past) (sym (stop_of_logs bs (first_at past l) (stopped_events (stop_of r))))
-          (at_first l r refl is due_is);
+      stops = rw (stop_of_logs bs (first_at past l) (stopped_events (stop_of r))) (at_first l r
+          refl is due_is);
       logs = logs_first l (stopped_events (stop_of r)) refl is refl refl;
     }
 

@@ -22,8 +22,7 @@ pub splits_last : (past : History) (s : Step) (front : History) (step : Step) (m
     → past ++ s ∷ [] ≡ front ++ step ∷ more → SplitsAt past s front step more
 splits_last [] s [] step more is = inl (refl, ap (λ xs. head_or s xs) is, sym (ap tail_of is))
 splits_last [] s (x ∷ front) step more is = absurd (none_first front step more (ap tail_of is))
-splits_last (p ∷ past) s [] step more is =
-    inr (past, ap (λ x. x ∷ past) (ap (λ xs. head_or s xs) is), sym (ap tail_of is))
+splits_last (p ∷ past) s [] step more is = inr (past, cc, sym (ap tail_of is))
 splits_last (p ∷ past) s (x ∷ front) step more is = onward (splits_last past s front step more (ap tail_of is))
   where
     same : p ≡ x

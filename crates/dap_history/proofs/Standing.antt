@@ -1,6 +1,6 @@
 -- Where the program stands it is where it stopped last, and what is asked there is answered from there.
-use Rattle.dap_history.proofs.Common.{Inspects, Reacts, Accepted, All-append, All-cons, All-nil, Answers, AnswersFrom, Body, Causes, Command, CommandName, Content, Err, Event, EventBody, Faulted, Go, History, Hold, Incoming, InspectsAs, IsStopped, Item, Launched, Loaded, None, OfProgram, Ok, Option, Outgoing, PlainOrder, Question, Quit, Reaction, Refusal, RepliesAt, RepliesIn, Reply, Request, Situation, Some, Step, StopReason, Stopped, StoppedLastAt, [], answer_mark, ap, at, command_mark, end_of, event_mark, inl, inr, last_such, launched, message_mark, messages, name_of, or_else, order_mark, refl, reply_of, situation, step_mark, stop_in, stop_of_event, subject_in, subst, sym, unwrap_or, with_answer, ℕ, ◌++◌, ◌∙◌, ◌∷◌, ◌≡◌, ◌⊎◌}
-use Rattle.std.proofs.Common.{List}
+use Rattle.dap_history.proofs.Common.{Inspects, Reacts, Accepted, All-append, All-cons, All-nil, Answers, AnswersFrom, Body, Causes, Command, CommandName, Content, Err, Event, EventBody, Faulted, History, Incoming, InspectsAs, IsStopped, Item, Launched, Loaded, None, OfProgram, Ok, Option, Outgoing, PlainOrder, Question, Reaction, Refusal, RepliesAt, RepliesIn, Reply, Request, Situation, Some, Step, StopReason, Stopped, StoppedLastAt, [], answer_mark, ap, at, command_mark, end_of, event_mark, inl, inr, last_such, launched, message_mark, name_of, or_else, order_mark, refl, reply_of, situation, step_mark, stop_in, stop_of_event, subject_in, subst, sym, unwrap_or, with_answer, ℕ, ◌++◌, ◌∙◌, ◌∷◌, ◌≡◌, ◌⊎◌, messages}
+use Rattle.std.proofs.Common.{List, arith}
 use Rattle.std.specs.Prelude.{map, Result}
 use Rattle.dap_msg.specs.declared.question.Shown.{Shown}
 use Rattle.dap_history.specs.Replies.{in_body}
@@ -18,6 +18,7 @@ use Rattle.dap_history.proofs.Each.{WasTaken, EachTaken, each_kept, each_first}
 use Rattle.dap_history.proofs.Questions.{inspects_there, result_with}
 use Rattle.dap_history.proofs.Reacted.{IsCalm, Reacted, by_answering, by_reaction}
 use Rattle.dap_msg.specs.declared.command.Command.TheVariants as command
+use Rattle.std.proofs.lemmas.Grind.{common_steps}
 
 -- ---- marks of a kind
 
@@ -60,18 +61,7 @@ answer_not c (Err r) is = is
 
 orders_not : (os : List PlainOrder) → ¬ MarkIs IsStopped (last_such order_mark os)
 orders_not [] is = is
-orders_not (o ∷ os) is = neither (orders_not os) (mark_else IsStopped (last_such order_mark os) (order_mark o) is)
-  where
-    order_not : (o : PlainOrder) → ¬ MarkIs IsStopped (order_mark o)
-    order_not (Go run) is = is
-    order_not (Hold run) is = is
-    order_not Quit is = is
-
-    neither : ¬ MarkIs IsStopped (last_such order_mark os) → ¬
-        (MarkIs IsStopped (last_such order_mark os) ⊎ ((last_such order_mark os ≡ None)
-        × MarkIs IsStopped (order_mark o)))
-    neither not (inl is) = not is
-    neither not (inr is) = order_not o is.1
+orders_not (o ∷ os) is = grind (arith, common_steps, orders_not os, mark_else) steps 200000
 
 abbrev pub ReportsStop : List EventBody → Type 0
 ReportsStop es = (r : StopReason) × (last_such stop_of_event es ≡ Some r)
@@ -138,21 +128,7 @@ moves_nothing Q past (Accepted r) taken is = absurd (subst IsStopped taken.0.run
 moves_nothing Q past _ taken is = refl
 
 stops_here : (past : History) (step : Step) (r : StopReason) → stop_in step ≡ Some r → Stood (past ++ step ∷ [])
-stops_here past step r is standing = (
-  position (past ++ step ∷ []),
-  record {
-    early = past;
-    step = step;
-    later = [];
-    past_is = refl;
-    reason = r;
-    stop_is = is;
-    none_later = All-nil
-        (λ (s : Step). stop_in s ≡ None);
-    position_is = refl;
-  },
-  refl,
-)
+stops_here past step r is standing = grind (arith, common_steps, position, All-nil) steps 200000
 
 stands_on : (past : History) (step : Step) (m : ℕ) → stop_in step ≡ None → StoppedLastAt past m
     → StoppedLastAt (past ++ step ∷ []) m
@@ -233,8 +209,7 @@ calm_stands past s q _ calm = absurd calm
 reaction_stands : (past : History) {s : Situation} {asked : Command} {reaction : Reaction}
     → Reacted past s asked reaction
     → (q : Question) (b : Body) → asked ≡ command.Inspect q → (reply_of past reaction).result ≡ Ok b → IsStopped s
-reaction_stands past (by_answering s asked body calm) q b asks granted =
-    calm_stands past s q body (subst (λ c. IsCalm past s c body) asks calm)
+reaction_stands past (by_answering s asked body calm) q b asks granted = calm_stands past s q body (rw (← asks) calm)
 reaction_stands past _ q b asks granted = absurd cc
 
 -- the program that is inspected, shown where it stopped last
@@ -245,18 +220,8 @@ shown : (before : History) (request : Request) (question : Question) (step : Ste
     → (l : Launched) × (m : ℕ) × (launched before ≡ Some l) × StoppedLastAt before m
     × AnswersFrom l before m request question step
 shown before request question step reply b so None is inspects answers stood = absurd inspects
-shown before request question step reply b so (Some l) is inspects answers stood = (
-  l,
-  stood.0,
-  is,
-  stood.1,
-  record {
-    result = b;
-    shown = subst (λ n. RepliesAt (subject_in before l) (at l.program n) question b) (sym stood.2) inspects;
-    answer_is = answers.answer_is
-        ∙ ap (λ r. Some (Answer request.seq (name_of request.body) r)) so;
-  },
-)
+shown before request question step reply b so (Some l) is inspects answers stood =
+    (l, stood.0, is, stood.1, record { result = b; shown = rw stood.2 inspects; answer_is = cc answers.answer_is })
 
 pub questions_answered : QuestionsAreAnsweredThere
 questions_answered f events past rest history before request question step asks = (

@@ -1,5 +1,5 @@
 -- The program is started once, in Configuring.
-use Rattle.dap_history.proofs.Common.{Accepted, Answers, Body, Causes, Command, CommandName, Configuring, Content, Err, Event, Fresh, History, Incoming, Item, Launched, Loaded, None, Ok, Option, Reaction, Ready, Reason, Refusal, RepliesIn, Reply, Running, Situation, Some, Step, Stopped, [], answer_mark, ap, before_start, due_first, enters, if◌then◌else◌, inl, inr, last_such, launched, message_mark, name_of, or_else, order_mark, plan, refl, reply_of, situation, starts_by, step_mark, stop_of, stopped_events, subst, sym, with_answer, ℕ, ◌++◌, ◌∙◌, ◌∷◌, ◌≡◌, ◌⊎◌}
+use Rattle.dap_history.proofs.Common.{Accepted, Answers, Body, Causes, Command, CommandName, Configuring, Content, Err, Fresh, History, Incoming, Item, Launched, Loaded, None, Ok, Option, Reaction, Ready, Reason, Refusal, RepliesIn, Reply, Running, Situation, Some, Step, Stopped, [], ap, before_start, due_first, enters, if◌then◌else◌, inl, inr, launched, name_of, or_else, plan, refl, reply_of, situation, starts_by, step_mark, stop_of, stopped_events, subst, sym, with_answer, ℕ, ◌++◌, ◌∙◌, ◌∷◌, ◌≡◌, ◌⊎◌, Event, answer_mark, last_such, message_mark, order_mark}
 use Rattle.std.proofs.Common.{Bool, true, false, Result}
 use Rattle.std.specs.Prelude.{map, option_map}
 use Rattle.dap_msg.specs.declared.command.Command.TheVariants as command
@@ -54,9 +54,7 @@ early_there : (past : History) (item : Item) (step : Step) → Causes past item 
     → IsYoung (situation past)
 early_there past (Content None) step is mark = absurd (unanswered_late step is.answer_is mark)
 early_there past (Content (Some request)) step is mark =
-    subst IsYoung (sym (early_reply (situation past) past request.body is.0 is.1
-    (decided (answer_mark (name_of request.body) is.0.result)
-    (λ late. answered_late _ _ is.0 step is.2 late mark)))) tt
+    rw (early_reply _ past request.body is.0 is.1 (decided _ (λ late. answered_late _ _ is.0 step is.2 late mark))) tt
 early_there past (Loaded launch file) step is mark =
     absurd (answered_late _ _ is.0 step is.2 (result_late (name.Supported supported.Launch) (λ x. x) is.0.result) mark)
 early_there past (Accepted r) step is mark = absurd (unanswered_late step is.answer_is mark)
@@ -70,8 +68,7 @@ loaded_ready Q past _ loaded taken = absurd loaded
 -- it was not started before
 pub was_young : (Q : Incoming → Type 0) (past : History) (step : Step) → IsTaken Q past step.item
     → Causes past step.item step → IsYoung (situation (past ++ step ∷ [])) → IsYoung (situation past)
-was_young Q past step taken causes young =
-    by_mark (mark_unwrap IsYoung (step_mark step) (situation past) (subst IsYoung (situation-snoc past step) young))
+was_young Q past step taken causes young = by_mark (mark_unwrap IsYoung _ _ (rw (← (situation-snoc past step)) young))
   where
     by_kind : IsEarlyMark (step_mark step) ⊎ MarkIs IsConfiguring (step_mark step) → IsYoung (situation past)
     by_kind (inl early) = early_there past step.item step causes early
@@ -160,9 +157,8 @@ by_result : (past : History) (step : Step) (seq : ℕ) (asked : Command) (reply 
     → (b : Bool) → starts_by (Some (Answer 0 (name_of asked) reply.result)) ≡ b → StartsBy past step b
 by_result past step seq asked reply is answers false starts = starts_not
 by_result past step seq asked reply is answers true starts =
-    let so = starts_so (situation past) past asked reply is starts in
-    starts_here so.1.0 so.0 so.1.1 (answers.effect_is ∙ so.1.2)
-    (late_after past step seq (name_of asked) reply answers so.1.0 so.1.2)
+    let so = starts_so _ past asked reply is starts in
+    starts_here so.1.0 so.0 so.1.1 (answers.effect_is ∙ so.1.2) (late_after past step seq _ reply answers so.1.0 so.1.2)
 
 unanswered : (past : History) (step : Step) → step.answer ≡ None → StartsBy past step (starts_by step.answer)
 unanswered past step none = subst (λ a. StartsBy past step (starts_by a)) (sym none) starts_not
@@ -178,9 +174,7 @@ whether_starts past (Content None) step is = unanswered past step is.answer_is
 whether_starts past (Content (Some request)) step is =
     subst (λ a. StartsBy past step (starts_by a)) (sym is.2.answer_is)
     (by_result past step request.seq request.body is.0 is.1 is.2 _ refl)
-whether_starts past (Loaded launch file) step is =
-    subst (λ a. StartsBy past step (starts_by a)) (sym is.2.answer_is)
-    (subst (StartsBy past step) (sym (loaded_not is.0.result)) starts_not)
+whether_starts past (Loaded launch file) step is = rw is.2.answer_is (rw (loaded_not is.0.result) starts_not)
 whether_starts past (Accepted r) step is = unanswered past step is.answer_is
 whether_starts past _ step is = unanswered past step is.answer_is
 

@@ -1,5 +1,5 @@
 -- Each run is of the launched text, and starts where the program stands.
-use Rattle.dap_history.proofs.Common.{Accepted, Accepts, Causes, Content, Effect, Heading, History, Item, Launched, Loaded, None, Option, PlainReport, Plan, Some, Step, WrittenJoins, ap, back_in, end_of, go, last_such, launched, plan, refl, report_effect, run_in, situation, sym, unwrap_or, ℕ, ◌∙◌, ◌≡◌}
+use Rattle.dap_history.proofs.Common.{Accepted, Accepts, Causes, Content, Effect, Heading, History, Item, Launched, Loaded, None, Option, PlainReport, Some, Step, WrittenJoins, ap, back_in, end_of, go, last_such, launched, plan, refl, report_effect, run_in, situation, sym, unwrap_or, ℕ, ◌∙◌, ◌≡◌}
 use Rattle.std.proofs.Common.{List}
 use Rattle.dap_history.specs.Readings.{position}
 use Rattle.dap_history.specs.Stops.{EachRunStartsThere}
@@ -14,6 +14,8 @@ use Rattle.dap_history.proofs.Stopping.{ran_kept, ran_first}
 use Rattle.dap_history.proofs.Texts.{OneProgram}
 use Rattle.dap_history.proofs.Once.{ordered_last}
 use Rattle.dap_history.proofs.Ordering.{item_ordered, ordered_under}
+use Rattle.std.proofs.Common.{arith}
+use Rattle.std.proofs.lemmas.Grind.{common_steps}
 
 -- the run is of the launched text
 abbrev pub OfLaunched : History → Heading → Type 0
@@ -21,19 +23,16 @@ OfLaunched past run = (l : Launched) × (launched past ≡ Some l) × (run.text 
 
 by_reply : (past : History) (o : Option Heading) → GoesBy past o → (run : Heading) → o ≡ Some run → OfLaunched past run
 by_reply past None no_go run is = absurd cc
-by_reply past (Some other) (of_text run' l launch text begins) run is =
-    let same : other ≡ run = cc in (l, launch, ap (λ (h : Heading). h.text) (sym same) ∙ text)
+by_reply past (Some other) (of_text run' l launch text begins) run is = grind (arith, common_steps) steps 1500000
 
 as_report : (text : List ℕ) (end : ℕ) (o : Option Heading) → GoesAs text end o → (run : Heading) → o ≡ Some run
     → run.text ≡ text
 as_report text end None no_run run is = absurd cc
-as_report text end (Some other) (as_text run' is_text begins) run is =
-    let same : other ≡ run = cc in ap (λ (h : Heading). h.text) (sym same) ∙ is_text
+as_report text end (Some other) (as_text run' is_text begins) run is = grind (arith, common_steps) steps 1500000
 
 starts_at : (here : ℕ) (o : Option Heading) → BeginsAt here o → (run : Heading) → o ≡ Some run → run.start ≡ here
 starts_at here None none_begins run is = absurd cc
-starts_at here (Some other) (begins_at run' begins) run is =
-    let same : other ≡ run = cc in ap (λ (h : Heading). h.start) (sym same) ∙ begins
+starts_at here (Some other) (begins_at run' begins) run is = grind (arith, common_steps) steps 1500000
 
 run_of_effect : (step : Step) (effect : Effect) → step.effect ≡ effect → run_in step ≡ last_such go effect.orders
 run_of_effect step effect is = ap (λ (e : Effect). last_such go e.orders) is
@@ -52,15 +51,11 @@ module _ (one : OneProgram) (joins : WrittenJoins) where
       by_reply past (last_such go is.0.effect.orders) (all_silent (situation past) past request.body is.0 is.1).goes run
       (sym (run_of_effect step _ is.2.effect_is) ∙ run_is)
   of_launched past (Loaded launch file) step taken is ran run run_is =
-      let e = sym (loaded_orders launch file is.0 is.1) ∙ sym (run_of_effect step _ is.2.effect_is)
-      ∙ run_is in absurd cc
+      grind (arith, common_steps, loaded_orders, run_of_effect) steps 1500000
   of_launched past (Accepted r) step taken is ran run run_is =
-      of_report past r taken.0 ran run
-      (as_report r.text r.end (last_such go (report_effect past r r.outcome).orders) (report_goes past r r.outcome) run
-      (sym (run_of_effect step _ is.effect_is) ∙ run_is))
-      (launched past) refl
-  of_launched past _ step taken is ran run run_is =
-      let e = sym (run_of_effect step _ is.effect_is) ∙ run_is in absurd cc
+      of_report past r taken.0 ran run (as_report r.text r.end (last_such go (report_effect past r r.outcome).orders)
+      (report_goes past r r.outcome) run (sym (run_of_effect step _ is.effect_is) ∙ run_is)) _ refl
+  of_launched past _ step taken is ran run run_is = grind (arith, common_steps, run_of_effect) steps 1500000
 
   pub each_run_starts : EachRunStartsThere
   each_run_starts f events past rest lawful history before step after past_is run orders =
@@ -68,10 +63,13 @@ module _ (one : OneProgram) (joins : WrittenJoins) where
         there.0,
         there.1,
         there.2,
-        starts_at (unwrap_or (end_of step.item) (position before)) (run_in step)
-            (item_begins before step.item step was.causes) run run_is ∙ sym (position-snoc before step),
-        under.0 ∙ ap (λ (p : Plan). p.breakpoints) (sym (plan-snoc before step)),
-        under.1 ∙ ap (λ (p : Plan). p.counted_from) (sym (plan-snoc before step)),
+        cc (
+          starts_at (unwrap_or (end_of step.item) (position before)) (run_in step)
+              (item_begins before step.item step was.causes) run run_is,
+          position-snoc before step,
+        ),
+        cc (under.0, plan-snoc before step),
+        cc (under.1, plan-snoc before step),
       )
     where
       each : EachTaken IsLawfulEvent (Ran one joins) past

@@ -1,5 +1,5 @@
 -- The numbers reported before a stop or a log are exactly those written up to it, and before a stop so are the logs.
-use Rattle.dap_history.proofs.Common.{Accepted, Body, Breakpoint, Causes, CommandName, Content, Effect, Event, EventBody, HasEffect, History, Item, Launch, Launches, Loaded, Log, None, Option, Outgoing, PlainReport, Refusal, Reply, Some, Step, WrittenJoins, [], ap, filter_map, filter_map-append, inl, inr, log_events, log_of, messages, messages_of, output, outputs, refl, situation, subst, sym, with_answer, ℕ, ◌++◌, ◌∙◌, ◌∷◌, ◌≡◌}
+use Rattle.dap_history.proofs.Common.{Accepted, Body, Breakpoint, Causes, CommandName, Content, Effect, Event, EventBody, HasEffect, History, Item, Launch, Launches, Loaded, Log, None, Option, Outgoing, PlainReport, Refusal, Reply, Some, Step, WrittenJoins, [], filter_map, filter_map-append, inl, inr, log_events, log_of, messages, messages_of, output, outputs, refl, situation, subst, sym, ℕ, ◌++◌, ◌∙◌, ◌∷◌, ◌≡◌, ap}
 use Rattle.std.proofs.Common.{List, ℤ}
 use Rattle.std.specs.Prelude.{map, Bool, true, false, Result}
 use Rattle.dap_msg.specs.declared.outgoing.Outgoing.TheVariants.{Answer}
@@ -10,10 +10,10 @@ use Rattle.dap_history.proofs.Readings.{messages_of-snoc}
 use Rattle.dap_history.proofs.Along.{IsLawfulEvent, IsTaken, lawful_events, along}
 use Rattle.dap_history.proofs.Told.{numbers_in, numbers_of_logs}
 use Rattle.dap_history.proofs.Silent.{LogsBy, no_logs, logs_first, all_silent}
-use Rattle.dap_history.proofs.Outputs.{told_numbers, outputs_apart, following, report_events, following_numbers, following_texts}
+use Rattle.dap_history.proofs.Outputs.{outputs_apart, following, report_events, following_numbers, following_texts}
 use Rattle.dap_history.proofs.Went.{nothing_told}
 use Rattle.dap_history.proofs.Progress.{Progress, progress_first, progress_kept, progress_more}
-use Rattle.dap_history.proofs.Each.{WasTaken, EachTaken, each_kept, each_first}
+use Rattle.dap_history.proofs.Each.{WasTaken, each_kept, each_first}
 use Rattle.dap_history.proofs.AfterStops.{NoneAfter, all_before, none_quiet}
 
 abbrev pub IsStop : Outgoing → Type 0
@@ -48,17 +48,14 @@ module _ (B : Type 0) (P : Outgoing → Type 0) (f : Outgoing → Option B) wher
 
   unanswered_quiet : (step : Step) (effect : Effect) → HasEffect effect step → QuietEvents effect.events
       → NoneAfter Outgoing B P f (messages step)
-  unanswered_quiet step effect has quiet =
-      subst (λ a. NoneAfter Outgoing B P f (with_answer a (map Event step.effect.events))) (sym has.answer_is)
-      (subst (λ (e : Effect). QuietEvents e.events) (sym has.effect_is) quiet)
+  unanswered_quiet step effect has quiet = rw has.answer_is (rw has.effect_is quiet)
 
   answered_quiet : ((seq : ℕ) (command : CommandName) (result : Result Body Refusal) → ¬ P (Answer seq command result))
       → (seq : ℕ) (command : CommandName) (result : Result Body Refusal) (step : Step) (effect : Effect)
       → step.answer ≡ Some (Answer seq command result) → step.effect ≡ effect → QuietEvents effect.events
       → NoneAfter Outgoing B P f (messages step)
   answered_quiet not seq command result step effect answer is quiet =
-      subst (λ a. NoneAfter Outgoing B P f (with_answer a (map Event step.effect.events))) (sym answer)
-      ((λ kind. absurd (not seq command result kind)), subst (λ (e : Effect). QuietEvents e.events) (sym is) quiet)
+      rw answer ((λ kind. absurd (not seq command result kind)), rw is quiet)
 
   module _ (no_answer : (seq : ℕ) (command : CommandName) (result : Result Body Refusal)
       → ¬ P (Answer seq command result)) (of_reply : (past : History) (starts : Bool) (effect : Effect)
@@ -68,10 +65,8 @@ module _ (B : Type 0) (P : Outgoing → Type 0) (f : Outgoing → Option B) wher
     launch_quiet : (launch : Launch) (file : Option (List ℕ)) (reply : Reply) → Launches launch.arguments file reply
         → QuietEvents reply.effect.events
     launch_quiet launch None reply is = subst (λ (r : Reply). QuietEvents r.effect.events) (sym is) tt
-    launch_quiet launch (Some text) reply (inl is) =
-        subst (λ (r : Reply). QuietEvents r.effect.events) (sym is.reply_is) tt
-    launch_quiet launch (Some text) reply (inr is) =
-        subst (λ (r : Reply). QuietEvents r.effect.events) (sym is.reply_is) of_initialized
+    launch_quiet launch (Some text) reply (inl is) = rw is.reply_is tt
+    launch_quiet launch (Some text) reply (inr is) = rw is.reply_is of_initialized
 
     pub step_quiet : (past : History) (item : Item) (step : Step) → IsTaken IsLawfulEvent past item
         → Causes past item step → NoneAfter Outgoing B P f (messages step)
@@ -83,8 +78,7 @@ module _ (B : Type 0) (P : Outgoing → Type 0) (f : Outgoing → Option B) wher
         answered_quiet no_answer _ _ _ step is.0.effect is.2.answer_is is.2.effect_is
         (launch_quiet launch file is.0 is.1)
     step_quiet past (Accepted r) step taken is =
-        unanswered_quiet step _ is
-        (subst QuietEvents (sym (report_events past r r.outcome (nothing_told taken.1.program r taken.1.lawful)))
+        unanswered_quiet step _ is (rw (report_events past r r.outcome (nothing_told taken.1.program r taken.1.lawful))
         (of_report past r))
     step_quiet past _ step taken is = unanswered_quiet step _ is tt
 
@@ -94,27 +88,22 @@ report_numbers_quiet : (P : Outgoing → Type 0) → ((v : ℤ) → ¬ P (Event 
     → (past : History) (r : PlainReport) → QuietEvents ℤ P output (outputs past r ++ following past r.outcome)
 report_numbers_quiet P not past r =
     let rest = log_events r.plan r.logs ++ following past r.outcome in
-    subst (QuietEvents ℤ P output) (sym (outputs_apart past r (following past r.outcome)))
-    (after_numbers ℤ P output not (told_numbers past r) rest
-    (after_none ℤ P output rest (numbers_of_logs r.plan r.logs (following past r.outcome)
-    ∙ following_numbers past r.outcome)))
+    subst (QuietEvents ℤ P output) (sym (outputs_apart past r _)) (after_numbers ℤ P output not _ rest (after_none ℤ P
+    output rest (numbers_of_logs r.plan r.logs _ ∙ following_numbers past r.outcome)))
 
 report_texts_quiet : (past : History) (r : PlainReport) → QuietEvents (List ℕ) IsStop log_of
     (outputs past r ++ following past r.outcome)
 report_texts_quiet past r =
     let rest = log_events r.plan r.logs ++ following past r.outcome in
-    subst (QuietEvents (List ℕ) IsStop log_of) (sym (outputs_apart past r (following past r.outcome)))
-    (after_numbers (List ℕ) IsStop log_of (λ v no. no) (told_numbers past r) rest
-    (after_logs (List ℕ) IsStop log_of (λ text no. no) r.plan r.logs (following past r.outcome)
-    (after_none (List ℕ) IsStop log_of (following past r.outcome) (following_texts past r.outcome))))
+    rw (outputs_apart past r _) (after_numbers _ IsStop log_of (λ v no. no) _ rest (after_logs _ IsStop log_of (λ text
+    no. no) r.plan r.logs _ (after_none _ IsStop log_of _ (following_texts past r.outcome))))
 
 reply_texts_quiet : (past : History) (starts : Bool) (effect : Effect)
     → LogsBy (situation past) past effect.events starts → numbers_in effect.events ≡ []
     → QuietEvents (List ℕ) IsStop log_of effect.events
 reply_texts_quiet past false effect (no_logs none) no_numbers = after_none (List ℕ) IsStop log_of effect.events none
 reply_texts_quiet past true effect (logs_first l more configuring there is none) no_numbers =
-    subst (QuietEvents (List ℕ) IsStop log_of) (sym is)
-    (after_logs (List ℕ) IsStop log_of (λ text no. no) _ _ more (after_none (List ℕ) IsStop log_of more none))
+    rw is (after_logs (List ℕ) IsStop log_of (λ text no. no) _ _ more (after_none (List ℕ) IsStop log_of more none))
 
 numbers_after_stops : (past : History) (step : Step) → IsTaken IsLawfulEvent past step.item → Causes past step.item step
     → NoneAfter Outgoing ℤ IsStop output (messages step)
@@ -162,24 +151,16 @@ module _ (one : OneProgram) (joins : WrittenJoins) where
 
   pub stops_follow : StopsFollowNumbers
   stops_follow f events past rest lawful history front step more past_is l is before reason after split =
-      let all =
-      along IsLawfulEvent (EachTaken IsLawfulEvent Progress)
-      (each_kept IsLawfulEvent Progress (progress_kept one joins))
-      (each_first IsLawfulEvent Progress (progress_first one joins)) f events past rest (lawful_events events lawful)
-      history in
+      let all = along IsLawfulEvent _ (each_kept IsLawfulEvent Progress (progress_kept one joins)) (each_first
+      IsLawfulEvent Progress (progress_first one joins)) f events past rest (lawful_events events lawful) history in
       let was = all.each front step more past_is in
-      all_so_far ℤ IsStop output front step before (Event (event.Stopped reason)) after tt refl
-      (numbers_after_stops front step was.taken was.causes) split
-      ∙ ((now front step was).progress (Some l) is).0
+      all_so_far ℤ IsStop output front step before _ after tt refl (numbers_after_stops front step was.taken was.causes)
+      split ∙ ((now front step was).progress (Some l) is).0
 
   pub logs_follow : LogsFollowNumbers
   logs_follow f events past rest lawful history front step more past_is l is before text after split =
-      let all =
-      along IsLawfulEvent (EachTaken IsLawfulEvent Progress)
-      (each_kept IsLawfulEvent Progress (progress_kept one joins))
-      (each_first IsLawfulEvent Progress (progress_first one joins)) f events past rest (lawful_events events lawful)
-      history in
+      let all = along IsLawfulEvent _ (each_kept IsLawfulEvent Progress (progress_kept one joins)) (each_first
+      IsLawfulEvent Progress (progress_first one joins)) f events past rest (lawful_events events lawful) history in
       let was = all.each front step more past_is in
-      all_so_far ℤ IsLog output front step before (Event (event.Log text)) after tt refl
-      (numbers_after_logs front step was.taken was.causes) split
-      ∙ ((now front step was).progress (Some l) is).0
+      all_so_far ℤ IsLog output front step before _ after tt refl (numbers_after_logs front step was.taken was.causes)
+      split ∙ ((now front step was).progress (Some l) is).0

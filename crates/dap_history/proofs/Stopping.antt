@@ -1,5 +1,5 @@
 -- Each stop is where it has to be.
-use Rattle.dap_history.proofs.Common.{Accepted, Accepts, Block, Causes, Content, Effect, EndsBy, GoesBackBy, Heading, History, IsLawfulReport, IsPassed, IsRetreatsStop, IsRightStop, IsRunsStop, IsStopOf, Item, Launch, Launched, Launches, Loaded, None, NoneDueBefore, NoneDueUpTo, Option, PlainReport, Ready, Reason, Reply, SliceOutcome, Some, Step, StopReason, Went, WentOn, WrittenJoins, [], ap, arith, due_in_run, end_of, exception_of, exited_events, faults, go, goal_of, goes_back, has_come, held_effect, inl, inr, is_due, last_run, last_such, launched, or_else, order_mark, refl, report_effect, situation, step_mark, stop_in, stop_of, stop_of_event, stopped_events, subst, sym, unwrap_or, waiting_pause, ℕ, ◌++◌, ◌<◌, ◌∙◌, ◌∷◌, ◌≡◌, ◌≤◌, ◌⊎◌, back_if}
+use Rattle.dap_history.proofs.Common.{Accepted, Accepts, Block, Causes, Content, Effect, EndsBy, GoesBackBy, Heading, History, IsLawfulReport, IsPassed, IsRetreatsStop, IsRightStop, IsRunsStop, IsStopOf, Item, Launch, Launched, Launches, Loaded, None, NoneDueBefore, NoneDueUpTo, Option, PlainReport, Ready, Reason, Reply, SliceOutcome, Some, Step, StopReason, Went, WentOn, WrittenJoins, [], ap, arith, due_in_run, end_of, exception_of, faults, go, goal_of, goes_back, has_come, held_effect, inl, inr, is_due, last_run, last_such, launched, or_else, order_mark, refl, report_effect, situation, step_mark, stop_in, stop_of, stop_of_event, stopped_events, subst, sym, unwrap_or, waiting_pause, ℕ, ◌++◌, ◌<◌, ◌∙◌, ◌∷◌, ◌≡◌, ◌≤◌, ◌⊎◌, back_if, exited_events}
 use Rattle.std.proofs.Common.{List, Bool, true, false}
 use Rattle.dap_msg.specs.declared.outgoing.StopReason.TheVariants as stop
 use Rattle.pl0_meaning.specs.Runs.{outcome}
@@ -20,6 +20,7 @@ use Rattle.dap_history.proofs.Progress.{Progress, progress_more, progress_first,
 use Rattle.dap_history.proofs.Early.{IsEarly}
 use Rattle.dap_history.proofs.Once.{stopped_last}
 use Rattle.dap_history.proofs.Passing.{IsConfiguring, IsRunning, IsLoaded, BeginsAt, begins_at, item_begins, launches_not, loaded_there, loaded_orders, runs_not, none_left, no_mark_no_go, mark_of_effect, mark_of, NotDueAtEnd, undue_end, stays_end, Ran, same_due, starts_here, begun_there, still, begun_before, none_before, none_up_to}
+use Rattle.std.proofs.lemmas.Grind.{common_steps}
 
 module _ (one : OneProgram) (joins : WrittenJoins) where
   -- ---- what is kept
@@ -33,16 +34,12 @@ module _ (one : OneProgram) (joins : WrittenJoins) where
       → Ran one joins past → IsConfiguring (situation (past ++ step ∷ []))
       → (last_run (past ++ step ∷ []) ≡ None) × (position (past ++ step ∷ []) ≡ 0)
   configuring_more past step taken causes ran is =
-      by_mark (mark_unwrap IsConfiguring (step_mark step) (situation past)
-      (subst IsConfiguring (situation-snoc past step) is))
+      by_mark (mark_unwrap IsConfiguring (step_mark step) (situation past) (rw (← (situation-snoc past step)) is))
     where
       keeps : last_such go step.effect.orders ≡ None → end_of step.item ≡ None → (last_run past ≡ None)
           × (position past ≡ 0)
           → (last_run (past ++ step ∷ []) ≡ None) × (position (past ++ step ∷ []) ≡ 0)
-      keeps no_run stays before = (
-        last_run-snoc past step ∙ ap (λ o. or_else o (last_run past)) no_run ∙ before.0,
-        position-snoc past step ∙ ap (λ o. unwrap_or o (position past)) stays ∙ before.1,
-      )
+      keeps no_run stays before = (cc (last_run-snoc past step, before.0), cc (position-snoc past step, before.1))
 
       by_load : (item : Item) → IsLoaded item → IsTaken IsLawfulEvent past item → Causes past item step
           → (last_such go step.effect.orders ≡ None) × (end_of item ≡ None) × (situation past ≡ Ready)
@@ -108,17 +105,13 @@ module _ (one : OneProgram) (joins : WrittenJoins) where
       by_mark none (inl mark) = absurd (runs_not step (answers_only past step.item step causes) none mark)
       by_mark none (inr was) =
           running_passes_nothing_due past step.item step refl taken causes ran was.1 was.0 l
-          (ap (λ o. or_else o (launched past)) (sym (launches_not IsLawfulEvent past step.item step taken causes was.1))
-          ∙ sym (launched-snoc past step) ∙ is)
-          run (ap (λ o. or_else o (last_run past)) (sym none) ∙ sym (last_run-snoc past step) ∙ run_is)
-          (position (past ++ step ∷ [])) (position-snoc past step)
+          (cc (launches_not IsLawfulEvent past step.item step taken causes was.1, launched-snoc past step)) run
+          (cc (last_run-snoc past step)) (position (past ++ step ∷ [])) (position-snoc past step)
 
       by_run : (o : Option Heading) → last_such go step.effect.orders ≡ o
           → BeginsAt (unwrap_or (end_of step.item) (position past)) (last_such go step.effect.orders)
           → (run.start ≤ position (past ++ step ∷ [])) × NoneDueUpTo l run (position (past ++ step ∷ []))
-      by_run None none begins =
-          by_mark none (mark_unwrap IsRunning (step_mark step) (situation past)
-          (subst IsRunning (situation-snoc past step) running))
+      by_run None none begins = by_mark none (mark_unwrap IsRunning _ _ (rw (← (situation-snoc past step)) running))
       by_run (Some new) goes begins = here (subst (BeginsAt (unwrap_or (end_of step.item) (position past))) goes begins)
         where
           same : new ≡ run
@@ -141,19 +134,7 @@ module _ (one : OneProgram) (joins : WrittenJoins) where
       → (run : Heading) → last_run past ≡ Some run → goes_back run.mode ≡ true → position past ≡ run.start
       → unwrap_or (end_of item) (position past) ≡ run.start
   stays_on past (Accepted r) step taken causes ran none run run_is back was =
-      by_went (goes_back r.mode) (goes ∙ back) taken.1.lawful.went
-    where
-      same : taken.0.run ≡ run
-      same = let e = sym taken.0.run_is ∙ run_is in cc
-
-      goes : goes_back r.mode ≡ goes_back run.mode
-      goes = ap (λ (h : Heading). goes_back h.mode) taken.0.expected ∙ ap (λ (h : Heading). goes_back h.mode) same
-
-      by_went : (b : Bool) → b ≡ true → Went taken.1.program r (back_if b) → r.end ≡ run.start
-      by_went false is went = absurd cc
-      by_went true is went =
-          stays_end taken.1.program past r went (sym (mark_of (report_effect past r r.outcome) step causes) ∙ none)
-          ∙ ap (λ (h : Heading). h.start) taken.0.expected ∙ was
+      grind (arith, common_steps, goes_back, true, false, stays_end, mark_of) steps 200000
   stays_on past (Content request) step taken causes ran none run run_is back was = was
   stays_on past _ step taken causes ran none run run_is back was = was
 
@@ -175,9 +156,7 @@ module _ (one : OneProgram) (joins : WrittenJoins) where
       by_run : (o : Option Heading) → last_such go step.effect.orders ≡ o
           → BeginsAt (unwrap_or (end_of step.item) (position past)) (last_such go step.effect.orders)
           → unwrap_or (end_of step.item) (position past) ≡ run.start
-      by_run None none begins =
-          by_mark none (mark_unwrap IsRunning (step_mark step) (situation past)
-          (subst IsRunning (situation-snoc past step) running))
+      by_run None none begins = by_mark none (mark_unwrap IsRunning _ _ (rw (← (situation-snoc past step)) running))
       by_run (Some new) goes begins = here (subst (BeginsAt (unwrap_or (end_of step.item) (position past))) goes begins)
         where
           same : new ≡ run
@@ -257,17 +236,16 @@ module _ (one : OneProgram) (joins : WrittenJoins) where
         ∙ so_far in absurd cc
     stops_on went (slice.Fault fault) (faults early passed fails runs) s so_far =
         let same : stop.Exception (exception_of fault) ≡ s =
-        let e = sym (outputs_stop past r (stopped_events (stop.Exception (exception_of fault)))) ∙ so_far in cc in
-        let fails_there =
-        ap (λ p. outcome p r.end) (sym
-        (report_program one joins past r lawful l accepts (ran.so_far.progress (Some l) is))) ∙ fails in
-        subst (λ s. IsRunsStop l run s r.end) same (
+        let e = sym (outputs_stop past r (stopped_events (stop.Exception (exception_of fault)))) ∙ so_far in
+        cc in
+        let fails_there = ap (λ p. outcome p r.end) (sym (report_program one joins past r lawful l accepts
+        (ran.so_far.progress (Some l) is))) ∙ fails in
+        rw (← same) (
           fault,
           fault_told fault,
           fails_there,
           begun_before one joins past r accepts lawful ran l is went,
-          none_up_to one joins past
-              r accepts lawful ran l is went (by_end passed),
+          none_up_to one joins past r accepts lawful ran l is went (by_end passed),
         )
       where
         by_end : (r.end ≡ r.start) ⊎ IsPassed lawful.program r r.end → NotDueAtEnd lawful.program r
@@ -317,32 +295,15 @@ module _ (one : OneProgram) (joins : WrittenJoins) where
       → (l : Option Launched) → launched past ≡ l → RightStop past s r.end
   report_stops past r accepts lawful ran s so_far None is =
       let e = sym (ran.so_far.progress None is).1 ∙ accepts.run_is in absurd cc
-  report_stops past r accepts lawful ran s so_far (Some l) is = (
-    l,
-    is,
-    subst (λ o. IsRightStop l past o s r.end) (sym accepts.run_is)
-        (stops_run past r accepts lawful ran l is s so_far),
-  )
+  report_stops past r accepts lawful ran s so_far (Some l) is =
+      (l, is, rw accepts.run_is (stops_run past r accepts lawful ran l is s so_far))
 
   -- a reply stops the program at position 0
   reply_stops : (past : History) (o : Option StopReason) → StopsBy (situation past) past o → Ran one joins past
       → (s : StopReason) → o ≡ Some s → RightStop past s (position past)
   reply_stops past None no_stop ran s is = absurd cc
   reply_stops past (Some other) (at_first l r configuring launch due_is) ran s is =
-      let same : stop_of r ≡ s = cc in
-      let before = ran.configuring (subst IsConfiguring (sym configuring) tt) in (
-        l,
-        launch,
-        subst (λ o. IsRightStop l past o s (position past)) (sym before.0) (
-          before.1,
-          (
-            r,
-            sym same
-                ∙ reason_told r,
-            due_is,
-          ),
-        ),
-      )
+      grind (arith, common_steps, position, reason_told) steps 200000
 
   pub launch_stops_not : (launch : Launch) (file : Option (List ℕ)) (reply : Reply)
       → Launches launch.arguments file reply
@@ -361,15 +322,13 @@ module _ (one : OneProgram) (joins : WrittenJoins) where
       → Ran one joins past → (s : StopReason) → stop_in step ≡ Some s
       → RightStop past s (unwrap_or (end_of item) (position past))
   step_stops past (Content (Some request)) step taken is ran s stop_is =
-      reply_stops past (last_such stop_of_event is.0.effect.events)
-      (all_silent (situation past) past request.body is.0 is.1).stops ran s
-      (sym (stop_of_effect step _ is.2.effect_is) ∙ stop_is)
+      reply_stops past _ (all_silent _ past request.body is.0 is.1).stops ran s (sym (stop_of_effect step _
+      is.2.effect_is) ∙ stop_is)
   step_stops past (Loaded launch file) step taken is ran s stop_is =
       let e = sym (launch_stops_not launch file is.0 is.1) ∙ sym (stop_of_effect step _ is.2.effect_is)
       ∙ stop_is in absurd cc
   step_stops past (Accepted r) step taken is ran s stop_is =
-      report_stops past r taken.0 taken.1 ran s (sym (stop_of_effect step _ is.effect_is) ∙ stop_is) (launched past)
-      refl
+      report_stops past r taken.0 taken.1 ran s (sym (stop_of_effect step _ is.effect_is) ∙ stop_is) _ refl
   step_stops past _ step taken is ran s stop_is =
       let e = sym (stop_of_effect step _ is.effect_is) ∙ stop_is in absurd cc
 
@@ -380,9 +339,8 @@ module _ (one : OneProgram) (joins : WrittenJoins) where
       (stopped_last before stops_at.step reason stops_at.front stops_at.back was.causes stops_at.events_are))
     where
       each : EachTaken IsLawfulEvent (Ran one joins) past
-      each = along IsLawfulEvent (EachTaken IsLawfulEvent (Ran one joins))
-          (each_kept IsLawfulEvent (Ran one joins) ran_kept) (each_first IsLawfulEvent (Ran one joins) ran_first) f
-          events
+      each =
+          along IsLawfulEvent _ (each_kept IsLawfulEvent _ ran_kept) (each_first IsLawfulEvent _ ran_first) f events
           past rest (lawful_events events lawful) history
 
       was : WasTaken IsLawfulEvent (Ran one joins) before stops_at.step

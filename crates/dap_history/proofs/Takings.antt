@@ -1,17 +1,18 @@
 -- Each event that is an item is taken, and nothing is taken that isn't.
-use Rattle.dap_history.proofs.Common.{Accepted, Accepts, Command, Content, Err, File, FirstSeq, History, Incoming, InputEnd, IsAfter, IsTaking, Item, Launch, LeadsByEvent, LeadsByEvents, LeadsByFile, LeadsByPiece, LeadsByReport, LoadFault, Loaded, Loads, MayTake, MemoryFailure, NoMemory, None, Ok, Option, Piece, PlainReport, ReadFailed, ReadFailure, Report, Rest, SliceOutcome, Some, Step, Rests, Takes, TakesSome, [], ap, append-nil, closed, closing, closing_command, closing_report, faulty, inl, inr, no_content, one_content, only_bytes, open_ended, or_else, refl, subst, sym, waits, ℕ, ◌++◌, ◌∙◌, ◌∷◌, ◌≡◌}
-use Rattle.std.proofs.Common.{List, Result, append_assoc}
+use Rattle.dap_history.proofs.Common.{Accepted, Accepts, Command, Content, Err, File, FirstSeq, History, Incoming, InputEnd, IsAfter, IsTaking, Item, Launch, LeadsByEvent, LeadsByEvents, LeadsByFile, LeadsByPiece, LeadsByReport, LoadFault, Loaded, Loads, MayTake, MemoryFailure, NoMemory, None, Ok, Option, Piece, PlainReport, ReadFailed, ReadFailure, Report, Rest, SliceOutcome, Some, Step, Rests, Takes, TakesSome, [], ap, append-nil, closed, closing, closing_command, closing_report, faulty, inl, inr, no_content, one_content, open_ended, refl, sym, waits, ℕ, ◌++◌, ◌∙◌, ◌∷◌, ◌≡◌, subst}
+use Rattle.std.proofs.Common.{List, Result, append_assoc, arith}
 use Rattle.dap_msg.specs.declared.command.Command.TheVariants as command
 use Rattle.dbg_runner.specs.declared.outcome.SliceOutcome.TheVariants as slice
 use Rattle.dap_history.specs.declared.fault.LoadFault.TheVariants as load_fault
 use Rattle.dap_history.specs.Events.{End}
 use Rattle.dap_history.specs.Laws.{HistoryIsOne}
-use Rattle.dap_history.specs.Taken.{file_item, GoesOnWith, IsOfBytes, AreOfBytes, AddsSteps, EventsAreTaken, closes_by, fails_by, ends_by, EachItemEndsOrNot, BeginWithItem, MayFollow}
+use Rattle.dap_history.specs.Taken.{file_item, GoesOnWith, AreOfBytes, AddsSteps, EventsAreTaken, closes_by, fails_by, ends_by, EachItemEndsOrNot, BeginWithItem, MayFollow, IsOfBytes}
 use Rattle.dap_history.proofs.Readings.{or_else-none, ending_of-snoc}
 use Rattle.dap_history.proofs.Each.{WasTaken}
 use Rattle.dap_history.proofs.GoingBack.{Anything}
 use Rattle.dap_history.proofs.Judged.{Any, was_taken}
 use Rattle.dap_history.proofs.Cuts.{takes_not}
+use Rattle.std.proofs.lemmas.Grind.{common_steps}
 
 -- ---- the last event
 
@@ -20,13 +21,7 @@ pub leads_last : (first : FirstSeq) (past : History) (rest : Rest) (events : Lis
     → LeadsByEvents first past rest (events ++ e ∷ []) new left
     → (mid : History) × (between : Rest) × LeadsByEvents first past rest events mid between
     × LeadsByEvent first mid between e new left
-leads_last first past rest [] e new left all = (
-  past,
-  rest,
-  (refl, refl),
-  subst (λ h. LeadsByEvent first past rest e h left) (sym all.3.0)
-      (subst (λ r. LeadsByEvent first past rest e all.0 r) (sym all.3.1) all.2),
-)
+leads_last first past rest [] e new left all = (past, rest, (refl, refl), rw all.3.0 (rw all.3.1 all.2))
 leads_last first past rest (x ∷ events) e new left all =
     let more = leads_last first all.0 all.1 events e new left all.3 in
     (more.0, more.1, (all.0, all.1, all.2, more.2), more.3)
@@ -55,8 +50,7 @@ rests_bytes : {first : FirstSeq} {past new : History} {bytes : List ℕ} {rest :
     → Rests first past bytes new rest → AddsBytes past new
 rests_bytes {past = past} (closed not) = adds_none past
 rests_bytes {past = past} (open_ended taking is) = adds_none past
-rests_bytes (faulty k new taking is after) =
-    (after.step ∷ [], after.new_is, (subst IsOfBytes (sym after.item_is) tt, tt))
+rests_bytes (faulty k new taking is after) = (after.step ∷ [], after.new_is, (rw after.item_is tt, tt))
 rests_bytes {past = past} (waits request launch more taking front wanted) = adds_none past
 
 takes_bytes : (first : FirstSeq) (past new : History) (bytes : List ℕ) (rest : Rest)
@@ -122,8 +116,7 @@ module _ (first : FirstSeq) (past new : History) (rest : Rest) where
   by_file None file left taking same is =
       ([], is.0 ∙ sym (append-nil past), inr (λ item its. let e = sym same ∙ its.1 in absurd cc, refl))
   by_file (Some launch) (Ok file) left taking same (inl is) = absurd (is.0 taking)
-  by_file (Some launch) (Ok file) left taking same (inr loads) =
-      by_loads (Ok file) launch (Some file) left same refl loads
+  by_file (Some launch) (Ok file) left taking same (inr loads) = by_loads _ launch _ left same refl loads
   by_file (Some launch) (Err load_fault.CannotRead) left taking same (inl is) = absurd (is.0 taking)
   by_file (Some launch) (Err load_fault.CannotRead) left taking same (inr loads) =
       by_loads (Err load_fault.CannotRead) launch None left same refl loads
@@ -187,21 +180,8 @@ module _ (first : FirstSeq) (past new : History) (rest : Rest) where
 -- ---- the law
 
 pub events_taken : HistoryIsOne → EventsAreTaken
-events_taken one first events e past new rest left history more = (
-  λ taking. by_event first past new rest e left taking leads,
-  λ not. event_not first past new rest e left not leads,
-)
-  where
-    last : (mid : History) × (between : Rest) × LeadsByEvents first [] (only_bytes []) events mid between
-        × LeadsByEvent first mid between e new left
-    last = leads_last first [] (only_bytes []) events e new left more
-
-    is_one : (past ≡ last.0) × (rest ≡ last.1)
-    is_one = one first events past last.0 rest last.1 history last.2
-
-    leads : LeadsByEvent first past rest e new left
-    leads = subst (λ h. LeadsByEvent first h rest e new left) (sym is_one.0)
-        (subst (λ r. LeadsByEvent first last.0 r e new left) (sym is_one.1) last.3)
+events_taken one first events e past new rest left history more =
+    grind (arith, common_steps, by_event, event_not, leads_last) steps 200000
 
 -- ---- the end of a session
 
@@ -219,11 +199,8 @@ item_ends (Accepted r) = report_ends r.outcome
 item_ends _ = refl
 
 pub items_end : EachItemEndsOrNot
-items_end f events past rest history before step after past_is = (
-  was.taking,
-  ending_of-snoc before step ∙ ap (λ o. or_else (closing step.item) o) was.taking ∙ or_else-none (closing step.item)
-      ∙ item_ends step.item,
-)
+items_end f events past rest history before step after past_is =
+    (was.taking, cc (ending_of-snoc before step, was.taking, or_else-none (closing step.item), item_ends step.item))
   where
     was : WasTaken Any (Anything Any) before step
     was = was_taken f events past rest history before step after past_is

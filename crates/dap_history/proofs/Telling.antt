@@ -1,16 +1,16 @@
 -- What a report tells after its numbers and logs.
-use Rattle.dap_history.proofs.Common.{Accepted, All, All-append, All-cons, All-nil, Breakpoint, Causes, Effect, EventBody, History, IsOutput, Log, PlainReport, SliceOutcome, StopReason, [], ap, append-nil, held_effect, log_events, outputs, refl, report_effect, subst, sym, waiting_pause, ◌++◌, ◌∷◌, ◌≡◌}
+use Rattle.dap_history.proofs.Common.{Accepted, All, All-append, All-cons, All-nil, Breakpoint, Causes, EventBody, History, IsOutput, Log, PlainReport, SliceOutcome, [], append-nil, held_effect, log_events, outputs, refl, report_effect, subst, sym, waiting_pause, ◌++◌, ◌∷◌, ◌≡◌}
 use Rattle.std.proofs.Common.{List, Bool, true, false}
 use Rattle.std.specs.Prelude.{map, ℤ}
 use Rattle.dap_msg.specs.declared.outgoing.EventBody.TheVariants as event
-use Rattle.dap_msg.specs.declared.outgoing.StopReason.TheVariants as stop
 use Rattle.dbg_runner.specs.declared.outcome.SliceOutcome.TheVariants as slice
 use Rattle.dap_history.specs.Stops.{tells_held, tells, EachReportIsTold}
 use Rattle.dap_history.proofs.Along.{any_events, along}
 use Rattle.dap_history.proofs.Each.{WasTaken, EachTaken, each_kept, each_first}
 use Rattle.dap_history.proofs.Told.{reason_told, fault_told}
-use Rattle.dap_history.proofs.Outputs.{told_numbers}
 use Rattle.dap_history.proofs.GoingBack.{Anything, anything_kept}
+use Rattle.std.proofs.Common.{arith}
+use Rattle.std.proofs.lemmas.Grind.{common_steps}
 
 numbers_output : (vs : List ℤ) → All IsOutput (map event.Output vs)
 numbers_output [] = All-nil IsOutput
@@ -21,9 +21,7 @@ logs_output bs [] = All-nil IsOutput
 logs_output bs (l ∷ ls) = All-cons IsOutput _ (log_events bs ls) tt (logs_output bs ls)
 
 outputs_output : (past : History) (r : PlainReport) → All IsOutput (outputs past r)
-outputs_output past r =
-    All-append IsOutput (map event.Output (told_numbers past r)) (log_events r.plan r.logs)
-    (numbers_output (told_numbers past r)) (logs_output r.plan r.logs)
+outputs_output past r = All-append IsOutput (map event.Output _) _ (numbers_output _) (logs_output r.plan r.logs)
 
 -- the events are numbers and logs, and then these
 abbrev EndsIn : List EventBody → List EventBody → Type 0
@@ -32,30 +30,19 @@ EndsIn events last = (front : List EventBody) × All IsOutput front × (events �
 report_tells : (past : History) (r : PlainReport) (e : SliceOutcome)
     → EndsIn (report_effect past r e).events (tells past e)
 report_tells past r slice.More = (outputs past r, outputs_output past r, sym (append-nil (outputs past r)))
-report_tells past r (slice.Due why) = (
-  outputs past r,
-  outputs_output past r,
-  ap (λ (s : StopReason). outputs past r ++ event.Stopped s ∷ []) (reason_told why),
-)
+report_tells past r (slice.Due why) = grind (arith, common_steps, outputs, outputs_output, reason_told) steps 1500000
 report_tells past r slice.Held = by_pause (waiting_pause past)
   where
     by_pause : (pauses : Bool) → EndsIn (held_effect past r pauses).events (tells_held pauses)
     by_pause true = (outputs past r, outputs_output past r, refl)
     by_pause false = (outputs past r, outputs_output past r, sym (append-nil (outputs past r)))
 report_tells past r slice.Done = (outputs past r, outputs_output past r, refl)
-report_tells past r (slice.Fault fault) = (
-  outputs past r,
-  outputs_output past r,
-  ap (λ x. outputs past r ++ event.Stopped (stop.Exception x) ∷ []) (fault_told fault),
-)
+report_tells past r (slice.Fault fault) = grind (arith, common_steps, outputs, outputs_output, fault_told) steps 1500000
 report_tells past r slice.NoMemory = ([], All-nil IsOutput, refl)
 
 pub each_report_told : EachReportIsTold
-each_report_told f events past rest history before step after past_is r item_is = (
-  is.answer_is,
-  subst (λ (e : Effect). EndsIn e.events (tells before r.outcome)) (sym is.effect_is)
-      (report_tells before r r.outcome),
-)
+each_report_told f events past rest history before step after past_is r item_is =
+    (is.answer_is, rw is.effect_is (report_tells before r r.outcome))
   where
     each : EachTaken (λ e. Unit {0}) (Anything (λ e. Unit {0})) past
     each =

@@ -1,5 +1,5 @@
 -- Each step leads where the table of transitions says, so the situation is where the steps lead from Fresh.
-use Rattle.dap_history.proofs.Common.{FirstSeq, Accepted, Answers, Body, Breakpoint, Causes, Command, CommandName, Configuring, Content, Effect, Event, Fault, Faulted, Fresh, HasEffect, Heading, History, Incoming, InputEnd, IsHistoryOf, IsStopped, Item, Launch, Launched, Launches, Loaded, MemoryFailure, Mode, None, Ok, Option, Outgoing, PlainReport, Quit, Reaction, ReadFailure, Ready, Reason, Refusal, RepliesIn, Reply, Rest, RetreatKind, Running, SetBreakpointsArguments, Situation, SliceOutcome, Some, Step, Stopped, ThreadArguments, [], after_step, ap, append-nil, due_first, effect_in, enters, exception_of, exited_events, first_logs, held_effect, hold_once, inl, inr, item_leads, last_such, message_mark, name_of, nothing, only_orders, or_else, order_mark, plan, refl, reply_of, report_effect, resumes, retreat_mode, situation, stop_of, stop_of_event, stopped_events, subst, sym, unwrap_or, waiting_pause, with_answer, ℕ, ◌++◌, ◌∙◌, ◌∷◌, ◌≡◌}
+use Rattle.dap_history.proofs.Common.{FirstSeq, Accepted, Answers, Body, Breakpoint, Causes, Command, CommandName, Configuring, Content, Effect, Event, Fault, Faulted, Fresh, HasEffect, Heading, History, Incoming, InputEnd, IsHistoryOf, IsStopped, Item, Launch, Launched, Launches, Loaded, MemoryFailure, Mode, None, Ok, Option, Outgoing, PlainReport, Quit, Reaction, ReadFailure, Ready, Reason, Refusal, RepliesIn, Reply, Rest, RetreatKind, Running, SetBreakpointsArguments, Situation, SliceOutcome, Some, Step, Stopped, ThreadArguments, [], after_step, ap, append-nil, due_first, effect_in, enters, exception_of, exited_events, first_logs, held_effect, hold_once, inl, inr, item_leads, last_such, message_mark, name_of, nothing, only_orders, or_else, order_mark, plan, refl, reply_of, report_effect, resumes, retreat_mode, situation, stop_of, stop_of_event, stopped_events, sym, unwrap_or, waiting_pause, with_answer, ℕ, ◌++◌, ◌∙◌, ◌∷◌, ◌≡◌, subst}
 use Rattle.std.proofs.Common.{List, Bool, true, false, Result}
 use Rattle.std.specs.Prelude.{map, option_map}
 use Rattle.dap_msg.specs.declared.command.Command.TheVariants as command
@@ -12,7 +12,7 @@ use Rattle.dbg_runner.specs.declared.outcome.SliceOutcome.TheVariants as slice
 use Rattle.dap_history.specs.Transitions.{runs_unless, report_leads, after_steps, EachStepLeads, SituationIsAfterSteps}
 use Rattle.dap_history.proofs.Readings.{situation-snoc}
 use Rattle.dap_history.proofs.Along.{IsTaken, IsKept, any_events, along}
-use Rattle.dap_history.proofs.Each.{WasTaken, EachTaken, each_kept, each_first}
+use Rattle.dap_history.proofs.Each.{EachTaken, each_kept, each_first, WasTaken}
 use Rattle.dap_history.proofs.Told.{stop_of_logs, mark_of_logs, stop_marks}
 use Rattle.dap_history.proofs.Silent.{first_at}
 use Rattle.dap_history.proofs.Reacted.{IsCalm, Reacted, by_refusing, by_answering, by_setting, by_starting, by_resuming, by_ending, by_retreating, by_interrupting, by_closing, by_reaction}
@@ -44,8 +44,7 @@ module _ (seq : ℕ) (past : History) where
   ReplyLeads s asked reply = Leads s asked reply.result reply.effect
 
   calm_leads : (s : Situation) (asked : Command) (b : Body) → IsCalm past s asked b → Leads s asked (Ok b) nothing
-  calm_leads s (command.Initialize a) b calm =
-      subst (λ t. Leads t (command.Initialize a) (Ok b) nothing) (sym calm.0) refl
+  calm_leads s (command.Initialize a) b calm = rw calm.0 refl
   calm_leads s (command.SetBreakpoints a) b calm = refl
   calm_leads s command.Threads b calm = refl
   calm_leads s (command.Pause a) b calm = refl
@@ -63,10 +62,7 @@ module _ (seq : ℕ) (past : History) where
 
   enters_leads : (l : Launched) (why : Option Reason)
       → Granted Configuring command.ConfigurationDone (enters past l why)
-  enters_leads l None =
-      sym
-      (ap (λ es. runs_unless (last_such stop_of_event es)) (sym (append-nil (first_logs past l)))
-      ∙ ap runs_unless (stop_of_logs (plan past).breakpoints (first_at past l) []))
+  enters_leads l None = cc (append-nil (first_logs past l), stop_of_logs (plan past).breakpoints (first_at past l) [])
   enters_leads l (Some r) =
       ap (λ m. unwrap_or (or_else m None) Configuring)
       (mark_of_logs (plan past).breakpoints (first_at past l) (stopped_events (stop_of r)) ∙ stop_marks r)
@@ -99,9 +95,7 @@ module _ (seq : ℕ) (past : History) where
 by_reply : (seq : ℕ) (launch : Launch) (file : Option (List ℕ)) (reply known : Reply) → reply ≡ known
     → Fits Ready (Loaded launch file) (Some (Answer seq (name.Supported supported.Launch) known.result)) known.effect
     → Fits Ready (Loaded launch file) (Some (Answer seq (name.Supported supported.Launch) reply.result)) reply.effect
-by_reply seq launch file reply known is fits =
-    subst (λ (r : Reply). Fits Ready (Loaded launch file)
-    (Some (Answer seq (name.Supported supported.Launch) r.result)) r.effect) (sym is) fits
+by_reply seq launch file reply known is fits = rw is fits
 
 -- what a launch's file brings leads on from Ready
 launch_fits : (seq : ℕ) (launch : Launch) (file : Option (List ℕ)) (reply : Reply)
@@ -119,19 +113,15 @@ ReportFits e effect =
 
 module _ (past : History) (r : PlainReport) where
   held_fits : (pauses : Bool) → ReportFits slice.Held (held_effect past r pauses)
-  held_fits true =
-      ap (λ m. unwrap_or m Running) (outputs_mark past r (stopped_events stop.Pause))
-      ∙ sym (ap runs_unless (outputs_stop past r (stopped_events stop.Pause)))
+  held_fits true = cc (outputs_mark past r (stopped_events stop.Pause), outputs_stop past r (stopped_events stop.Pause))
   held_fits false = sym (ap runs_unless (outputs_stop_not past r))
 
   report_fits : (e : SliceOutcome) → ReportFits e (report_effect past r e)
   report_fits slice.More = ap (λ m. unwrap_or m Running) (outputs_unmarked past r)
-  report_fits (slice.Due why) =
-      ap (λ m. unwrap_or m Running) (outputs_mark past r (stopped_events (stop_of why)) ∙ stop_marks why)
+  report_fits (slice.Due why) = cc (outputs_mark past r (stopped_events (stop_of why)), stop_marks why)
   report_fits slice.Held = held_fits (waiting_pause past)
   report_fits slice.Done = ap (λ m. unwrap_or m Running) (outputs_mark past r (exited_events 0))
-  report_fits (slice.Fault fault) =
-      ap (λ m. unwrap_or m Running) (outputs_mark past r (stopped_events (stop.Exception (exception_of fault))))
+  report_fits (slice.Fault fault) = cc (outputs_mark past r (stopped_events (stop.Exception (exception_of fault))))
   report_fits slice.NoMemory = refl
 
 abbrev StepFits : Situation → Item → Step → Type 0
@@ -139,15 +129,12 @@ StepFits s item step = Fits s item step.answer step.effect
 
 effect_fits : (s : Situation) (item : Item) (effect : Effect) (step : Step) → HasEffect effect step
     → Fits s item None effect → StepFits s item step
-effect_fits s item effect step has fits =
-    subst (λ a. Fits s item a step.effect) (sym has.answer_is) (subst (Fits s item None) (sym has.effect_is) fits)
+effect_fits s item effect step has fits = rw has.answer_is (rw has.effect_is fits)
 
 answer_fits : (s : Situation) (item : Item) (seq : ℕ) (command : CommandName) (reply : Reply) (step : Step)
     → Answers seq command reply step → Fits s item (Some (Answer seq command reply.result)) reply.effect
     → StepFits s item step
-answer_fits s item seq command reply step answers fits =
-    subst (λ a. Fits s item a step.effect) (sym answers.answer_is)
-    (subst (Fits s item (Some (Answer seq command reply.result))) (sym answers.effect_is) fits)
+answer_fits s item seq command reply step answers fits = rw answers.answer_is (rw answers.effect_is fits)
 
 item_fits : (Q : Incoming → Type 0) (past : History) (item : Item) (step : Step) → IsTaken Q past item
     → Causes past item step → StepFits (situation past) item step
@@ -156,15 +143,12 @@ item_fits Q past (Content (Some request)) step taken is =
     answer_fits (situation past) (Content (Some request)) _ _ is.0 step is.2
     (reply_leads request.seq past is.0 (situation past) request.body is.1)
 item_fits Q past (Loaded launch file) step taken is =
-    subst (λ s. StepFits s (Loaded launch file) step) (sym taken)
-    (answer_fits Ready (Loaded launch file) _ _ is.0 step is.2 (launch_fits launch.seq launch file is.0 is.1))
+    rw taken (answer_fits Ready (Loaded launch file) _ _ is.0 step is.2 (launch_fits launch.seq launch file is.0 is.1))
 item_fits Q past (Accepted r) step taken is =
-    subst (λ s. StepFits s (Accepted r) step) (sym taken.0.running)
-    (effect_fits Running (Accepted r) _ step is (report_fits past r r.outcome))
+    rw taken.0.running (effect_fits Running (Accepted r) _ step is (report_fits past r r.outcome))
 item_fits Q past (Fault k) step taken is = effect_fits (situation past) (Fault k) nothing step is refl
 item_fits Q past InputEnd step taken is = effect_fits (situation past) InputEnd (only_orders (Quit ∷ [])) step is refl
-item_fits Q past ReadFailure step taken is =
-    effect_fits (situation past) ReadFailure (only_orders (Quit ∷ [])) step is refl
+item_fits Q past ReadFailure step taken is = effect_fits _ ReadFailure _ step is refl
 item_fits Q past MemoryFailure step taken is = effect_fits (situation past) MemoryFailure nothing step is refl
 
 -- ---- along a history

@@ -1,5 +1,5 @@
 -- While a session takes items, nothing whole is left unread.
-use Rattle.dap_history.proofs.Common.{Ending, Err, Fault, FaultAt, File, FirstSeq, FramingFault, HasFaultyLine, History, Incoming, InputEnd, IsTaking, Item, Launch, LeadsByEvent, LeadsByEvents, LeadsByFile, LeadsByPiece, LeadsByReport, LoadFault, MayTake, MemoryFailure, NoMemory, None, Ok, Option, Piece, PlainReport, ReadFailed, ReadFailure, Report, Rest, Some, Rests, [], ap, arith, closed, closing, faulty, inl, inr, length, length-append, line_of, lines_of, only_bytes, open_ended, refl, subst, sym, waits, ℕ, ◌++◌, ◌∙◌, ◌∷◌, ◌≡◌}
+use Rattle.dap_history.proofs.Common.{Ending, Err, Fault, FaultAt, File, FirstSeq, FramingFault, HasFaultyLine, History, Incoming, InputEnd, IsTaking, Item, Launch, LeadsByEvent, LeadsByEvents, LeadsByFile, LeadsByPiece, LeadsByReport, LoadFault, MayTake, MemoryFailure, NoMemory, None, Ok, Option, Piece, PlainReport, ReadFailed, ReadFailure, Report, Rest, Some, Rests, [], ap, arith, closed, closing, faulty, inl, inr, length, length-append, line_of, lines_of, open_ended, refl, waits, ℕ, ◌++◌, ◌∷◌, ◌≡◌}
 use Rattle.std.proofs.Common.{List, Result}
 use Rattle.dap_frame.specs.declared.fault.FramingFault.TheVariants as framing
 use Rattle.dap_frame.specs.Header.{line_end}
@@ -9,6 +9,7 @@ use Rattle.dap_history.specs.Laws.{RestIsOpen}
 use Rattle.dap_history.specs.Events.{End}
 use Rattle.dap_history.proofs.Along.{closes_for_good, any_events, along_waits}
 use Rattle.dap_history.proofs.GoingBack.{Anything, anything_kept}
+use Rattle.std.proofs.lemmas.Grind.{common_steps}
 
 -- ---- no bytes are neither a frame nor a fault
 
@@ -48,8 +49,7 @@ Unread past rest = IsTaking past → rest.launch ≡ None → IsOpen rest.bytes
 
 unread_same : (past : History) (rest : Rest) (new : History) (left : Rest) → new ≡ past → left ≡ rest → Unread past rest
     → Unread new left
-unread_same past rest new left same there here =
-    subst (λ h. Unread h left) (sym same) (subst (λ r. Unread past r) (sym there) here)
+unread_same past rest new left same there here = grind (arith, common_steps) steps 1500000
 
 unread_rests : {first : FirstSeq} {past : History} {bytes : List ℕ} {new : History} {rest : Rest}
     → Rests first past bytes new rest
@@ -70,8 +70,7 @@ unread_piece : (first : FirstSeq) (past : History) (launch : Option Launch) (byt
     (left : Rest)
     → LeadsByPiece first past launch bytes new left → Unread new left
 unread_piece first past None bytes new left all = unread_rests all.3
-unread_piece first past (Some launch) bytes new left is =
-    λ taking none. let e = sym (ap (λ (r : Rest). r.launch) is.1) ∙ none in absurd cc
+unread_piece first past (Some launch) bytes new left is = grind (arith, common_steps) steps 1500000
 
 unread_file : (f : FirstSeq) (past : History) (rest : Rest) (launch : Option Launch)
     (file : Result (List ℕ) LoadFault) (new : History)
@@ -90,14 +89,11 @@ unread_file f past rest (Some launch) (Err load_fault.NoMemory) new left is here
 unread_report : (past : History) (rest : Rest) (r : PlainReport) (new : History) (left : Rest)
     → LeadsByReport past r new → left ≡ rest → Unread past rest → Unread new left
 unread_report past rest r new left (inl is) same here = unread_same past rest new left is.1 same here
-unread_report past rest r new left (inr is) same here =
-    λ taking none. subst (λ (l : Rest). IsOpen l.bytes) (sym same)
-    (here is.0 (ap (λ (l : Rest). l.launch) (sym same) ∙ none))
+unread_report past rest r new left (inr is) same here = grind (arith, common_steps) steps 1500000
 
 unread_event : (f : FirstSeq) (past : History) (rest : Rest) (event : Incoming) (new : History) (left : Rest)
     → LeadsByEvent f past rest event new left → Unread past rest → Unread new left
-unread_event f past rest (Piece piece) new left leads here =
-    unread_piece f past rest.launch (rest.bytes ++ piece) new left leads
+unread_event f past rest (Piece piece) new left leads here = grind (arith, common_steps, unread_piece) steps 1500000
 unread_event f past rest End new left leads here = unread_may past rest left InputEnd new _ refl leads here
 unread_event f past rest ReadFailed new left leads here = unread_may past rest left ReadFailure new _ refl leads here
 unread_event f past rest NoMemory new left leads here = unread_may past rest left MemoryFailure new _ refl leads here
@@ -112,7 +108,8 @@ unread_from f past rest (e ∷ events) new left all here =
 
 pub rest_is_open : RestIsOpen
 rest_is_open f events past rest history taking = (
-  unread_from f [] (only_bytes []) events past rest history (λ taking none. open_first) taking,
-  along_waits (λ e. Unit {0}) (Anything (λ e. Unit {0})) (anything_kept (λ e. Unit {0})) tt f events past rest
-      (any_events events) history taking,
+  unread_from f [] _ events past rest history (λ taking none. open_first) taking,
+  along_waits (λ e. Unit {0})
+      (Anything (λ e. Unit {0})) (anything_kept (λ e. Unit {0})) tt f events past rest (any_events events) history
+      taking,
 )

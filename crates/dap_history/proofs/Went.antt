@@ -1,12 +1,12 @@
 -- What a lawful report says, whether its run goes on or back.
-use Rattle.dap_history.proofs.Common.{Block, Breakpoint, EndsBy, GoesBackBy, Mode, PlainReport, SliceOutcome, Some, Stop, Went, WentBack, WentOn, WrittenJoins, [], ap, append-nil, arith, cases_lt, drop-nil, due, goal_of, goes_back, has_come, has_no_memory, if◌then◌else◌, inl, inr, is_some, is_spent, lacks_memory, last_due, length, length-append, logs_told, max, reversed, stepped_back, stop_at, subst, suc, sym, written, zero, ℕ, ⊎_elim, ◌++◌, ◌+◌, ◌-◌, ◌∙◌, ◌≡◌, ◌≤◌, ◌⊎◌, back_if}
+use Rattle.dap_history.proofs.Common.{Block, Breakpoint, EndsBy, GoesBackBy, Mode, PlainReport, SliceOutcome, Some, Stop, Went, WentBack, WentOn, WrittenJoins, [], ap, append-nil, arith, cases_lt, goal_of, goes_back, has_come, has_no_memory, is_some, is_spent, lacks_memory, last_due, length, length-append, max, stop_at, suc, sym, written, zero, ℕ, ◌++◌, ◌+◌, ◌-◌, ◌∙◌, ◌≡◌, ◌≤◌, back_if, drop-nil, due, if◌then◌else◌, inl, inr, logs_told, reversed, stepped_back, subst, ⊎_elim, ◌⊎◌}
 use Rattle.std.proofs.Common.{List, ℤ, drop, Bool, true, false}
-use Rattle.std.proofs.Math.Seq.{drop-append_seam}
-use Rattle.std.proofs.Math.ListN.{drop_of_length-le}
 use Rattle.pl0_meaning.specs.Runs.{written_from}
-use Rattle.dbg_plan.specs.declared.mode.Mode.TheVariants.{Continue, StepBack, Reverse}
+use Rattle.dbg_plan.specs.declared.mode.Mode.TheVariants.{StepBack, Reverse, Continue}
 use Rattle.dbg_runner.specs.declared.outcome.SliceOutcome.TheVariants as slice
 use Rattle.dbg_runner.specs.Lawful.{IsLawfulFor}
+use Rattle.std.proofs.Math.Seq.{drop-append_seam}
+use Rattle.std.proofs.Math.ListN.{drop_of_length-le}
 
 -- ---- a run that goes back ends below its beginning
 

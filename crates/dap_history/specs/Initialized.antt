@@ -16,7 +16,8 @@ pub record IsInitializedBy (past : History) (arguments : InitializeArguments) : 
   pub granted : Grants step request
   pub asked_is : request.body ≡ command.Initialize arguments
 
--- how much less than from 1 a client counts that starts at 1, or doesn't
+-- how much less than from 1 a client counts that starts at 1, or doesn't: `offset` once more, so that the law can
+-- refuse a wrong one
 abbrev pub less_by : Bool → ℕ
 less_by true = 0
 less_by false = 1

@@ -47,6 +47,7 @@ pub data Reaction : Type 0 where
 
 -- ---- the reply of each
 
+-- what the request is answered by a reaction, and what that causes
 abbrev pub reply_of : History → Reaction → Reply
 reply_of past (Refuse why) = refused why
 reply_of past (Answer body) = answered body

@@ -35,13 +35,13 @@ use Rattle.dap_history.specs.Replies.{in_body}
 use Rattle.dap_history.specs.Inspection.{RepliesAt, subject_in}
 use Rattle.dap_history.specs.Always.{OfHistories, OfLawfulHistories, OfLawfulSteps, OfSteps}
 
--- why a position is due, as the client is told
+-- why a position is due, as the client is told: `stop_of` once more, so that the laws can refuse a wrong one
 abbrev pub told_reason : Reason → StopReason
 told_reason reason.Breakpoint = stop.Breakpoint
 told_reason reason.Step = stop.Step
 told_reason reason.Entry = stop.Entry
 
--- the fault of a step, as the client is told
+-- the fault of a step, as the client is told: `exception_of` once more, for the same reason
 abbrev pub told_fault : RunFault → Exception
 told_fault run_fault.Overflow = exception.Overflow
 told_fault run_fault.DivideByZero = exception.DivideByZero

@@ -26,7 +26,8 @@ file_item launch (Ok bytes) = Loaded launch (Some bytes)
 file_item launch (Err load_fault.CannotRead) = Loaded launch None
 file_item launch (Err load_fault.NoMemory) = MemoryFailure
 
--- The program runs, and the report goes on with the run that was ordered last, from where the program stands.
+-- The program runs, and the report goes on with the run that was ordered last, from where the program stands. It is
+-- `Accepts` stated once more, so that the law can refuse a wrong one.
 pub record GoesOnWith (past : History) (r : PlainReport) : Type 0 where
   pub running : situation past ≡ Running
   pub run : Heading
@@ -86,12 +87,12 @@ EventsAreTaken =
 
 -- ---- the end of a session
 
--- the one command that closes a session
+-- the one command that closes a session: `closing_command` once more, so that the law can refuse a wrong one
 abbrev pub closes_by : Command → Option Ending
 closes_by command.Disconnect = Some (ending.Closed closed.Disconnected)
 closes_by _ = None
 
--- a report for which the runner had no memory
+-- a report for which the runner had no memory: `closing_report` once more, for the same reason
 abbrev pub fails_by : SliceOutcome → Option Ending
 fails_by slice.NoMemory = Some (ending.Fault session_fault.NoMemory)
 fails_by _ = None

@@ -2,7 +2,7 @@
 
 use crate::fault::SessionFault;
 
-/// What closed a session without a fault.
+/// What closed a session.
 #[derive(Clone, Copy, Debug, PartialEq, Eq)]
 pub enum Closed {
     /// The client asked for it by `disconnect`.
@@ -16,7 +16,7 @@ pub enum Closed {
 /// How a session ended.
 #[derive(Clone, Copy)]
 pub enum Ending {
-    /// It was closed without a fault.
+    /// It was closed, by the client, by the end of the input or by a failed read.
     Closed(Closed),
     /// It gave up because of a fault.
     Fault(SessionFault),

@@ -7,7 +7,7 @@ use dap_frame::FramingFault;
 pub enum SessionFault {
     /// The input holds no frame where one should stand.
     Frame(FramingFault),
-    /// An allocation failed, in the session, in the loader or in the runner.
+    /// An allocation failed, in the session, the reader, the loader or the runner.
     NoMemory,
     /// The next message would have a seq greater than 2^53 - 1.
     SeqExhausted,
