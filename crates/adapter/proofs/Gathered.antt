@@ -44,7 +44,7 @@ module _ {A : Type 0} where
   tail_is : {x y : A} {xs ys : List A} → x ∷ xs ≡ y ∷ ys → xs ≡ ys
   tail_is e = ap (drop 1) e
 
-  append_none : (xs ys : List A) → xs ++ ys ≡ [] → xs ≡ []
+  pub append_none : (xs ys : List A) → xs ++ ys ≡ [] → xs ≡ []
   append_none [] ys e = refl
   append_none (x ∷ xs) ys e = absurd (search (e, rules))
 

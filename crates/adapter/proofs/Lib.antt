@@ -18,13 +18,14 @@ mod UpTo
 -- `serve` never reports that its runner or its writer is gone, and `OrdersFull` only where enough orders were pushed to
 -- fill their queue; for the clauses `gone`, `full` and `fault` of `serving_laws`.
 mod SessionFaults
--- What was read of a file is the beginning of its bytes; for `read_file`.
-mod FileRead
+-- What was loaded grows by one file at a time; for `FileLoader`.
+mod Loaded
 -- What was written is of one history of what was read; for the clause `written` of `serving_laws`.
 mod Written
 -- Which runs the runner reports, by the number of the run that it took last; for `serving_laws`.
 mod RunNumbers
 -- Each run has one last report, unless it was cut short; for the clause `runs` of `serving_laws`.
 mod RunsEnd
--- The reader's and the runner's tasks, and what these return, may go to another thread; for `serve`.
+-- The tasks of the writer, the reader and the runner, and what the last two return, may go to another thread; for
+-- `serve`.
 mod Crossing

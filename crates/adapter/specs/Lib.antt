@@ -19,10 +19,10 @@ pub mod Arguments
 pub mod Listing
 -- How the check of a program text ends.
 pub mod Checking
+-- What a loader of files answers.
+pub mod Loading
 -- What the program does with its arguments, and how it ends.
 pub mod Running
 -- What private contracts cite.
--- What a loader of files reads.
-pub mod Loading
 -- What the session's thread leaves when it ends.
 pub mod ThreadTasks

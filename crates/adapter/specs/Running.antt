@@ -23,7 +23,11 @@ use Rattle.adapter.specs.Checking.{IsChecked}
 use Rattle.adapter.specs.ExitReasons.{reason_of_serve, reason_of_check, reason_of_reading, last_line}
 use Rattle.adapter.specs.Listing.{line_feed}
 use Rattle.adapter.specs.Serving.{Streams, world, IsServed}
-use Rattle.byte_streams.specs.Streams.{Output, WritesAll, FailsIn, WritesOrFails}
+use Rattle.adapter.specs.Loading.{AreLoaded}
+use Rattle.byte_streams.specs.Streams.{Supply, Output, WritesAll, FailsIn, WritesOrFails}
+use Rattle.byte_streams.specs.declared.files.FileFault.{FileFault}
+use Rattle.byte_streams.specs.declared.files.FileKinds.{FileKinds}
+use Rattle.byte_streams.specs.declared.files.FileKinds.TheVariants.{Regular}
 
 -- A client that counts from `first` was served, through a gate that nothing had passed, and the reason says how that
 -- went.
@@ -94,9 +98,23 @@ pub record GetsNoArguments (error : ErrorKind) (reason : ExitReason) (old later 
   pub kept : later ≡ old
   pub reports : Reports reason errors later_errors
 
--- The program ran on the arguments that were given, with a loader that was asked for no file before.
-abbrev pub Runs : FirstSeq → Given → ExitReason → Streams → Streams → Output → Output → Type 0
-Runs first (Ok arguments) reason old later errors later_errors =
-    (loads : List Load) × Executes first arguments reason [] loads old later errors later_errors
-Runs first (Err error) reason old later errors later_errors =
-    GetsNoArguments error reason old later errors later_errors
+-- By `opens` files of these kinds are opened by their names, by `closes` they are given back, and by `supply_of` it is
+-- known what was read of one until then.
+module _ {Files File : Type 0} (opens : FileKinds → Files → List ℕ → Result File FileFault → Files → Type 0)
+    (closes : Files → File → Files → Type 0) (supply_of : File → Supply) where
+  -- The program did what the arguments ask for, with a loader that was asked for no file before. What it answered is
+  -- what reading the files gave. Where a client was served, these were regular files alone.
+  pub record ExecutesOnFiles (first : FirstSeq) (arguments : List Text) (reason : ExitReason)
+      (files later_files : Files) (old later : Streams) (errors later_errors : Output) : Type 0 where
+    pub loads : List Load
+    pub kinds : FileKinds
+    pub loaded : ∥ AreLoaded (opens kinds) closes supply_of files loads later_files ∥₁
+    pub regular : Reads arguments None → kinds ≡ Regular
+    pub executes : Executes first arguments reason [] loads old later errors later_errors
+
+  -- The program ran on the arguments that were given.
+  abbrev pub Runs : FirstSeq → Given → ExitReason → Files → Files → Streams → Streams → Output → Output → Type 0
+  Runs first (Ok arguments) reason files later_files old later errors later_errors =
+      ExecutesOnFiles first arguments reason files later_files old later errors later_errors
+  Runs first (Err error) reason files later_files old later errors later_errors =
+      GetsNoArguments error reason old later errors later_errors × (later_files ≡ files)

@@ -1,5 +1,5 @@
 -- Defines what a whole run over an input and an output reads and writes.
-use Rattle.std.specs.Prelude.{◌≡◌, ◌≢◌, ◌⊎◌, ◌++◌, [], true, ℕ, List, Option, Result, Ok, Err}
+use Rattle.std.specs.Prelude.{◌≡◌, ◌≢◌, ◌⊎◌, ◌++◌, [], true, ℕ, List, Result, Ok, Err}
 use Rattle.std.specs.Result.{is_err}
 use Rattle.std.specs.List.{concat, flat_map}
 use Rattle.dap_msg.specs.declared.request.FirstSeq.{FirstSeq}
@@ -31,6 +31,7 @@ pub record Streams : Type 0 where
   pub input : Supply
   pub output : Output
 
+-- the streams with this input and output
 abbrev pub streams : Supply → Output → Streams
 streams i o = record { input = i; output = o }
 

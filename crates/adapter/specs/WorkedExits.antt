@@ -3,9 +3,9 @@ use Rattle.std.specs.Prelude.{◌≡◌, ◌+◌, [], ◌∷◌, map, codes, Err
 use Rattle.dap_frame.specs.declared.fault.FramingFault.TheVariants as frame
 use Rattle.dap_history.specs.declared.fault.SessionFault.TheVariants as session
 use Rattle.pl0_tree.specs.Faults.{limit}
-use Rattle.byte_streams.specs.Beginning.{beginning_limit}
 use Rattle.adapter.specs.declared.serving.ServeFault.TheVariants as serve
 use Rattle.adapter.specs.declared.exit_reason.ExitReason.TheVariants.{Success, ReadFailed, WriteFailed, Framing, Refused, CannotRead, Syntax, NoMemory, NotText, NotUnderstood}
+use Rattle.adapter.specs.Loading.{read_limit}
 use Rattle.adapter.specs.ExitReasons.{reason_of_framing, reason_of_serve, status_of, last_line}
 
 -- the statuses
@@ -41,4 +41,4 @@ RefusalsAreNumbered =
 
 -- one byte more than a text may have is read of a file, so that a longer one is noticed
 abbrev pub LongTextsAreNoticed : Type 0
-LongTextsAreNoticed = beginning_limit ≡ limit + 1
+LongTextsAreNoticed = read_limit ≡ limit + 1

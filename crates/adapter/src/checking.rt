@@ -60,8 +60,9 @@ pub fn check<R: Wait, L: Loader, O: Sink>(
     loader: &mut L,
     output: &mut O,
 ) -> Result<(), CheckFault>
-    ensures { IsChecked path.now result (L.loaded loader.old) (L.loaded loader.new)
+    ensures checked { IsChecked path.now result (L.loaded loader.old) (L.loaded loader.new)
         (O.output output.old) (O.output output.new) }
+    ensures loader { L.origin loader.new ≡ L.origin loader.old }
 {
     check_keeping(rt, alloc, path, loader, output).outcome
 }
@@ -74,8 +75,9 @@ pub(crate) fn check_keeping<R: Wait, L: Loader, O: Sink>(
     loader: &mut L,
     output: &mut O,
 ) -> Checked
-    ensures { IsChecked path.now result.outcome (L.loaded loader.old) (L.loaded loader.new)
+    ensures checked { IsChecked path.now result.outcome (L.loaded loader.old) (L.loaded loader.new)
         (O.output output.old) (O.output output.new) }
+    ensures loader { L.origin loader.new ≡ L.origin loader.old }
 {
     let text = match loader.load(path) {
         Ok(text) => text,

@@ -2,107 +2,93 @@
 
 ghost use Rattle.std.specs.Prelude.{◌≡◌, []};
 ghost use Rattle.dap_session.specs.Loads.{logged};
+ghost use Rattle.adapter.specs.Loading.{AreLoaded};
 
-use byte_streams::{ReadFault, Reading, read_beginning};
+use byte_streams::{FileFault, FileKinds, Opener, read_file};
 use dap_session::{LoadFault, LoadLog, Loader};
 use std::alloc::Global;
-use std::fs;
-use std::io::{self, ErrorKind, Read};
-use std::rt::Files;
+use std::snapshot::Snapshot;
 use std::sync::Wait;
-use std::time::Clock;
 
-/// Loads files of the system.
+/// The most bytes of a file that are read: one more than a text may have, so that a longer one is noticed.
+const READ_LIMIT: usize = 65_537;
+
+/// Loads files that an opener opens, which was lent. The type keeps true that each answer is what reading the file at the
+/// path gave.
 #[derive(Drop)]
-pub struct FileLoader<'a, R: Files + Wait + Clock> {
+pub struct FileLoader<'a, R, F: Opener> {
     rt: &'a R,
     alloc: Global,
-    // Whether what isn't a regular file is refused.
-    only_regular: bool,
+    files: &'a mut F,
+    kinds: FileKinds,
     log: LoadLog,
+    lent: Snapshot<F>,
+    ghost loaded: { ∥ AreLoaded (F.opens kinds) F.closes F.File.supply lent.value (logged log) files.now ∥₁ },
 }
 
-impl<'a, R: Files + Wait + Clock> FileLoader<'a, R> {
-    /// A loader that was asked for no file yet. It also reads a named pipe or a terminal, and blocks until that ends.
-    pub fn new(rt: &'a R, alloc: Global) -> FileLoader<'a, R>
-        ensures { logged result.log ≡ [] }
+impl<'a, R, F: Opener> FileLoader<'a, R, F> {
+    /// A loader that was asked for no file yet, and opens files of these kinds alone.
+    pub fn new(rt: &'a R, alloc: Global, files: &'a mut F, kinds: FileKinds) -> FileLoader<'a, R, F>
+        ensures log { logged result.log ≡ [] }
+        ensures same_files { result.files.ghost_name ≡ files.entry.ghost_name }
+        ensures lent { result.lent.value ≡ files.old }
+        ensures kinds { result.kinds ≡ kinds }
     {
+        let lent = Snapshot::of(&*files);
         FileLoader {
             rt,
             alloc,
-            only_regular: false,
+            files,
+            kinds,
             log: LoadLog::new(),
+            lent,
         }
     }
 
-    /// A loader that was asked for no file yet. It refuses what isn't a regular file, such as a directory, a named pipe or a
-    /// terminal, with `CannotRead`, and never waits for it.
-    pub fn of_regular_files(rt: &'a R, alloc: Global) -> FileLoader<'a, R>
-        ensures { logged result.log ≡ [] }
+    /// Returns the opener.
+    pub fn into_files(self) -> &'a mut F
+        ensures same_files { result.ghost_name ≡ self.entry.files.ghost_name }
+        ensures loaded { ∥ AreLoaded (F.opens self.entry.kinds) F.closes F.File.supply self.entry.lent.value
+            (logged self.entry.log) result.now ∥₁ }
     {
-        FileLoader {
-            rt,
-            alloc,
-            only_regular: true,
-            log: LoadLog::new(),
-        }
+        self.files
     }
 }
 
-impl<R: Files + Wait + Clock> Loader for FileLoader<'_, R> {
+impl<R: Wait, F: Opener> Loader for FileLoader<'_, R, F> {
+    ghost use Rattle.std.specs.Prelude.{ℕ};
+    ghost use Rattle.byte_streams.specs.declared.files.FileKinds.{FileKinds};
     ghost use Rattle.dap_session.specs.Loads.{logged};
 
     ghost loaded = { λ loader. logged loader.log };
 
+    ghost Origin = { ℕ × F × FileKinds };
+
+    ghost origin = { λ loader. (loader.files.ghost_name, loader.lent.value, loader.kinds) };
+
     fn load(&mut self, path: &str) -> Result<Vec<u8>, LoadFault> {
-        let opened = if self.only_regular {
-            open_regular(self.rt, path)
-        } else {
-            fs::open(self.rt, path)
-        };
-        let answer = read_file(self.rt, self.alloc, opened);
+        let read = read_file(
+            self.rt, self.alloc, self.files, self.kinds, path, READ_LIMIT,
+        );
+        let answer = answer_of(read);
         self.log.note(path, answer)
     }
 }
 
-/// Opens a regular file. It looks at the kind of the file first, since opening a named pipe waits for whoever writes to it:
-/// so does one that takes the file's place in between.
-///
-/// # Errors
-///
-/// `InvalidInput` where the path leads to what isn't a regular file, and else as `fs::open`.
-fn open_regular<R: Files>(rt: &R, path: &str) -> io::Result<R::File> {
-    if fs::metadata(rt, path)?.is_file() {
-        fs::open(rt, path)
-    } else {
-        Err(ErrorKind::InvalidInput.into())
-    }
-}
-
 ghost use Rattle.std.specs.Prelude.{◌≤◌, length, IfOk};
-ghost use Rattle.byte_streams.specs.Beginning.{beginning_limit};
-ghost use Rattle.adapter.specs.Loading.{IsOfFile};
+ghost use Rattle.byte_streams.specs.Files.{plain_text};
+ghost use Rattle.dap_session.specs.Ports.{plain_file};
+ghost use Rattle.adapter.specs.Loading.{answer_of, read_limit};
 
-/// Returns the first 65,537 bytes of a file, or all where it has fewer.
-///
-/// # Errors
-///
-/// `CannotRead` where the file can't be opened or read, and `NoMemory` where memory ran out.
-fn read_file<R: Wait + Clock, I: Read + Drop>(
-    rt: &R,
-    alloc: Global,
-    opened: io::Result<I>,
-) -> Result<Vec<u8>, LoadFault>
-    ensures bytes { IfOk result (λ bytes. IsOfFile I.remaining opened bytes.items) }
-    ensures short { IfOk result (λ bytes. length bytes.items ≤ beginning_limit) }
+/// Returns the answer of a loader, by what reading the file gave.
+fn answer_of(read: Result<Vec<u8>, FileFault>) -> Result<Vec<u8>, LoadFault>
+    requires { IfOk read (λ text. length text.items ≤ read_limit) }
+    ensures answer { plain_file result ≡ answer_of (plain_text read) }
+    ensures short { IfOk result (λ text. length text.items ≤ read_limit) }
 {
-    match opened {
-        Ok(file) => match read_beginning(rt, alloc, &mut Reading::new(rt, file)) {
-            Ok(bytes) => Ok(bytes),
-            Err(ReadFault::CannotRead) => Err(LoadFault::CannotRead),
-            Err(ReadFault::NoMemory) => Err(LoadFault::NoMemory),
-        },
-        Err(error) if error.kind() == ErrorKind::OutOfMemory => Err(LoadFault::NoMemory),
+    match read {
+        Ok(text) => Ok(text),
+        Err(FileFault::NoMemory) => Err(LoadFault::NoMemory),
         Err(_) => Err(LoadFault::CannotRead),
     }
 }

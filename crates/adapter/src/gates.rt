@@ -79,6 +79,10 @@ impl<P: Ports, G: Gate> Ports for Gated<'_, P, G> {
 
     ghost origin = { λ gated. (P.origin gated.ports, gated.gate.ghost_name, gated.lent.value) };
 
+    ghost may_wait = { λ gated. P.may_wait gated.ports };
+
+    ghost may_pass = { λ gated. P.may_pass gated.ports };
+
     fn next(&mut self) -> Order {
         self.ports.next()
     }

@@ -2,12 +2,11 @@
 //!
 //! The one contract is that of [`run_process`], which is all that a `main` calls: what the arguments ask for was done
 //! over the input, the output and the errors that were lent, the exit code says how that ended, and standard error has
-//! it as its last line. [`run`] returns the reason in place of the code, and [`execute`] does it with another loader
-//! than that of the system's files. The contract cites three others: [`parse_arguments`](arguments::parse_arguments)
-//! says what the arguments ask for; [`serve`] says that reader, runner, session and writer, each in a thread, did
-//! together what `specs/Serving` defines; and [`check`] says that the listing of a file's text was written, which
-//! `specs/Listing` defines. The hard lemmas are in `proofs/Gathered`: they put together what the ends of the queues say
-//! when all threads were joined.
+//! it as its last line. [`run`] returns the reason in place of the code, and [`execute`] does it with any loader. The
+//! contract cites three others: [`parse_arguments`](arguments::parse_arguments) says what the arguments ask for;
+//! [`serve`] says that reader, runner, session and writer, each in a thread, did together what `specs/Serving` defines;
+//! and [`check`] says that the listing of a file's text was written, which `specs/Listing` defines. The hard lemmas are
+//! in `proofs/Gathered`: they put together what the ends of the queues say when all threads were joined.
 #![tactic(auto)]
 
 pub mod arguments;
@@ -25,7 +24,8 @@ mod tasks;
 mod thread_tasks;
 
 pub use byte_streams::{
-    ByteLog, IoFault, ReadFault, Reading, Sink, Source, Writing, read_beginning,
+    ByteLog, FileFault, FileKinds, IoFault, Opener, ReadFault, Reading, Sink, Source, SystemFiles,
+    Writing, read_beginning,
 };
 pub use checking::{CheckFault, check};
 pub use dap_session::FirstSeq;

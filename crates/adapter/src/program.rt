@@ -1,15 +1,13 @@
 //! The program from its arguments to its end.
 
-ghost use Rattle.std.specs.Prelude.{◌≡◌, [], List, Result, map, string_bytes};
+ghost use Rattle.std.specs.Prelude.{◌≡◌, Result, map, string_bytes};
 ghost use Rattle.std.specs.Process.{exit_status};
 ghost use Rattle.std.specs.Vec.Iter.{into_iter_items};
-ghost use Rattle.dap_history.specs.Interleaving.{Load};
 ghost use Rattle.adapter.specs.declared.exit_reason.ExitReason.{ExitReason};
 ghost use Rattle.adapter.specs.declared.checking.CheckFault.{CheckFault};
-ghost use Rattle.adapter.specs.Arguments.{IsParsed};
 ghost use Rattle.adapter.specs.Checking.{IsChecked};
 ghost use Rattle.adapter.specs.ExitReasons.{reason_of_check, status_of};
-ghost use Rattle.adapter.specs.Running.{EndsServing, Reports, Executes, Runs, EndsHelping, given_of};
+ghost use Rattle.adapter.specs.Running.{EndsServing, Reports, Executes, ExecutesOnFiles, Runs, EndsHelping, given_of};
 ghost use Rattle.adapter.specs.Serving.{streams};
 
 use crate::arguments::{ArgumentsFault, HELP, Invocation, parse_arguments};
@@ -21,79 +19,87 @@ use crate::files::FileLoader;
 use crate::gates::OpenGate;
 use crate::reporting::{EndReporter, note_mistake, note_unread, report};
 use crate::serving::{end_loan, serve};
-use byte_streams::{Sink, Source, WriteFailed, borrow_texts, collect_arguments, write_all};
+use byte_streams::{
+    FileKinds, Opener, Sink, Source, WriteFailed, borrow_texts, collect_arguments, write_all,
+};
 use dap_session::{FirstSeq, Loader};
 use std::env::Args;
 use std::io;
 use std::process::ExitCode;
-use std::rt::Files;
 use std::sync::Wait;
 use std::thread::Threads;
-use std::time::Clock;
 
 /// Does what the arguments ask for, as [`run`] does, and returns the exit code. A `main` is one call of it, with what
-/// `env::args` gave, the program's name first, and the standard streams.
-pub fn run_process<R, I, O, E>(
+/// `env::args` gave, the program's name first, the files of the system and the standard streams.
+pub fn run_process<R, F, I, O, E>(
     rt: &R,
     first: FirstSeq,
     given: io::Result<Args>,
+    files: &mut F,
     input: &mut I,
     output: &mut O,
     errors: &mut E,
 ) -> ExitCode
 where
-    R: Threads + Wait + Clock + Files + Eprint + AllocGlobal + Copy + Drop + Send,
+    R: Threads + Wait + Eprint + AllocGlobal + Copy + Drop + Send,
+    F: Opener,
     I: Source + Send,
     O: Sink + Send,
     E: Sink,
-    ensures { (reason : ExitReason) × (exit_status result ≡ status_of reason) × Runs first (given_of given) reason
+    ensures { (reason : ExitReason) × (exit_status result ≡ status_of reason) × Runs F.opens F.closes F.File.supply
+        first (given_of given) reason files.old files.new
         (streams (I.supply input.old) (O.output output.old)) (streams (I.supply input.new) (O.output output.new))
         (E.output errors.old) (E.output errors.new) }
 {
-    ExitCode::from(run(rt, first, given, input, output, errors).status())
+    ExitCode::from(run(rt, first, given, files, input, output, errors).status())
 }
 
-/// Does what the arguments ask for, as [`execute`] does, with the files of the system, and returns how that ended:
+/// Does what the arguments ask for, as [`execute`] does, with the files that are opened, and returns how that ended:
 /// `launch` gets regular files alone, and `--check` also what may block, such as a named pipe. Where an error was given
 /// in place of the arguments, it says so on `errors`, and does nothing else.
-pub fn run<R, I, O, E>(
+pub fn run<R, F, I, O, E>(
     rt: &R,
     first: FirstSeq,
     given: io::Result<Args>,
+    files: &mut F,
     input: &mut I,
     output: &mut O,
     errors: &mut E,
 ) -> ExitReason
 where
-    R: Threads + Wait + Clock + Files + Eprint + AllocGlobal + Copy + Drop + Send,
+    R: Threads + Wait + Eprint + AllocGlobal + Copy + Drop + Send,
+    F: Opener,
     I: Source + Send,
     O: Sink + Send,
     E: Sink,
-    ensures { Runs first (given_of given) result
+    ensures { Runs F.opens F.closes F.File.supply first (given_of given) result files.old files.new
         (streams (I.supply input.old) (O.output output.old)) (streams (I.supply input.new) (O.output output.new))
         (E.output errors.old) (E.output errors.new) }
 {
     match given {
-        Ok(given) => run_given(rt, first, given, input, output, errors),
+        Ok(given) => run_given(rt, first, given, files, input, output, errors),
         Err(error) => end_with(rt, &[], end_of_reading(&error), errors),
     }
 }
 
 /// Does what the arguments ask for, as [`run`] does.
-fn run_given<R, I, O, E>(
+fn run_given<R, F, I, O, E>(
     rt: &R,
     first: FirstSeq,
     given: Args,
+    files: &mut F,
     input: &mut I,
     output: &mut O,
     errors: &mut E,
 ) -> ExitReason
 where
-    R: Threads + Wait + Clock + Files + Eprint + AllocGlobal + Copy + Drop + Send,
+    R: Threads + Wait + Eprint + AllocGlobal + Copy + Drop + Send,
+    F: Opener,
     I: Source + Send,
     O: Sink + Send,
     E: Sink,
-    ensures { (loads : List Load) × Executes first (map string_bytes (into_iter_items given)) result [] loads
+    ensures { ExecutesOnFiles F.opens F.closes F.File.supply
+        first (map string_bytes (into_iter_items given)) result files.old files.new
         (streams (I.supply input.old) (O.output output.old)) (streams (I.supply input.new) (O.output output.new))
         (E.output errors.old) (E.output errors.new) }
 {
@@ -103,34 +109,15 @@ where
     let Ok(arguments) = borrow_texts(rt.alloc(), given.as_slice()) else {
         return end_with(rt, &[], ExitReason::NoMemory, errors);
     };
-    execute_on_files(rt, first, arguments.as_slice(), input, output, errors)
-}
-
-/// Does what the arguments ask for, as [`execute`] does, with the files of the system.
-fn execute_on_files<R, I, O, E>(
-    rt: &R,
-    first: FirstSeq,
-    arguments: &[&str],
-    input: &mut I,
-    output: &mut O,
-    errors: &mut E,
-) -> ExitReason
-where
-    R: Threads + Wait + Clock + Files + Eprint + AllocGlobal + Copy + Drop + Send,
-    I: Source + Send,
-    O: Sink + Send,
-    E: Sink,
-    ensures { (loads : List Load) × Executes first (map (λ argument. argument.now) arguments.entry.now) result [] loads
-        (streams (I.supply input.old) (O.output output.old)) (streams (I.supply input.new) (O.output output.new))
-        (E.output errors.old) (E.output errors.new) }
-{
-    let asked = parse_arguments(rt.alloc(), arguments);
-    let mut files = match asked {
-        Ok(Invocation::Check(_)) => FileLoader::new(rt, rt.alloc()),
-        Ok(Invocation::Serve) | Err(_) => FileLoader::of_regular_files(rt, rt.alloc()),
+    let arguments = arguments.as_slice();
+    let kinds = match parse_arguments(rt.alloc(), arguments) {
+        Ok(Invocation::Check(_)) => FileKinds::All,
+        Ok(Invocation::Serve) | Err(_) => FileKinds::Regular,
     };
-    let loader = &mut files;
-    carry_out(rt, first, arguments, asked, loader, input, output, errors)
+    let mut loader = FileLoader::new(rt, rt.alloc(), files, kinds);
+    let reason = execute(rt, first, arguments, &mut loader, input, output, errors);
+    end_loan(loader.into_files());
+    reason
 }
 
 /// Does what the arguments ask for, the program's name first, and returns how that ended. A client that is served may
@@ -152,39 +139,13 @@ where
     I: Source + Send,
     O: Sink + Send,
     E: Sink,
-    ensures { Executes first (map (λ argument. argument.now) arguments.entry.now) result (L.loaded loader.old)
+    ensures executes { Executes first (map (λ argument. argument.now) arguments.entry.now) result (L.loaded loader.old)
         (L.loaded loader.new)
         (streams (I.supply input.old) (O.output output.old)) (streams (I.supply input.new) (O.output output.new))
         (E.output errors.old) (E.output errors.new) }
+    ensures loader { L.origin loader.new ≡ L.origin loader.old }
 {
-    let asked = parse_arguments(rt.alloc(), arguments);
-    carry_out(rt, first, arguments, asked, loader, input, output, errors)
-}
-
-/// Does what the arguments were found to ask for, as [`execute`] does.
-fn carry_out<R, L, I, O, E>(
-    rt: &R,
-    first: FirstSeq,
-    arguments: &[&str],
-    asked: Result<Invocation, ArgumentsFault>,
-    loader: &mut L,
-    input: &mut I,
-    output: &mut O,
-    errors: &mut E,
-) -> ExitReason
-where
-    R: Threads + Wait + Eprint + AllocGlobal + Copy + Drop + Send,
-    L: Loader,
-    I: Source + Send,
-    O: Sink + Send,
-    E: Sink,
-    requires { IsParsed (map (λ argument. argument.now) arguments.now) asked }
-    ensures { Executes first (map (λ argument. argument.now) arguments.entry.now) result (L.loaded loader.old)
-        (L.loaded loader.new)
-        (streams (I.supply input.old) (O.output output.old)) (streams (I.supply input.new) (O.output output.new))
-        (E.output errors.old) (E.output errors.new) }
-{
-    let reason = match asked {
+    let reason = match parse_arguments(rt.alloc(), arguments) {
         Ok(Invocation::Serve) => return serve_client(rt, first, loader, input, output, errors),
         Ok(Invocation::Check(file)) => check_file(rt, file, loader, output),
         Err(ArgumentsFault::Help) => show_help(rt, output),
@@ -224,6 +185,7 @@ where
     E: Sink,
     ensures served { EndsServing first result (L.loaded loader.old) (L.loaded loader.new)
         (streams (I.supply input.old) (O.output output.old)) (streams (I.supply input.new) (O.output output.new)) }
+    ensures loader { L.origin loader.new ≡ L.origin loader.old }
     ensures reports { Reports result (E.output errors.old) (E.output errors.new) }
 {
     let alloc = rt.alloc();
@@ -240,9 +202,10 @@ where
     R: Wait + Eprint + AllocGlobal,
     L: Loader,
     O: Sink,
-    ensures { (outcome : Result (Unit {0}) CheckFault) × (result ≡ reason_of_check outcome)
+    ensures checked { (outcome : Result (Unit {0}) CheckFault) × (result ≡ reason_of_check outcome)
         × IsChecked file.now outcome (L.loaded loader.old) (L.loaded loader.new)
         (O.output output.old) (O.output output.new) }
+    ensures loader { L.origin loader.new ≡ L.origin loader.old }
 {
     let checked = check_keeping(rt, rt.alloc(), file, loader, output);
     match checked.outcome {

@@ -75,6 +75,7 @@ where
         (streams (I.supply input.old) (O.output output.old)))
         (world (L.loaded loader.new) (G.passed gate.new)
         (streams (I.supply input.new) (O.output output.new))) }
+    ensures loader { L.origin loader.new ≡ L.origin loader.old }
     ensures told { E.tells listener.old listener.new result }
 {
     match Wires::new(*rt, alloc) {
@@ -111,6 +112,7 @@ where
         (streams (I.supply input.old) (O.output output.old)))
         (world (L.loaded loader.new) (G.passed gate.new)
         (streams (I.supply input.new) (O.output output.new))) }
+    ensures loader { L.origin loader.new ≡ L.origin loader.old }
     ensures told { E.tells listener.old listener.new result }
 {
     let (writer, runner, reader, session) = tasks_over(

@@ -8,12 +8,12 @@ ghost use Rattle.dap_session.specs.Serving.{Driven};
 ghost use Rattle.dbg_runner.specs.Runner.{Act, Idle, Ended, DoesAll};
 ghost use Rattle.dbg_runner.specs.Queues.{order_in, sent_in, passed_in};
 ghost use Rattle.dap_wires.specs.declared.writer_message.WriterMessage.{WriterMessage};
-ghost use Rattle.dap_wires.specs.Inbox.{client_events, client_queue, sent_reports, refused_reports, report_queue, taken_events, received, left_queue, event_queue};
-ghost use Rattle.dap_wires.specs.Outbox.{put_frames, frame_queue, messages_put, ended_queue, messages_taken, messages_received, received_queue, writer_queue};
+ghost use Rattle.dap_wires.specs.Inbox.{client_events, client_queue, sent_reports, refused_reports, report_queue, taken_events, event_queue, session_events, session_origin, received, left_queue};
+ghost use Rattle.dap_wires.specs.Outbox.{put_frames, keeps_none, frame_queue, messages_put, ended_queue, messages_taken, messages_received, received_queue, writer_queue, end_taken, end_queue, end_first};
 ghost use Rattle.dap_wires.specs.Orders.{pushed_orders, push_queue, taken_orders, pop_queue};
 ghost use Rattle.byte_streams.specs.Streams.{IsOfWhole};
 ghost use Rattle.dap_wires.specs.Reading.{IsReadUntil};
-ghost use Rattle.dap_wires.specs.Writing.{IsWrittenUntil};
+ghost use Rattle.dap_wires.specs.Writing.{IsWrittenUntil, OwesNothing};
 ghost use Rattle.adapter.specs.ThreadTasks.{SessionLeaves};
 
 use crate::gates::{Gated, OpenGate};
@@ -21,8 +21,8 @@ use crate::tasks::{LastTask, Task};
 use byte_streams::{Sink, Source, WriteFailed};
 use dap_session::{Closed, FirstSeq, Loader, Order, Orders, SessionFault, drive};
 use dap_wires::{
-    ClientSender, EventReceiver, FrameReceiver, FrameSender, OrderReceiver, OrderSender, OutboxLog,
-    ReadEnd, ReportSender, SessionEnds, Wires, read_loop, write_loop,
+    ClientSender, FrameSender, OrderReceiver, OrderSender, OutboxLog, ReadEnd, ReportSender,
+    SessionEnds, SessionInbox, Wires, WriterEnd, read_loop, write_loop,
 };
 use dbg_runner::{Gate, Joined, work};
 use std::alloc::Global;
@@ -64,16 +64,16 @@ impl<'a, I: Source, R: Wait + Drop> Task for ReaderTask<'a, I, R> {
 pub struct WriterTask<'a, O, R: Wait + Drop> {
     rt: R,
     output: &'a mut O,
-    outbox: FrameReceiver<R>,
+    outbox: WriterEnd<O, R>,
 }
 
 impl<'a, O: Sink, R: Wait + Drop> Task for WriterTask<'a, O, R> {
     type Output = (&'a mut O, OutboxLog, Result<(), WriteFailed>);
 
-    ghost can_run = { λ _. ⊤ };
+    ghost can_run = { λ t. OwesNothing (end_taken t.outbox) (O.output (end_first t.outbox)) (O.output t.output.now) };
 
-    ghost gives = { λ t r. (r.0.ghost_name ≡ t.output.ghost_name) × (received_queue r.1 ≡ writer_queue t.outbox)
-        × ((taken : List WriterMessage) × (messages_received r.1 ≡ messages_taken t.outbox ++ taken)
+    ghost gives = { λ t r. (r.0.ghost_name ≡ t.output.ghost_name) × (received_queue r.1 ≡ end_queue t.outbox)
+        × ((taken : List WriterMessage) × (messages_received r.1 ≡ end_taken t.outbox ++ taken)
         × IsWrittenUntil r.2 taken (O.output t.output.now) (O.output r.0.now)) };
 
     fn run(self) -> (&'a mut O, OutboxLog, Result<(), WriteFailed>) {
@@ -132,7 +132,7 @@ pub struct SessionTask<'a, L, R: Wait + Drop> {
     alloc: Global,
     first: FirstSeq,
     loader: &'a mut L,
-    inbox: EventReceiver<R>,
+    inbox: SessionInbox<L, FrameSender<R>, OrderSender<R>, R>,
     outbox: FrameSender<R>,
     orders: OrderSender<R>,
 }
@@ -140,15 +140,19 @@ pub struct SessionTask<'a, L, R: Wait + Drop> {
 impl<'a, L: Loader, R: Wait + Drop> Task for SessionTask<'a, L, R> {
     type Output = (&'a mut L, SessionEnds<R>, Result<Closed, SessionFault>);
 
-    ghost can_run = { λ _. ⊤ };
+    // The inbox is that of a session over these ports, which has taken and put nothing.
+    ghost can_run = { λ t. (session_events t.inbox ≡ []) × keeps_none t.outbox
+        × (session_origin t.inbox
+        ≡ ((session_origin t.inbox).0, t.first, t.loader.now, t.outbox, t.orders)) };
 
     ghost gives = { λ t r. (r.0.ghost_name ≡ t.loader.ghost_name)
-        × (left_queue r.1.inbox ≡ event_queue t.inbox)
+        × (left_queue r.1.inbox ≡ (session_origin t.inbox).0)
         × (ended_queue r.1.outbox ≡ frame_queue t.outbox)
         × (push_queue r.1.orders ≡ push_queue t.orders)
-        × SessionLeaves t.first r.2 (taken_events t.inbox) (received r.1.inbox) (L.loaded t.loader.now)
+        × SessionLeaves t.first r.2 (session_events t.inbox) (received r.1.inbox) (L.loaded t.loader.now)
         (L.loaded r.0.now)
-        (ports (put_frames t.outbox) (pushed_orders t.orders)) (messages_put r.1.outbox) (pushed_orders r.1.orders) };
+        (ports (put_frames t.outbox) (pushed_orders t.orders)) (messages_put r.1.outbox) (pushed_orders r.1.orders)
+        × (L.origin r.0.now ≡ L.origin t.loader.now) };
 
     fn run(self) -> (&'a mut L, SessionEnds<R>, Result<Closed, SessionFault>) {
         let SessionTask {
@@ -175,7 +179,8 @@ impl<'a, L: Loader, R: Wait + Drop> Task for SessionTask<'a, L, R> {
 impl<'a, L: Loader, R: Wait + Drop> LastTask for SessionTask<'a, L, R> {
     type Rest = &'a mut L;
 
-    ghost leaves = { λ t r. (r.ghost_name ≡ t.loader.ghost_name) × (L.loaded r.now ≡ L.loaded t.loader.now) };
+    ghost leaves = { λ t r. (r.ghost_name ≡ t.loader.ghost_name) × (L.loaded r.now ≡ L.loaded t.loader.now)
+        × (L.origin r.now ≡ L.origin t.loader.now) };
 
     fn give_up(self) -> &'a mut L {
         let SessionTask {
@@ -191,7 +196,7 @@ impl<'a, L: Loader, R: Wait + Drop> LastTask for SessionTask<'a, L, R> {
 }
 
 /// Makes the tasks of the writer, the runner, the reader and the session, each with the ends of the queues that it needs.
-pub fn tasks_over<'a, R: Wait + Copy + Drop, I, O, L, G>(
+pub fn tasks_over<'a, R: Wait + Copy + Drop, I, O: Sink, L, G>(
     rt: R,
     alloc: Global,
     first: FirstSeq,
@@ -206,9 +211,13 @@ pub fn tasks_over<'a, R: Wait + Copy + Drop, I, O, L, G>(
     ReaderTask<'a, I, R>,
     SessionTask<'a, L, R>,
 )
+    requires messages { messages_taken wires.messages ≡ [] }
+    requires events { taken_events wires.events ≡ [] }
     ensures same_output { result.0.output.ghost_name ≡ output.entry.ghost_name }
     ensures output { result.0.output.now ≡ output.old }
-    ensures outbox { result.0.outbox ≡ wires.messages }
+    ensures none_taken { end_taken result.0.outbox ≡ [] }
+    ensures outbox { end_queue result.0.outbox ≡ writer_queue wires.messages }
+    ensures first_output { end_first result.0.outbox ≡ output.old }
     ensures taken { result.1.orders ≡ wires.taken }
     ensures reports { result.1.reports ≡ wires.reports }
     ensures same_gate { result.1.gate.ghost_name ≡ gate.entry.ghost_name }
@@ -219,15 +228,14 @@ pub fn tasks_over<'a, R: Wait + Copy + Drop, I, O, L, G>(
     ensures first { result.3.first ≡ first }
     ensures same_loader { result.3.loader.ghost_name ≡ loader.entry.ghost_name }
     ensures loader { result.3.loader.now ≡ loader.old }
-    ensures events { result.3.inbox ≡ wires.events }
+    ensures events { session_events result.3.inbox ≡ [] }
+    ensures inbox { session_origin result.3.inbox
+        ≡ (event_queue wires.events, first, loader.old, wires.frames, wires.pushed) }
     ensures frames { result.3.outbox ≡ wires.frames }
     ensures pushed { result.3.orders ≡ wires.pushed }
 {
-    let writer = WriterTask {
-        rt,
-        output,
-        outbox: wires.messages,
-    };
+    let outbox = WriterEnd::new(wires.messages, output);
+    let writer = WriterTask { rt, output, outbox };
     let runner = RunnerTask {
         rt,
         alloc,
@@ -241,12 +249,20 @@ pub fn tasks_over<'a, R: Wait + Copy + Drop, I, O, L, G>(
         input,
         inbox: wires.client,
     };
+    let inbox = SessionInbox::new(
+        rt,
+        wires.events,
+        first,
+        &*loader,
+        &wires.frames,
+        &wires.pushed,
+    );
     let session = SessionTask {
         rt,
         alloc,
         first,
         loader,
-        inbox: wires.events,
+        inbox,
         outbox: wires.frames,
         orders: wires.pushed,
     };

@@ -1,5 +1,5 @@
 -- A session that is driven.
-use Rattle.std.proofs.Common.{◌≡◌, inl, inr, ℕ, List, [], ◌∷◌, ◌++◌, Option, None, Some, option_map, Result, Ok, Err, refl, sym, ◌∙◌, ap, subst, append_assoc, append-nil, lit≤}
+use Rattle.std.proofs.Common.{◌≡◌, inl, inr, ℕ, List, [], ◌∷◌, ◌++◌, Option, None, Some, option_map, IfSome, Result, Ok, Err, refl, sym, ◌∙◌, ap, subst, append_assoc, append-nil, lit≤}
 use Rattle.std.specs.Prelude.{string_bytes}
 use Rattle.dap_msg.specs.declared.request.FirstSeq.{FirstSeq}
 use Rattle.dap_history.specs.declared.ending.Closed.{Closed}
@@ -24,7 +24,7 @@ use Rattle.dap_session.specs.Ports.{Ports, load_of}
 use Rattle.dap_session.specs.Sending.{Sends, RefusesNothing, TriesQuit}
 use Rattle.dap_session.specs.State.{State, Represents, Wants, WantsHere, IsOpenEnded}
 use Rattle.dap_session.specs.Taking.{Expects, NeedsNoMemory, EventGivesUp, Comes, TakesEvent}
-use Rattle.dap_session.specs.Serving.{ReachesLast, Serves, StopsShort, no_seq_is_left, orders_are_full, runner_is_gone, writer_is_gone, SessionOutcome, closes, ends_at_fault, runs_out_of_memory, gives_up, Driven}
+use Rattle.dap_session.specs.Serving.{ReachesLast, Serves, StopsShort, no_seq_is_left, orders_are_full, runner_is_gone, writer_is_gone, SessionOutcome, closes, ends_at_fault, runs_out_of_memory, gives_up, Driven, OwesOnly}
 use Rattle.dap_session.specs.Coming.{Sources, ComesFrom}
 use Rattle.dap_session.proofs.Reports.{accepts_expected}
 use Rattle.dap_session.proofs.Joining.{sends_both, refuses_both, sends_nothing}
@@ -97,15 +97,10 @@ pub record Way (f : FirstSeq) (session : State) (wanted : Option (List ℕ)) (be
   pub open_ended : session.ending ≡ None
   pub wanted_is : wanted ≡ path_of session.phase
 
--- a session that has taken no event keeps the first number that it was made with
-pub first_is : (session : State) (f : FirstSeq) → Represents f session [] [] → session.stream.first ≡ f
-first_is session f stands = ap (λ s. s.first) (stands.goes_on refl).stream_is
-
+-- the way begins with a session that has taken no event
 pub way_begins : (f : FirstSeq) (session : State) (begin : Sources) (old : Ports) → Represents f session [] []
-    → session.ending ≡ None
-    → None ≡ path_of session.phase
     → Way f session None begin begin old old
-way_begins f session begin old stands open_ none = record {
+way_begins f session begin old stands = record {
   events = [];
   past = [];
   given = [];
@@ -117,18 +112,10 @@ way_begins f session begin old stands open_ none = record {
   stands = stands;
   sent = sends_nothing [] old;
   sure = record { writer = refl; runner = refl; full = refl };
-  open_ended = open_;
-  wanted_is = none;
+  open_ended = stands.ending_is;
+  wanted_is = sym (ap (option_map (λ launch. launch.arguments.program))
+      ((stands.goes_on refl).launch_is ∙ ap (λ (r : Rest). r.launch) stands.history.1));
 }
-
--- the way begins with a session that has taken no event
-pub way_made : (session : State) (f : FirstSeq) (begin : Sources) (old : Ports) → Represents f session [] []
-    → Way session.stream.first session None begin begin old old
-way_made session f begin old stands =
-    way_begins session.stream.first session begin old
-    (subst (λ g. Represents g session [] []) (sym (first_is session f stands)) stands) stands.ending_is
-    (sym (ap (option_map (λ launch. launch.arguments.program))
-    ((stands.goes_on refl).launch_is ∙ ap (λ (r : Rest). r.launch) stands.history.1)))
 
 -- ---- the next event
 
@@ -451,3 +438,33 @@ not_open_ended session None want is closed wants open_ = never want (launch_of s
     never want (Some launch) closed wants = let e = wants.1 in cc
 not_open_ended session (Some (ending.Closed by)) want is closed wants open_ = open_
 not_open_ended session (Some (ending.Fault fault)) want is closed wants open_ = wants
+
+-- ---- between two events
+
+-- on its way a session owes nothing but the launch of the file that it wants
+pub way_owes : {f : FirstSeq} {session : State} {wanted : Option (List ℕ)} {begin now : Sources} {old later : Ports}
+    → Way f session wanted begin now old later → OwesOnly f wanted begin now old later
+way_owes {old = old} way =
+    let taking : IsTaking way.past = sym way.stands.ending_is ∙ way.open_ended in record {
+      events = way.events;
+      given = way.given;
+      loads = way.loads;
+      given_are = way.given_are;
+      loads_are = way.loads_are;
+      interleaves = way.interleaves;
+      past = way.past;
+      rest = way.stands.rest;
+      history = way.stands.history;
+      taking = taking;
+      waits =
+          way.wanted_is ∙ ap (option_map (λ launch. launch.arguments.program)) (way.stands.goes_on taking).launch_is;
+      frames_are = way.sent.frames_are ∙ ap (λ ms. old.frames ++ frames_from 1 ms) (sym way.sent.adds.messages_are);
+      orders_are = way.sent.orders_are ∙ ap (λ os. old.orders ++ os) (sym way.sent.adds.orders_are);
+      refuses_nothing = way.sure;
+    }
+
+-- what holds of each path that is wanted holds of this one
+pub of_wanted : {A : Type 0} (bytes : A → List ℕ) (P : List ℕ → Type 0) (wanted : Option A)
+    → ((file : List ℕ) → option_map bytes wanted ≡ Some file → P file) → IfSome wanted (λ path. P (bytes path))
+of_wanted bytes P None known = tt
+of_wanted bytes P (Some path) known = known (bytes path) refl

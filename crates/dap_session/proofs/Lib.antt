@@ -33,3 +33,5 @@ pub mod Retaken
 pub mod Beginnings
 -- What a session put is numbered, and read back; for the clause `numbered` of `session_laws`.
 pub mod Numbering
+-- What a session has sent where it waits is determined; for `serving_laws`.
+pub mod Owing

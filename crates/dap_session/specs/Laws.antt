@@ -1,5 +1,5 @@
 -- States what holds of all that a session sends.
-use Rattle.std.specs.Prelude.{◌≡◌, ◌⊎◌, ◌+◌, ◌<◌, ◌^◌, ◌++◌, ◌∷◌, [], ℕ, List, length, slice_get, Some, Result, Err}
+use Rattle.std.specs.Prelude.{◌≡◌, ◌⊎◌, ◌+◌, ◌<◌, ◌^◌, ◌++◌, ◌∷◌, [], ℕ, List, length, slice_get, Option, Some, Result, Err}
 use Rattle.dap_frame.specs.Frame.{frame_of}
 use Rattle.dap_msg.specs.declared.outgoing.Outgoing.{Outgoing}
 use Rattle.dap_msg.specs.Laws.{ReadsAsMessage}
@@ -7,14 +7,16 @@ use Rattle.dap_msg.specs.declared.request.FirstSeq.{FirstSeq}
 use Rattle.dbg_runner.specs.Plain.{PlainOrder}
 use Rattle.dap_history.specs.declared.ending.Closed.{Closed}
 use Rattle.dap_history.specs.declared.fault.SessionFault.{SessionFault}
-use Rattle.dap_history.specs.History.{History, messages_of, orders_of}
+use Rattle.dap_history.specs.declared.fault.SessionFault.TheVariants.{SeqExhausted}
+use Rattle.dap_history.specs.History.{History, messages_of, next_seq, orders_of}
 use Rattle.dap_history.specs.Events.{Incoming, Rest, AreLawful, IsHistoryOf}
 use Rattle.dap_history.specs.Interleaving.{Load}
 use Rattle.dap_history.specs.Output.{frames_from}
 use Rattle.dap_session.specs.Ports.{Ports}
-use Rattle.dap_session.specs.Sending.{IsPrefixOf, TriesQuit}
+use Rattle.dap_session.specs.Coming.{Sources}
+use Rattle.dap_session.specs.Sending.{BreaksOff, IsPrefixOf, TriesQuit}
 use Rattle.dap_session.specs.Taking.{Toward}
-use Rattle.dap_session.specs.Serving.{ReachesLast, Driven}
+use Rattle.dap_session.specs.Serving.{ReachesLast, Driven, OwesOnly}
 
 -- All events but the last were taken, and some items of the last, perhaps none.
 pub record IsOnTheWay (first : FirstSeq) (events : List Incoming) (reached : History) : Type 0 where
@@ -69,3 +71,16 @@ FramesAreNumbered =
     (loaded_before loaded_after : List Load) (old later : Ports)
     → (driven : Driven first result given_before given_after loaded_before loaded_after old later)
     → (reached : History) × IsReached first driven.events reached × PutsNumbered reached old later
+
+-- A session that has no number left for a message has one that would be 2^53 or more.
+abbrev pub SeqsEndLate : Type 0
+SeqsEndLate =
+    (past new : History) (old later : Ports) → BreaksOff SeqExhausted past new old later → 2 ^ 53 < next_seq new
+
+-- Where a session owes nothing but a launch, or nothing at all, what its inbox and its loader returned says what it has
+-- sent, and which file it wants.
+abbrev pub SentIsKnown : Type 0
+SentIsKnown =
+    (first : FirstSeq) (path other : Option (List ℕ)) (begin now : Sources) (old later last : Ports)
+    → OwesOnly first path begin now old later → OwesOnly first other begin now old last
+    → (path ≡ other) × (later.frames ≡ last.frames) × (later.orders ≡ last.orders)

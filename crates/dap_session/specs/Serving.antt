@@ -1,5 +1,5 @@
 -- Defines what a whole session sends.
-use Rattle.std.specs.Prelude.{◌≡◌, ◌≤◌, ◌^◌, ◌++◌, ◌∷◌, [], List, Some, Result, Ok, Err}
+use Rattle.std.specs.Prelude.{◌≡◌, ◌≤◌, ◌^◌, ◌++◌, ◌∷◌, [], ℕ, List, Option, None, Some, option_map, Result, Ok, Err}
 use Rattle.dap_frame.specs.declared.fault.FramingFault.{FramingFault}
 use Rattle.dap_msg.specs.declared.request.FirstSeq.{FirstSeq}
 use Rattle.dap_history.specs.declared.fault.SessionFault.{SessionFault}
@@ -14,6 +14,7 @@ use Rattle.dap_history.specs.Events.{Incoming, Rest, IsTaking, AreLawful, IsHist
 use Rattle.dap_history.specs.Output.{frames_from}
 use Rattle.dap_history.specs.Interleaving.{Load, Interleaves}
 use Rattle.dap_session.specs.Ports.{Ports}
+use Rattle.dap_session.specs.Coming.{Sources}
 use Rattle.dap_session.specs.Sending.{Sends, RefusesNothing, TriesQuit}
 use Rattle.dap_session.specs.Taking.{NeedsNoMemory, EventGivesUp}
 
@@ -100,3 +101,26 @@ pub record Driven (first : FirstSeq) (result : Result Closed SessionFault) (give
   pub loads_are : loaded_after ≡ loaded_before ++ loads
   pub lawful : AreLawful events
   pub drives : SessionOutcome first events given loads old later result
+
+-- A session that goes on owes nothing but this: where a path is given, the launch of the file at it, and the contents
+-- behind that launch. All other events that an inbox and a loader returned were taken, everything that they cause was
+-- sent, the ports refused nothing, and no content that came whole is left.
+pub record OwesOnly (first : FirstSeq) (path : Option (List ℕ)) (begin now : Sources) (old later : Ports) : Type 0 where
+  pub events : List Incoming
+  pub given : List Incoming
+  pub loads : List Load
+  pub given_are : now.given ≡ begin.given ++ given
+  pub loads_are : now.loaded ≡ begin.loaded ++ loads
+  pub interleaves : Interleaves first [] events given loads
+  pub past : History
+  pub rest : Rest
+  pub history : IsHistoryOf first events past rest
+  pub taking : IsTaking past
+  pub waits : path ≡ option_map (λ launch. launch.arguments.program) rest.launch
+  pub frames_are : later.frames ≡ old.frames ++ frames_from 1 (messages_of past)
+  pub orders_are : later.orders ≡ old.orders ++ orders_of past
+  pub refuses_nothing : RefusesNothing old later
+
+-- A session that goes on owes nothing: it has answered all that came whole.
+abbrev pub OwesNothing : FirstSeq → Sources → Sources → Ports → Ports → Type 0
+OwesNothing first begin now old later = OwesOnly first None begin now old later

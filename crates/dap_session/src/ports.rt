@@ -109,8 +109,8 @@ pub trait Orders {
         ensures origin { origin self.new ≡ origin self.old };
 }
 
-/// Where events come from.
-pub trait Inbox {
+/// Where events come from, for a session with these other ports.
+pub trait Inbox<L, O, D> {
     ghost use Rattle.dap_history.specs.Events.{Incoming};
     ghost use Rattle.dap_session.specs.Incoming.{incoming_of};
     ghost use Rattle.std.specs.Prelude.{◌≡◌, ◌++◌, ◌∷◌, [], List};
@@ -123,8 +123,13 @@ pub trait Inbox {
 
     ghost origin: { Self → Origin };
 
-    /// Returns the next event. It may block until one comes.
-    fn next(&mut self) -> Event
+    /// Where the next event may be asked for, by what this port and the others have done so far. An inbox that leaves it
+    /// out may be asked at any time. Whatever it is, [`drive`](crate::drive) asks only where it owes nothing.
+    ghost may_ask: { Self → L → O → D → Type 0 } = { λ _ _ _ _. Unit {0} };
+
+    /// Returns the next event. It may block until one comes. The other ports are lent to say what they have done by then.
+    fn next(&mut self, loader: &L, out: &O, orders: &D) -> Event
+        requires { may_ask self.old loader.now out.now orders.now }
         ensures given { given self.new ≡ given self.old ++ incoming_of result ∷ [] }
         ensures origin { origin self.new ≡ origin self.old };
 }
@@ -139,9 +144,59 @@ pub trait Loader {
     /// The paths asked for and the answers returned so far, the oldest first: a file, `CannotRead` or `NoMemory`.
     ghost loaded: { Self → List Load };
 
+    /// What underlies the loader, which no call changes.
+    ghost Origin: { Type 0 };
+
+    ghost origin: { Self → Origin };
+
     /// Returns the bytes of the file at a path, or the first 65,537 of them where it has more: one more than a program's
     /// text may have.
     fn load(&mut self, path: &str) -> Result<Vec<u8>, LoadFault>
         ensures loaded { loaded self.new ≡ loaded self.old ++ load_of path.now (plain_file result) ∷ [] }
-        ensures short { IfOk result (λ file. length file.items ≤ limit + 1) };
+        ensures short { IfOk result (λ file. length file.items ≤ limit + 1) }
+        ensures origin { origin self.new ≡ origin self.old };
+}
+
+/// A loader that may be asked only at some times, for a session with these other ports. Each [`Loader`] is one that may be
+/// asked at any time. A function over this trait asks only where its contract says that it may.
+pub trait GuardedLoader<I, O, D> {
+    ghost use Rattle.dap_history.specs.Interleaving.{Load};
+    ghost use Rattle.dap_session.specs.Ports.{load_of, plain_file};
+    ghost use Rattle.std.specs.Prelude.{◌≡◌, ◌++◌, ◌∷◌, [], ◌≤◌, ◌+◌, ℕ, List, length, IfOk};
+    ghost use Rattle.pl0_tree.specs.Faults.{limit};
+
+    /// As [`Loader`] says.
+    ghost loaded: { Self → List Load };
+
+    ghost Origin: { Type 0 };
+
+    ghost origin: { Self → Origin };
+
+    /// Where it may be asked for the file at a path, by what this port and the others have done so far.
+    ghost may_load: { Self → List ℕ → I → O → D → Type 0 } = { λ _ _ _ _ _. Unit {0} };
+
+    /// Returns what [`Loader::load`] does. The other ports are lent to say what they have done by then.
+    fn load(&mut self, path: &str, inbox: &I, out: &O, orders: &D) -> Result<Vec<u8>, LoadFault>
+        requires { may_load self.old path.now inbox.now out.now orders.now }
+        ensures loaded { loaded self.new ≡ loaded self.old ++ load_of path.now (plain_file result) ∷ [] }
+        ensures short { IfOk result (λ file. length file.items ≤ limit + 1) }
+        ensures origin { origin self.new ≡ origin self.old };
+}
+
+impl<L: Loader, I, O, D> GuardedLoader<I, O, D> for L {
+    ghost loaded = { L.loaded };
+
+    ghost Origin = { L.Origin };
+
+    ghost origin = { L.origin };
+
+    fn load(
+        &mut self,
+        path: &str,
+        _inbox: &I,
+        _out: &O,
+        _orders: &D,
+    ) -> Result<Vec<u8>, LoadFault> {
+        Loader::load(self, path)
+    }
 }

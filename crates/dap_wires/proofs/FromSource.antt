@@ -34,3 +34,11 @@ piece_short n size room piece is room_is =
 pub piece_some : (n : ℕ) (room piece : List ℕ) → piece ≡ take n room → (n ≡ 0 → ⊥) → n ≤ length room → 0 < length piece
 piece_some n room piece is some within =
     let e = ap length is in let l = length-take n room in omega (arith, e, l, some, within)
+
+-- what gave no byte, no end and no failure is as it was
+pub supply_same : (now old : Supply) → now.read ≡ old.read → now.ended ≡ old.ended → now.failures ≡ old.failures
+    → now ≡ old
+supply_same now old read ended failures =
+    ap (λ r. record { read = r; ended = now.ended; failures = now.failures }) read
+    ∙ ap (λ e. record { read = old.read; ended = e; failures = now.failures }) ended
+    ∙ ap (λ f. record { read = old.read; ended = old.ended; failures = f }) failures

@@ -8,6 +8,7 @@ use Rattle.dap_wires.specs.declared.writer_message.WriterMessage.TheVariants as 
 use Rattle.dap_wires.specs.declared.bundle.Bundle.{Bundle}
 use Rattle.dap_wires.specs.WriterMessages.{bundled, frames_in, has_end, AreEnded}
 use Rattle.byte_streams.specs.Streams.{Output, Appends, AppendsPart, WritesAll, FailsIn}
+use Rattle.dap_wires.specs.Writing.{OwesNothing}
 use Rattle.dap_wires.proofs.Growing.{one_more}
 use Rattle.byte_streams.proofs.Appending.{appends_both}
 use Rattle.dap_wires.proofs.Sending.{frames_append, frame_keeps_open, end_ends, frames_end}
@@ -86,3 +87,16 @@ written_ends taken_old taken_mid taken_new old later w took = (
     ),
   ),
 )
+
+-- where nothing was owed, and then frames were taken and written whole, nothing is owed
+pub owes_nothing : (taken_old taken_new : List WriterMessage) (first old later : Output)
+    → OwesNothing taken_old first old → WrittenSoFar taken_old taken_new old later → OwesNothing taken_new first later
+owes_nothing taken_old taken_new first old later before w =
+    let bytes = sym (ap (λ l. concat (frames_in l)) w.taken_is
+    ∙ ap concat (frames_append taken_old w.taken)
+    ∙ concat-append (frames_in taken_old) (frames_in w.taken)) in (
+      subst (Appends first.written later.written) bytes
+          (appends_both first.written old.written later.written (concat (frames_in taken_old))
+          (concat (frames_in w.taken)) before.0 w.written),
+      w.failures ∙ before.1,
+    )

@@ -2,15 +2,17 @@
 use Rattle.std.specs.Prelude.{ℕ, List, map, ◌++◌}
 use Rattle.std.specs.List.{flat_map}
 use Rattle.std.specs.VecDeque.{deque_len}
+use Rattle.dap_msg.specs.declared.request.FirstSeq.{FirstSeq}
 use Rattle.dap_session.specs.Incoming.{incoming_of}
 use Rattle.dap_history.specs.Events.{Incoming}
 use Rattle.dbg_runner.specs.Plain.{PlainReport}
-use Rattle.dbg_runner.specs.Reported.{plain_report}
+use Rattle.dbg_runner.specs.Reported.{Reported, plain_report}
 use Rattle.dap_wires.specs.declared.arrival.Arrival.{Arrival}
 use Rattle.dap_wires.specs.declared.event_ends.ClientSender.{ClientSender}
 use Rattle.dap_wires.specs.declared.event_ends.ReportSender.{ReportSender}
-use Rattle.dap_wires.specs.declared.event_ends.EventReceiver.{EventReceiver}
+use Rattle.dap_wires.specs.declared.event_receiver.EventReceiver.{EventReceiver}
 use Rattle.dap_wires.specs.declared.event_ends.InboxLog.{InboxLog}
+use Rattle.dap_wires.specs.declared.session_inbox.SessionInbox.{SessionInbox}
 use Rattle.dap_wires.specs.Ends.{QueueId, sender_log, sender_queue, receiver_queue, receive_log_queue}
 use Rattle.dap_wires.specs.Senders.{events_in, reports_among}
 
@@ -47,6 +49,10 @@ module _ {R : Type 0} where
   abbrev pub taken_events : EventReceiver R → List Incoming
   taken_events e = map incoming_of e.given.entries
 
+  -- the reports that were taken from the queue and aren't given to the session yet
+  abbrev pub ungiven_reports : EventReceiver R → List Reported
+  ungiven_reports e = e.rest.items
+
   -- which queue an end belongs to
   abbrev pub client_queue : ClientSender R → QueueId Arrival
   client_queue e = sender_queue e.end
@@ -56,6 +62,19 @@ module _ {R : Type 0} where
 
   abbrev pub event_queue : EventReceiver R → QueueId Arrival
   event_queue e = receiver_queue e.end
+
+-- what underlies the inbox of one session: the queue, the first number that the client may use, and the loader and the
+-- sending ports as they were at first
+abbrev pub SessionOrigin : Type 0 → Type 0 → Type 0 → Type 0
+SessionOrigin L O D = QueueId Arrival × FirstSeq × L × O × D
+
+module _ {L O D R : Type 0} where
+  -- what the session of this inbox received
+  abbrev pub session_events : SessionInbox L O D R → List Incoming
+  session_events e = taken_events e.events
+
+  abbrev pub session_origin : SessionInbox L O D R → SessionOrigin L O D
+  session_origin e = (event_queue e.events, e.first, e.loader.value, e.out.value, e.orders.value)
 
 -- what the session received from an inbox that it has left, and which queue that is of
 abbrev pub received : InboxLog → List Incoming

@@ -37,3 +37,11 @@ end_by ReadFailed = Some Failed
 end_by NoMemoryCame = Some NoMemory
 end_by (File file) = None
 end_by (Report r) = None
+
+-- A reader that reads on owes nothing: it has sent all that it read, as pieces, each once, in their order, and none was
+-- handed back.
+pub record HasSentAll (sent_old sent returned_old returned : List Incoming) (old now : Supply) : Type 0 where
+  pub pieces : List (List ℕ)
+  pub sent_are : sent ≡ sent_old ++ map Piece pieces
+  pub read : AreRead (map Piece pieces) old now
+  pub none_back : returned ≡ returned_old

@@ -2,7 +2,7 @@
 use Rattle.std.specs.Prelude.{◌≡◌, []}
 use Rattle.dap_wires.specs.Inbox.{client_events, client_queue, sent_reports, refused_reports, report_queue, taken_events, event_queue}
 use Rattle.dap_wires.specs.Orders.{pushed_orders, push_queue, taken_orders, pop_queue}
-use Rattle.dap_wires.specs.Outbox.{put_frames, frame_queue, messages_taken, writer_queue}
+use Rattle.dap_wires.specs.Outbox.{put_frames, keeps_none, frame_queue, messages_taken, writer_queue}
 use Rattle.dap_wires.specs.declared.wires.Wires.{Wires}
 
 -- Nothing went through the queues.
@@ -12,6 +12,7 @@ pub record AreUnused {R : Type 0} (w : Wires R) : Type 0 where
   pub refused : refused_reports w.reports ≡ []
   pub events : taken_events w.events ≡ []
   pub frames : put_frames w.frames ≡ record { frames = []; refused = [] }
+  pub none_kept : keeps_none w.frames
   pub messages : messages_taken w.messages ≡ []
   pub pushed : pushed_orders w.pushed ≡ record { orders = []; fulls = 0; refusals = 0 }
   pub taken : taken_orders w.taken ≡ []

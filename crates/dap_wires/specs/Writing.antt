@@ -11,3 +11,8 @@ use Rattle.byte_streams.specs.Streams.{Output, WritesAll, FailsIn}
 abbrev pub IsWrittenUntil : Result (Unit {0}) WriteFailed → List WriterMessage → Output → Output → Type 0
 IsWrittenUntil (Ok done) taken old later = AreEnded taken × WritesAll (concat (frames_in taken)) old later
 IsWrittenUntil (Err failed) taken old later = (has_end taken ≡ false) × FailsIn (concat (frames_in taken)) old later
+
+-- A writer that waits for a message owes nothing: all frames that it took so far were written whole, behind what the
+-- output held when none was taken, and no write failed since.
+abbrev pub OwesNothing : List WriterMessage → Output → Output → Type 0
+OwesNothing taken first now = WritesAll (concat (frames_in taken)) first now

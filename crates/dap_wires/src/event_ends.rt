@@ -1,4 +1,4 @@
-//! The ends of an inbox.
+//! The ends of an inbox, but that of the session.
 
 ghost use Rattle.std.specs.Prelude.{◌≡◌, ◌≤◌, ◌++◌, map, true, false};
 ghost use Rattle.std.specs.List.{flat_map};
@@ -6,13 +6,13 @@ ghost use Rattle.std.specs.VecDeque.{deque_len, deque_capacity};
 ghost use Rattle.std.specs.Coded.{Coded-set, coded_list};
 ghost use Rattle.dap_session.specs.contracts.ports.Event as event_row;
 ghost use Rattle.dap_session.specs.declared.ports.Event.TheVariants as event;
-ghost use Rattle.dap_wires.specs.Ends.{sender_log, receiver_log, receive_log, sender_room, receiver_room};
+ghost use Rattle.dap_wires.specs.Ends.{sender_log, receive_log, sender_room};
 ghost use Rattle.dap_wires.specs.Rooms.{inbox_room, quiet_room};
 ghost use Rattle.dap_wires.specs.Senders.{events_in, are_quiet};
 
 use crate::arrival::Arrival;
-use crate::ends::{ReceiveEnd, ReceiveLog, SendEnd};
-use crate::window::{WindowEntry, WindowExit};
+use crate::ends::{ReceiveLog, SendEnd};
+use crate::window::WindowEntry;
 use dap_session::Event;
 use dbg_runner::{GhostList, Report};
 use std::alloc::Global;
@@ -45,22 +45,6 @@ pub struct ReportSender<R: Wait + Drop> {
     ghost quiet: { are_quiet kept.items ≡ true },
     ghost few: { deque_len kept ≤ quiet_room },
     ghost reserved: { quiet_room ≤ deque_capacity kept },
-}
-
-/// The end of the session, which receives events.
-#[derive(Drop)]
-pub struct EventReceiver<R: Wait + Drop> {
-    pub(crate) rt: R,
-    pub(crate) end: ReceiveEnd<Arrival, R>,
-    pub(crate) window: WindowExit,
-    // What was taken from the queue and isn't returned to the session yet.
-    pub(crate) rest: VecDeque<Report>,
-    // What was returned to the session.
-    pub(crate) given: GhostList<Event>,
-    ghost takes: { (receiver_log end).takes ≡ true },
-    ghost room: { receiver_room end ≡ inbox_room },
-    ghost in_order: { flat_map events_in (receiver_log end).taken ≡ given.entries
-        ++ map event.Report rest.items } by { Coded-set (coded_list event_row.the_row.coded) _ _ },
 }
 
 /// The log of what a session received from an inbox that it has left.

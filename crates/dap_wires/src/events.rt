@@ -10,9 +10,10 @@ ghost use Rattle.dap_wires.specs.Senders.{is_report, is_quiet, from_client, repo
 
 use crate::arrival::{Arrival, is_quiet, outputs_of};
 use crate::channels::{channel, reconcile};
-use crate::event_ends::{ClientSender, EventReceiver, InboxLog, ReportSender};
+use crate::event_ends::{ClientSender, InboxLog, ReportSender};
+use crate::event_receiver::EventReceiver;
 use crate::window::output_window;
-use dap_session::{Event, Inbox};
+use dap_session::Event;
 use dbg_runner::{GhostList, Report, Reports};
 use std::alloc::{AllocError, Global};
 use std::collections::VecDeque;
@@ -54,13 +55,7 @@ pub fn inbox<R: Wait + Copy + Drop>(
             kept: VecDeque::with_capacity(alloc, QUIET_LIMIT)?,
             handed_back: GhostList::new(),
         },
-        EventReceiver {
-            rt,
-            end: events,
-            window: exit,
-            rest: VecDeque::new(alloc),
-            given: GhostList::new(),
-        },
+        EventReceiver::new(alloc, events, exit),
     ))
 }
 
@@ -251,67 +246,5 @@ impl<R: Wait + Drop> ReportSender<R> {
     {
         self.handed_back = self.handed_back.and(&report);
         report
-    }
-}
-
-impl<R: Wait + Drop> EventReceiver<R> {
-    /// Leaves the inbox: from now on each event or report that is sent is returned as an error.
-    pub fn leave(self) -> InboxLog
-        ensures received { received result ≡ taken_events self }
-        ensures queue { left_queue result ≡ event_queue self }
-    {
-        let EventReceiver {
-            end,
-            rest,
-            given,
-            ..
-        } = self;
-        InboxLog {
-            log: end.leave(),
-            rest,
-            given,
-        }
-    }
-}
-
-impl<R: Wait + Drop> Inbox for EventReceiver<R> {
-    ghost use Rattle.dap_wires.specs.declared.arrival.Arrival.{Arrival};
-    ghost use Rattle.dap_wires.specs.Ends.{QueueId};
-    ghost use Rattle.dap_wires.specs.Inbox.{taken_events, event_queue};
-
-    ghost given = { taken_events };
-
-    ghost Origin = { QueueId Arrival };
-
-    ghost origin = { event_queue };
-
-    fn next(&mut self) -> Event {
-        let EventReceiver {
-            rt,
-            end,
-            window,
-            rest,
-            given,
-        } = self;
-        window.let_out();
-        for _ in rt.forever() {
-            if let Some(report) = rest.pop_front() {
-                let event = Event::Report(report);
-                *given = given.and(&event);
-                return event;
-            }
-            match end.receive() {
-                None => {}
-                Some(Arrival::Event(event)) => {
-                    if let Event::Report(report) = &event {
-                        window.take(outputs_of(report));
-                    }
-                    *given = given.and(&event);
-                    return event;
-                }
-                Some(Arrival::Quiet(reports)) => *rest = reports,
-            }
-        }
-        unreachable!()
     }
 }

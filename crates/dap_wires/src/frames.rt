@@ -2,7 +2,7 @@
 
 ghost use Rattle.std.specs.Prelude.{◌≡◌, ◌≢◌, ◌⊎◌, ◌++◌, ◌∷◌, [], true, false, ℕ, None, IfOk, IfSome, IfNone, IsTrue, IsFalse};
 ghost use Rattle.dap_session.specs.Sending.{IsPrefixOf};
-ghost use Rattle.dap_wires.specs.Outbox.{put_frames, frame_queue, messages_put, ended_queue, messages_taken, writer_queue, messages_received, received_queue, with_frame};
+ghost use Rattle.dap_wires.specs.Outbox.{put_frames, keeps_none, frame_queue, messages_put, ended_queue, messages_taken, writer_queue, messages_received, received_queue, with_frame};
 ghost use Rattle.dap_wires.specs.WriterMessages.{frames_in, has_end, AreEnded};
 
 use crate::bundle::Bundle;
@@ -28,6 +28,7 @@ pub fn outbox<R: Wait + Copy + Drop>(
     alloc: Global,
 ) -> Result<(FrameSender<R>, FrameReceiver<R>), AllocError>
     ensures frames { IfOk result (λ r. put_frames r.0 ≡ record { frames = []; refused = [] }) }
+    ensures none_kept { IfOk result (λ r. keeps_none r.0) }
     ensures messages { IfOk result (λ r. messages_taken r.1 ≡ []) }
     ensures one { IfOk result (λ r. writer_queue r.1 ≡ frame_queue r.0) }
 {
@@ -131,12 +132,11 @@ impl<R: Wait + Drop> FrameSender<R> {
 impl<R: Wait + Drop> Out for FrameSender<R> {
     ghost use Rattle.dap_wires.specs.declared.writer_message.WriterMessage.{WriterMessage};
     ghost use Rattle.dap_wires.specs.Ends.{QueueId};
-    ghost use Rattle.dap_wires.specs.Outbox.{put_frames, frame_queue};
-    ghost use Rattle.std.specs.Prelude.{◌≡◌, None};
+    ghost use Rattle.dap_wires.specs.Outbox.{put_frames, keeps_none, frame_queue};
 
     ghost seen = { put_frames };
 
-    ghost keeps_none = { λ s. s.kept ≡ None };
+    ghost keeps_none = { keeps_none };
 
     ghost Origin = { QueueId WriterMessage };
 
@@ -176,7 +176,7 @@ impl<R: Wait + Drop> Out for FrameSender<R> {
 impl<R: Wait + Drop> FrameReceiver<R> {
     /// Takes the next message. Blocks until there is one. Returns `None` where an allocation failed or the session's ends
     /// are gone: the caller may try again.
-    pub fn receive(&mut self) -> Option<WriterMessage>
+    pub(crate) fn receive(&mut self) -> Option<WriterMessage>
         ensures some { IfSome result (λ message. messages_taken self.new ≡ messages_taken self.old ++ message ∷ []) }
         ensures none { IfNone result (messages_taken self.new ≡ messages_taken self.old) }
         ensures queue { writer_queue self.new ≡ writer_queue self.old }

@@ -11,6 +11,10 @@
 //! these, and those of one more slice, between the answer to a pause and the stop. [`read_loop`] and [`write_loop`]
 //! stand between a queue and a source or a sink of [`byte_streams`]: the one sends what it read, and the other writes
 //! what it took. Each queue and each loop can be used without the others.
+//!
+//! A call that waits requires that nothing is owed, so it is proved of loops that never end too: a [`SessionInbox`] is
+//! asked only where its session has sent all that the events before call for, a [`WriterEnd`] only where its writer has
+//! written all frames before, and [`read_loop`] reads only where it has sent all that it read.
 #![tactic(auto)]
 
 mod arrival;
@@ -20,6 +24,7 @@ mod channels;
 mod end_log;
 mod ends;
 mod event_ends;
+mod event_receiver;
 mod events;
 mod frame_ends;
 mod frames;
@@ -27,22 +32,28 @@ mod order_ends;
 mod order_queue;
 mod reading;
 mod rule;
+mod session_inbox;
 mod transfer;
 mod window;
 mod wires;
+mod writer_end;
 mod writer_message;
 mod writing;
 
 pub use arrival::Arrival;
 pub use bundle::Bundle;
 pub use end_log::EndLog;
-pub use event_ends::{ClientSender, EventReceiver, InboxLog, ReportSender};
+pub use event_ends::{ClientSender, InboxLog, ReportSender};
+pub use event_receiver::EventReceiver;
 pub use events::{inbox, reconcile_inbox};
 pub use frame_ends::{EndedSender, FrameReceiver, FrameSender, OutboxLog};
 pub use frames::{outbox, reconcile_outbox};
 pub use order_ends::{OrderReceiver, OrderSender};
 pub use order_queue::{orders, reconcile_orders};
 pub use reading::{ReadEnd, read_loop};
+pub use session_inbox::SessionInbox;
+pub use transfer::{PIECE_LIMIT, Pieces};
 pub use wires::{SessionEnds, Wires, reconcile};
+pub use writer_end::WriterEnd;
 pub use writer_message::WriterMessage;
 pub use writing::write_loop;

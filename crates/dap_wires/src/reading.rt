@@ -3,12 +3,12 @@
 ghost use Rattle.std.specs.Prelude.{◌≡◌, ◌++◌, List};
 ghost use Rattle.dap_history.specs.Events.{Incoming};
 ghost use Rattle.dap_session.specs.Incoming.{incoming_of};
+ghost use Rattle.dap_wires.specs.declared.event_ends.ClientSender.{ClientSender};
 ghost use Rattle.dap_wires.specs.Inbox.{client_events, client_queue, returned_events};
-ghost use Rattle.dap_wires.specs.Reading.{IsReadUntil, end_by};
+ghost use Rattle.dap_wires.specs.Reading.{IsReadUntil, HasSentAll, end_by};
 
 use crate::event_ends::ClientSender;
-use crate::transfer::{PIECE_LIMIT, read_event};
-use byte_streams::Source;
+use crate::transfer::{PIECE_LIMIT, Pieces};
 use dap_session::Event;
 use std::alloc::Global;
 use std::sync::Wait;
@@ -28,21 +28,24 @@ pub enum ReadEnd {
 
 /// Reads pieces of an input and sends them, until the input ends, a read or an allocation fails, or the session has left
 /// the inbox. Returns which of these it was. All but the last are sent to the inbox too.
-pub fn read_loop<I: Source, R: Wait + Drop>(
+pub fn read_loop<I: Pieces<ClientSender<R>>, R: Wait + Drop>(
     rt: &impl Wait,
     alloc: Global,
     input: &mut I,
     inbox: &mut ClientSender<R>,
 ) -> ReadEnd
+    // The input may be read wherever all that was read is sent. So it is read nowhere else, whether reading ends or not.
+    requires { (i : I) (s : ClientSender R) → HasSentAll (client_events inbox.old) (client_events s)
+        (returned_events inbox.old) (returned_events s) (I.given input.old) (I.given i) → I.may_read i s }
     ensures read { (sent : List Incoming) × (client_events inbox.new ≡ client_events inbox.old ++ sent)
-        × ((read : IsReadUntil result sent (I.supply input.old)
-        (I.supply input.new))
+        × ((read : IsReadUntil result sent (I.given input.old)
+        (I.given input.new))
         × (returned_events inbox.new ≡ returned_events inbox.old ++ read.lost)) }
     ensures queue { client_queue inbox.new ≡ client_queue inbox.old }
 {
     let mut room = [0; PIECE_LIMIT];
     for _ in rt.forever() {
-        let event = read_event(rt, alloc, input, &mut room);
+        let event = input.next_piece(rt, alloc, &mut room, inbox);
         let end = end_of(&event);
         if inbox.send(event).is_err() {
             return ReadEnd::HandedBack;

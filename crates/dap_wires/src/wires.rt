@@ -8,7 +8,8 @@ ghost use Rattle.dap_wires.specs.Outbox.{messages_put, ended_queue, messages_rec
 ghost use Rattle.dap_wires.specs.Senders.{from_client, reports_among};
 ghost use Rattle.dap_wires.specs.Wires.{AreUnused, AreJoined};
 
-use crate::event_ends::{ClientSender, EventReceiver, InboxLog, ReportSender};
+use crate::event_ends::{ClientSender, InboxLog, ReportSender};
+use crate::event_receiver::EventReceiver;
 use crate::events::{inbox, reconcile_inbox};
 use crate::frame_ends::{EndedSender, FrameReceiver, FrameSender, OutboxLog};
 use crate::frames::{outbox, reconcile_outbox};

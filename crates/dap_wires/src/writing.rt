@@ -2,10 +2,10 @@
 
 ghost use Rattle.std.specs.Prelude.{◌≡◌, ◌++◌, List};
 ghost use Rattle.dap_wires.specs.declared.writer_message.WriterMessage.{WriterMessage};
-ghost use Rattle.dap_wires.specs.Outbox.{messages_taken, writer_queue};
-ghost use Rattle.dap_wires.specs.Writing.{IsWrittenUntil};
+ghost use Rattle.dap_wires.specs.Outbox.{end_taken, end_queue, end_first};
+ghost use Rattle.dap_wires.specs.Writing.{IsWrittenUntil, OwesNothing};
 
-use crate::frame_ends::FrameReceiver;
+use crate::writer_end::WriterEnd;
 use crate::writer_message::WriterMessage;
 use byte_streams::{Sink, WriteFailed, write_all};
 use std::sync::Wait;
@@ -18,14 +18,15 @@ use std::sync::Wait;
 pub fn write_loop<O: Sink, R: Wait + Drop>(
     rt: &impl Wait,
     output: &mut O,
-    outbox: &mut FrameReceiver<R>,
+    outbox: &mut WriterEnd<O, R>,
 ) -> Result<(), WriteFailed>
-    ensures written { (taken : List WriterMessage) × (messages_taken outbox.new ≡ messages_taken outbox.old ++ taken)
+    requires { OwesNothing (end_taken outbox.old) (O.output (end_first outbox.old)) (O.output output.old) }
+    ensures written { (taken : List WriterMessage) × (end_taken outbox.new ≡ end_taken outbox.old ++ taken)
         × IsWrittenUntil result taken (O.output output.old) (O.output output.new) }
-    ensures queue { writer_queue outbox.new ≡ writer_queue outbox.old }
+    ensures queue { end_queue outbox.new ≡ end_queue outbox.old }
 {
     for _ in rt.forever() {
-        match outbox.receive() {
+        match outbox.receive(output) {
             None => {}
             Some(WriterMessage::End) => return Ok(()),
             Some(WriterMessage::Frames(bundle)) => {

@@ -1,20 +1,28 @@
 use Rattle.std.proofs.Common.{[], refl, inr}
+use Rattle.byte_streams.specs.declared.files.FileKinds.TheVariants.{Regular}
+use Rattle.adapter.specs.Loading.{none}
 use Rattle.adapter.proofs.program.run_given.Goals as goal
 
 pub returns-in_default : goal.returns-in_default
-returns-in_default g c = (
-  [],
-  record {
+returns-in_default g c = record {
+  loads = [];
+  kinds = Regular;
+  loaded = ∣ none ∣₁;
+  regular = λ reads. refl;
+  executes = record {
     performs = inr (inr (inr (refl, inr c.end_with.ensures.reason, refl)));
     reports = c.end_with.ensures.reports;
-  },
-)
+  };
+}
 
 pub returns-in_default-borrow_texts : goal.returns-in_default-borrow_texts
-returns-in_default-borrow_texts g c = (
-  [],
-  record {
+returns-in_default-borrow_texts g c = record {
+  loads = [];
+  kinds = Regular;
+  loaded = ∣ none ∣₁;
+  regular = λ reads. refl;
+  executes = record {
     performs = inr (inr (inr (refl, inr c.end_with-in_default-borrow_texts.ensures.reason, refl)));
     reports = c.end_with-in_default-borrow_texts.ensures.reports;
-  },
-)
+  };
+}

@@ -5,15 +5,15 @@ use Rattle.std.specs.List.{flat_map}
 use Rattle.dap_session.specs.Ports.{ports}
 use Rattle.dbg_runner.specs.Queues.{passed_in}
 use Rattle.dap_session.specs.Sending.{IsPrefixOf}
-use Rattle.dap_wires.specs.Inbox.{client_events, received, sent_reports, taken_events}
+use Rattle.dap_wires.specs.Inbox.{client_events, received, sent_reports, session_events}
 use Rattle.dap_wires.specs.Orders.{EnoughWerePushed, pushed_orders, taken_orders}
-use Rattle.dap_wires.specs.Outbox.{put_frames, messages_put, messages_received, messages_taken}
+use Rattle.dap_wires.specs.Outbox.{put_frames, messages_put, messages_received}
 use Rattle.dap_wires.specs.Reading.{IsReadUntil}
 use Rattle.dap_wires.specs.Senders.{from_client, reports_among}
 use Rattle.dap_wires.specs.Writing.{IsWrittenUntil}
 use Rattle.adapter.specs.ThreadTasks.{SessionLeaves}
 use Rattle.adapter.specs.Serving.{World, world, streams, outcome_of, nothing_sent, TasksEnd, tasks_ended}
-use Rattle.adapter.proofs.Crossing.{runner_task_send, runner_output_send, reader_task_send, reader_output_send}
+use Rattle.adapter.proofs.Crossing.{writer_task_send, runner_task_send, runner_output_send, reader_task_send, reader_output_send}
 use Rattle.adapter.proofs.Gathered.{gathers, moved}
 use Rattle.adapter.proofs.serving.serve_over.Goals as goal
 
@@ -55,8 +55,7 @@ returns-in-Ok-clause-served g c =
     let i = c.in-Ok.ensures.ok.2 in
     let s = c.in-Ok.ensures.ok.3 in
     let given_to = c.tasks_over-writer.ensures in
-    let events : taken_events c.tasks_over-writer.result.3.inbox ≡ [] =
-    ap taken_events given_to.events ∙ c.requires.unused.events in
+    let events : session_events c.tasks_over-writer.result.3.inbox ≡ [] = given_to.events in
     let frames : put_frames c.tasks_over-writer.result.3.outbox ≡ record { frames = []; refused = [] } =
     ap put_frames given_to.frames ∙ c.requires.unused.frames in
     let orders : pushed_orders c.tasks_over-writer.result.3.orders ≡ record { orders = []; fulls = 0; refusals = 0 } =
@@ -75,7 +74,7 @@ returns-in-Ok-clause-served g c =
     (g.L.Loader.loaded c.in-Ok.loader.now)
     (ports (put_frames c.tasks_over-writer.result.3.outbox) (pushed_orders c.tasks_over-writer.result.3.orders))
     (messages_put ends.outbox) (pushed_orders ends.orders)) events
-    (subst (λ f. SessionLeaves f closed (taken_events c.tasks_over-writer.result.3.inbox) (received ends.inbox)
+    (subst (λ f. SessionLeaves f closed (session_events c.tasks_over-writer.result.3.inbox) (received ends.inbox)
     (g.L.Loader.loaded c.tasks_over-writer.result.3.loader.now) (g.L.Loader.loaded c.in-Ok.loader.now)
     (ports (put_frames c.tasks_over-writer.result.3.outbox) (pushed_orders c.tasks_over-writer.result.3.orders))
     (messages_put ends.outbox) (pushed_orders ends.orders)) given_to.first s.4) in
@@ -95,7 +94,7 @@ returns-in-Ok-clause-served g c =
     let client : client_events c.in-Ok.client ≡ i.2.0 =
     i.2.1 ∙ ap (λ l. l ++ i.2.0) (ap client_events c.tasks_over-writer.ensures.client ∙ c.requires.unused.client) in
     let taken : messages_received c.in-Ok.written ≡ w.2.0 =
-    w.2.1 ∙ ap (λ l. l ++ w.2.0) (ap messages_taken c.tasks_over-writer.ensures.outbox ∙ c.requires.unused.messages)
+    w.2.1 ∙ ap (λ l. l ++ w.2.0) c.tasks_over-writer.ensures.none_taken
     in
     let read =
     subst (λ x. IsReadUntil c.in-Ok.field-0-2-2 i.2.0 (g.I.Source.supply x)
@@ -124,6 +123,10 @@ returns-in-Ok-clause-served g c =
     (subst (λ l. IsPrefixOf l (messages_put ends.outbox)) taken outbox_taken)
     i.3 in
     tasks_ended c.in-Ok.wrote closed answer (rw (input, output, loader, gate) at driven)
+
+pub run_beside-done-requires-send-S : goal.run_beside-done-requires-send-S
+run_beside-done-requires-send-S g c κs within =
+    Send.param_send 1 _ (Send.arg_send _ Exit.no _ (writer_task_send _ _ _ c.type_bounds.send-O c.type_bounds.send-R))
 
 pub run_beside-done-requires-send-T : goal.run_beside-done-requires-send-T
 run_beside-done-requires-send-T g c κs within =

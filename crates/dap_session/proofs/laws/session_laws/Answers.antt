@@ -21,3 +21,6 @@ returns-clause-numbered c =
       one_request = c.message_laws.ensures.reading;
       one_after = c.history_laws.ensures.one_effect;
     }) c.history_laws.ensures.one
+
+pub returns-clause-late : goal.returns-clause-late
+returns-clause-late c past new old later breaks = breaks.1

@@ -13,29 +13,29 @@ returns-in-Some-end-clause-read g c =
     (client_events c.send.new.self)
     (returned_events c.args.inbox.now)
     (returned_events c.send.new.self)
-    (g.I.Source.supply c.args.input.now)
-    (g.I.Source.supply c.loop.input)
-    (g.I.Source.supply c.read_event-event.new.input)
-    c.read_event-event.result
+    (g.I.Pieces.given c.args.input.now)
+    (g.I.Pieces.given c.loop.input)
+    (g.I.Pieces.given c.next_piece-event.new.self)
+    c.next_piece-event.result
     c.in-Some-end.end
     c.loop.invariant.0
     (sent.1 ∙ c.loop.invariant.1)
     (sym c.in-Some-end.ensures)
-    c.read_event-event.ensures.read
+    c.next_piece-event.ensures.read
     sent.0
 
 pub loop-preserved : goal.loop-preserved
 loop-preserved g c =
     let sent = when_ok c.send.result (sym c.if-is_err.ensures.value) c.send.ensures.sent in
-    let event = c.read_event-event.ensures in (
+    let event = c.next_piece-event.ensures in (
       read_goes_on
           (client_events c.args.inbox.now)
           (client_events c.loop.inbox)
           (client_events c.send.new.self)
-          (g.I.Source.supply c.args.input.now)
-          (g.I.Source.supply c.loop.input)
-          (g.I.Source.supply c.read_event-event.new.input)
-          c.read_event-event.result
+          (g.I.Pieces.given c.args.input.now)
+          (g.I.Pieces.given c.loop.input)
+          (g.I.Pieces.given c.next_piece-event.new.self)
+          c.next_piece-event.result
           c.loop.invariant.0
           event.own
           (sym c.in_default.ensures)
@@ -55,12 +55,21 @@ returns-then-is_err-clause-read g c =
     (returned_events c.args.inbox.now)
     (returned_events c.loop.inbox)
     (returned_events c.send.new.self)
-    (g.I.Source.supply c.args.input.now)
-    (g.I.Source.supply c.loop.input)
-    (g.I.Source.supply c.read_event-event.new.input)
-    (incoming_of c.read_event-event.result)
+    (g.I.Pieces.given c.args.input.now)
+    (g.I.Pieces.given c.loop.input)
+    (g.I.Pieces.given c.next_piece-event.new.self)
+    (incoming_of c.next_piece-event.result)
     c.loop.invariant.0
     c.loop.invariant.1
     back.1
-    c.read_event-event.ensures.read
+    c.next_piece-event.ensures.read
     back.0
+
+pub next_piece-event-requires : goal.next_piece-event-requires
+next_piece-event-requires g c =
+    c.requires c.loop.input c.loop.inbox (record {
+      pieces = c.loop.invariant.0.pieces;
+      sent_are = c.loop.invariant.0.put_is;
+      read = c.loop.invariant.0.read;
+      none_back = c.loop.invariant.1;
+    })

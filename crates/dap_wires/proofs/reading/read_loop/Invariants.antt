@@ -8,7 +8,7 @@ invariant-loop g l =
     ReadSoFar
     (client_events l.initial.inbox)
     (client_events l.inbox)
-    (g.I.Source.supply l.initial.input)
-    (g.I.Source.supply l.input)
+    (g.I.Pieces.given l.initial.input)
+    (g.I.Pieces.given l.input)
     × (returned_events l.inbox ≡ returned_events l.initial.inbox)
     × (client_queue l.inbox ≡ client_queue l.initial.inbox)

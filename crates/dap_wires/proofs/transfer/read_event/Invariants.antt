@@ -3,7 +3,6 @@ use Rattle.dap_wires.proofs.transfer.read_event.Given as goal
 
 abbrev pub invariant-loop : goal.invariant-loop
 invariant-loop g l =
-    ((g.I.Source.supply l.input).read ≡ (g.I.Source.supply l.initial.input).read)
-    × ((g.I.Source.supply l.input).failures ≡ (g.I.Source.supply l.initial.input).failures)
+    (g.I.GuardedSource.supply l.input ≡ g.I.GuardedSource.supply l.initial.input)
     × (length l.room ≡ 4096)
     × (l.piece ≡ l.initial.piece)
