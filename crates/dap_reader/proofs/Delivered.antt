@@ -1,5 +1,5 @@
 -- Each step of the queue keeps its rule.
-use Rattle.std.proofs.Common.{◌≡◌, ℕ, zero, suc, Bool, true, false, true≢false, List, [], ◌∷◌, ◌++◌, set, refl, sym, ap, ◌∙◌, subst, ⊎_elim, inl, inr, rules}
+use Rattle.std.proofs.Common.{◌≡◌, ◌+◌, ℕ, zero, suc, Bool, true, false, true≢false, List, [], ◌∷◌, ◌++◌, set, refl, sym, ap, ◌∙◌, subst, ⊎_elim, inl, inr, rules}
 use Rattle.std.specs.Prelude.{◌⊎◌, map, Option, None, Some, Result, Ok, Err, MatchResult}
 use Rattle.std.proofs.lemmas.List.{map-append}
 use mathlib.Core.Option.{some, some-injective, some-ne-none}
@@ -9,7 +9,7 @@ use Rattle.crossbeam_channel.specs.Fifo.{Pushes, Pops, Forks}
 use Rattle.dap_server.specs.Inbox.{PlainItem, plain_item, Gives, Given}
 use Rattle.dap_server.specs.declared.inbox.Item.{Item}
 use Rattle.dap_reader.specs.Arriving.{unread}
-use Rattle.dap_reader.specs.Delivery.{view_of, through, is_taker, is_sender, Comes, Carries, Took}
+use Rattle.dap_reader.specs.Delivery.{view_of, through, is_taker, is_sender, receives, Comes, Carries, Took}
 use Rattle.dap_reader.specs.declared.place.Place.{Place}
 use Rattle.dap_reader.specs.declared.place.Place.TheVariants.{Unused, Takes, Sends}
 
@@ -35,7 +35,7 @@ no is a v same other own = absurd (true≢false (sym own ∙ (sym (ap is same) �
 
 abbrev is_new : Place → Bool
 is_new Unused = true
-is_new (Takes k) = false
+is_new (Takes k many) = false
 is_new (Sends k) = false
 
 no_item : {A : Type 0} (x : Item) (inside : List Item) → x ∷ inside ≡ [] → A
@@ -59,19 +59,20 @@ given_then gives a b c (one ∷ items) item before now =
     (before.0, before.1, given_then gives before.0 b c items item before.2 now)
 
 pub parts : (pass : ℕ) (v : Place) (s : Supply) → v ≡ Unused
-    → Forks Carries pass v (Takes (view_of s)) (Sends (view_of s))
+    → Forks Carries pass v (Takes (view_of s) 0) (Sends (view_of s))
 parts pass v s unused inside ends (inl new) at =
     let here = at_one Unused v pass (subst (λ l. get_elem? l pass ≡ some v) new.0 at) in
     inr (
       s,
       s,
-      ap (λ l. l ++ Sends (view_of s) ∷ []) (changed ends (Unused ∷ []) pass 0 (Takes (view_of s)) new.0 here.0),
+      0,
+      ap (λ l. l ++ Sends (view_of s) ∷ []) (changed ends (Unused ∷ []) pass 0 (Takes (view_of s) 0) new.0 here.0),
       subst (λ l. Given Comes s (map plain_item l) s) (sym new.1) refl,
     )
-parts pass v s unused inside ends (inr (taken, sent, apart, given)) at =
+parts pass v s unused inside ends (inr (taken, sent, many, apart, given)) at =
     ⊎_elim
-    (λ (here : IsAt pass v 0 (Takes (view_of taken))).
-    no is_new (Takes (view_of taken)) v here.1 refl (ap is_new unused))
+    (λ (here : IsAt pass v 0 (Takes (view_of taken) many)).
+    no is_new (Takes (view_of taken) many) v here.1 refl (ap is_new unused))
     (λ (here : IsAt pass v 1 (Sends (view_of sent))).
     no is_new (Sends (view_of sent)) v here.1 refl (ap is_new unused))
     (at_two _ _ v pass (subst (λ l. get_elem? l pass ≡ some v) apart at))
@@ -81,14 +82,16 @@ pub pushes : (n pass : ℕ) (v : Place) (x : Item) (s : Supply) → is_sender v 
 pushes n pass v x s sends now inside ends room (inl new) at =
     let here = at_one Unused v pass (subst (λ l. get_elem? l pass ≡ some v) new.0 at) in
     no is_sender Unused v here.1 refl sends
-pushes n pass v x s sends now inside ends room (inr (taken, sent, apart, given)) at =
-    ⊎_elim (λ (here : IsAt pass v 0 (Takes (view_of taken))). no is_sender (Takes (view_of taken)) v here.1 refl sends)
+pushes n pass v x s sends now inside ends room (inr (taken, sent, many, apart, given)) at =
+    ⊎_elim (λ (here : IsAt pass v 0 (Takes (view_of taken) many)).
+    no is_sender (Takes (view_of taken) many) v here.1 refl sends)
     (λ (here : IsAt pass v 1 (Sends (view_of sent))). (
       Sends (view_of s),
       inr (
         taken,
         s,
-        changed ends (Takes (view_of taken) ∷ Sends (view_of sent) ∷ []) pass 1 (Sends (view_of s)) apart here.0,
+        many,
+        changed ends (Takes (view_of taken) many ∷ Sends (view_of sent) ∷ []) pass 1 (Sends (view_of s)) apart here.0,
         subst (λ l. Given Comes taken l s) (sym (map-append plain_item inside (x ∷ [])))
             (given_then Comes taken sent s (map plain_item inside) (plain_item x) given
             (subst (λ e. Comes (through e) (plain_item x) s) (sym here.1) now)),
@@ -99,16 +102,22 @@ pushes n pass v x s sends now inside ends room (inr (taken, sent, apart, given))
 
 pub pops : (pass : ℕ) (v : Place) → is_taker v ≡ true → Pops Carries pass v (Took v)
 pops pass v takes x inside ends (inl new) at = no_item x inside new.1
-pops pass v takes x inside ends (inr (taken, sent, apart, (mid, now, later))) at =
-    ⊎_elim (λ (here : IsAt pass v 0 (Takes (view_of taken))). (
-      Takes (view_of mid),
+pops pass v takes x inside ends (inr (taken, sent, many, apart, (mid, now, later))) at =
+    ⊎_elim (λ (here : IsAt pass v 0 (Takes (view_of taken) many)). (
+      Takes (view_of mid) (many + 1),
       inr (
         mid,
         sent,
-        changed ends (Takes (view_of taken) ∷ Sends (view_of sent) ∷ []) pass 0 (Takes (view_of mid)) apart here.0,
+        many + 1,
+        changed ends (Takes (view_of taken) many ∷ Sends (view_of sent) ∷ []) pass 0
+            (Takes (view_of mid) (many + 1)) apart here.0,
         later,
       ),
-      (refl, subst (λ e. Comes (through e) (plain_item x) mid) here.1 now),
+      (
+        refl,
+        subst (λ e. Comes (through e) (plain_item x) mid) here.1 now,
+        ap (λ e. receives e + 1) here.1,
+      ),
     ))
     (λ (here : IsAt pass v 1 (Sends (view_of sent))). no is_taker (Sends (view_of sent)) v here.1 refl takes)
     (at_two _ _ v pass (subst (λ l. get_elem? l pass ≡ some v) apart at))

@@ -1,5 +1,5 @@
 -- Defines the rule of the queue between the thread that reads and the session, which holds after each step of either.
-use Rattle.std.specs.Prelude.{◌≡◌, ◌⊎◌, Bool, true, false, None, List, [], ◌∷◌, map}
+use Rattle.std.specs.Prelude.{◌≡◌, ◌⊎◌, ◌+◌, ℕ, Bool, true, false, None, List, [], ◌∷◌, map}
 use Rattle.byte_streams.specs.Streams.{Supply, IsOfWhole}
 use Rattle.dap_server.specs.Inbox.{plain_item, Gives, Given, Reads}
 use Rattle.dap_server.specs.declared.inbox.Item.{Item}
@@ -17,16 +17,21 @@ supply_of k = record { read = record { first = k.first; bytes = k.bytes }; ended
 -- the reads of which all went through this end
 abbrev pub through : Place → Supply
 through Unused = unread None
-through (Takes k) = supply_of k
+through (Takes k many) = supply_of k
 through (Sends k) = supply_of k
 
 abbrev pub is_taker : Place → Bool
-is_taker (Takes k) = true
+is_taker (Takes k many) = true
 is_taker _ = false
 
 abbrev pub is_sender : Place → Bool
 is_sender (Sends k) = true
 is_sender _ = false
+
+-- how often this end has received an item
+abbrev pub receives : Place → ℕ
+receives (Takes k many) = many
+receives _ = 0
 
 -- Reads gave this item, and nothing but the input's own bytes.
 abbrev pub Comes : Gives Supply
@@ -37,10 +42,12 @@ Comes before item after = Reads before item after × ∥ IsOfWhole after ∥₁
 abbrev pub Carries : List Item → List Place → Type 0
 Carries inside ends =
     ((ends ≡ Unused ∷ []) × (inside ≡ []))
-    ⊎ ((taken : Supply) × (sent : Supply) × (ends ≡ Takes (view_of taken) ∷ Sends (view_of sent) ∷ [])
+    ⊎ ((taken : Supply) × (sent : Supply) × (many : ℕ)
+    × (ends ≡ Takes (view_of taken) many ∷ Sends (view_of sent) ∷ [])
     × Given Comes taken (map plain_item inside) sent)
 
--- an end took an item
+-- an end took an item, by one receive
 abbrev pub Took : Place → Item → Place → Type 0
 Took before item after =
     (is_taker after ≡ true) × Comes (through before) (plain_item item) (through after)
+    × (receives after ≡ receives before + 1)

@@ -24,13 +24,18 @@ pub struct Arrivals {
     ghost of_whole: { ∥ IsOfWhole (through (view pass)) ∥₁ },
 }
 
-impl Inbox for Arrivals {
-    ghost use Rattle.dap_server.specs.Inbox.{Reads};
-    ghost use Rattle.dap_reader.specs.Taken.{taken};
+impl<O> Inbox<O> for Arrivals {
+    ghost use Rattle.std.specs.Prelude.{◌≡◌, ◌+◌};
+    ghost use Rattle.dap_server.specs.Inbox.{Reads, plain_item};
+    ghost use Rattle.dap_reader.specs.Taken.{taken, received};
 
     ghost gives = { λ before item after. Reads (taken before) item (taken after) };
 
-    fn next(&mut self, rt: &impl Wait, _alloc: Global) -> Item {
+    /// It receives one item, and returns it: it waits for no further one before.
+    fn next(&mut self, rt: &impl Wait, _alloc: Global, _output: &O) -> Item
+        ensures gives { Reads (taken self.old) (plain_item result) (taken self.new) }
+        ensures once { received self.new ≡ received self.old + 1 }
+    {
         let Arrivals { receiver, pass } = self;
         for _ in rt.forever() {
             if let Ok(item) = receiver.recv_as::<Gets, _>(rt, pass) {
@@ -41,7 +46,7 @@ impl Inbox for Arrivals {
     }
 }
 
-impl Polled for Arrivals {
+impl<O> Polled<O> for Arrivals {
     ghost use Rattle.dap_reader.specs.Arriving.{Looks};
     ghost use Rattle.dap_reader.specs.Taken.{taken};
 

@@ -7,8 +7,8 @@ use std::collections::LinkedList;
 pub enum Place {
     /// The queue is new, and its ends aren't apart yet.
     Unused,
-    /// It takes, and took all that these reads gave.
-    Takes(SupplyView),
+    /// It takes, and took all that these reads gave, by so many receives.
+    Takes(SupplyView, u64),
     /// It sends, and sent all that these reads gave.
     Sends(SupplyView),
 }

@@ -1,6 +1,7 @@
 //! The thread that reads.
 
 ghost use Rattle.std.specs.Prelude.{◌≡◌, IfOk, IfErr, OnOk};
+ghost use Rattle.crossbeam_channel.specs.Ends.{sends_on};
 ghost use Rattle.dap_server.specs.Inbox.{plain_item};
 ghost use Rattle.dap_reader.specs.Arriving.{unread};
 ghost use Rattle.dap_reader.specs.Delivery.{Comes};
@@ -10,7 +11,7 @@ ghost use Rattle.dap_reader.specs.Taken.{taken};
 use crate::arrivals::Arrivals;
 use crate::queue::item_queue;
 use crate::sender::ItemSender;
-use byte_streams::{Reading, Source};
+use byte_streams::{GuardedSource, Reading};
 use dap_server::{Inbox, Item};
 use std::alloc::Global;
 use std::io::Read;
@@ -20,7 +21,7 @@ use std::sync::Wait;
 use std::thread::{self, Threads};
 
 /// Why the thread that reads isn't started.
-#[derive(Clone, Copy)]
+#[derive(Clone, Copy, Debug)]
 pub enum StartFault {
     /// Memory ran out.
     NoMemory,
@@ -59,23 +60,27 @@ where
     }
 }
 
-/// Sends all that reads of a source give, until no more comes or the inbox is gone.
+/// Sends all that reads of a source give, until no more comes or the inbox is gone. It reads only where all was sent that
+/// reads gave before.
 ///
 /// # Errors
 ///
 /// The item that was read last, where the inbox is gone.
-fn read_client<R: Wait, S: Source>(
+fn read_client<R: Wait, S: GuardedSource>(
     rt: &R,
     alloc: Global,
     source: &mut S,
     sender: &mut ItemSender,
 ) -> Result<(), Item>
-    requires { sent sender.old ≡ S.supply source.old }
+    requires begins { sent sender.old ≡ S.supply source.old }
+    // It may be read wherever all was sent, to this queue. So it is read nowhere else, whether the input ends or not.
+    requires reads { (s : S) (e : ItemSender) → sends_on e.sender ≡ sends_on sender.old.sender → sent e ≡ S.supply s
+        → S.may_read s }
     ensures ok { OnOk result (sent sender.new ≡ S.supply source.new) }
     ensures err { IfErr result (λ back. Comes (sent sender.new) (plain_item back) (S.supply source.new)) }
 {
     for _ in rt.forever() {
-        let item = source.next(rt, alloc);
+        let item = source.next(rt, alloc, sender);
         let goes_on = matches!(item, Item::Bytes(_));
         sender.send::<Brand, S>(rt, item, source)?;
         if !goes_on {

@@ -40,7 +40,7 @@ impl<K: Reached> Split<Place> for Parts<K> {
     ghost use Rattle.dap_reader.specs.Delivery.{view_of};
     ghost use Rattle.dap_reader.specs.declared.place.Place.TheVariants.{Takes, Sends};
 
-    ghost left = { λ _. Takes (view_of K.supply) };
+    ghost left = { λ _. Takes (view_of K.supply) 0 };
 
     ghost right = { λ _. Sends (view_of K.supply) };
 }

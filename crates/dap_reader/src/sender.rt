@@ -8,7 +8,7 @@ ghost use Rattle.dap_reader.specs.Delivery.{is_sender, Comes};
 
 use crate::place::Place;
 use crate::rule::{InOrder, Puts, Reached};
-use byte_streams::Source;
+use byte_streams::GuardedSource;
 use crossbeam_channel::{Pass, RuledSender, SendError};
 use dap_server::Item;
 use std::sync::Wait;
@@ -30,7 +30,7 @@ impl ItemSender {
     /// # Errors
     ///
     /// The item, where the inbox is gone.
-    pub(crate) fn send<K: Reached, S: Source>(
+    pub(crate) fn send<K: Reached, S: GuardedSource>(
         &mut self,
         rt: &impl Wait,
         item: Item,
@@ -40,6 +40,7 @@ impl ItemSender {
         requires given { Comes (sent self.old) (plain_item item) (S.supply source.now) }
         ensures ok { OnOk result (sent self.new ≡ S.supply source.now) }
         ensures err { OnErr result (sent self.new ≡ sent self.old) }
+        ensures queue { sends_on self.new.sender ≡ sends_on self.old.sender }
         ensures back { IfErr result (λ back. back ≡ item) }
     {
         let ItemSender { sender, pass } = self;

@@ -107,7 +107,7 @@ pub worker_ended_by : {S I : Type 0} (replies : Replies S) (works : Works S) (bu
     (result : Result Ending ServeFault)
     → Working replies works busy gives polls (state before 1 true) b rest inbox mid (Appends written now) → Comes
     (busy b.adapter) gives polls mid item left
-    → b.present ≡ true → IsOpen rest → ServingEndsBy item result b after now later
+    → b.present ≡ true → IsOpen rest → ServingEndsBy item result b rest after now later
     → ServedWorker replies works busy gives polls before after inbox left written later result
 worker_ended_by replies works busy gives polls before after b rest inbox mid left item old now new result working
     gave there is_open

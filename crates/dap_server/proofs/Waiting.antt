@@ -5,7 +5,8 @@ use Rattle.byte_streams.specs.Streams.{StreamLog}
 use Rattle.dap_server.specs.Conversation.{State, state, Replies}
 use Rattle.dap_server.specs.Inbox.{PlainItem, Gives, Given, TakesAll}
 use Rattle.dap_server.specs.ServingInbox.{EndsAt, ServedInbox}
-use Rattle.dap_server.specs.Working.{Works, Polls, Comes, Course, begins, takes, works_on, WorkerEnds, ServedWorker}
+use Rattle.dap_server.specs.ServingInbox.{OwesNothing as InboxOwesNothing}
+use Rattle.dap_server.specs.Working.{Works, Polls, Comes, Course, begins, takes, works_on, WorkerEnds, ServedWorker, OwesNothing}
 use Rattle.dap_server.specs.declared.ending.Ending.{Ending}
 use Rattle.dap_server.specs.declared.ending.ServeFault.{ServeFault}
 use Rattle.dap_server.proofs.Taking.{given_then, takes_then}
@@ -74,4 +75,23 @@ module _ {S I : Type 0} (replies : Replies S) (works : Works S) (gives : Gives I
         };
         last = ends.0;
         ends = ends.1;
+      }
+
+  pub owes_nothing_waiting : (before : S) (inbox now : I) (written later : StreamLog)
+      → OwesNothing replies works idle gives unlooked before inbox now written later
+      → InboxOwesNothing replies gives before inbox now written later
+  owes_nothing_waiting before inbox now written later is =
+      let all = all_taken (state before 1 true) inbox is.reached is.rest now is.working.texts is.working.course in
+      record {
+        reached = is.reached;
+        rest = is.rest;
+        session = record {
+          items = all.0;
+          texts = is.working.texts;
+          given = all.1;
+          taken = all.2;
+          written = is.working.written;
+        };
+        there = is.there;
+        is_open = is.is_open;
       }

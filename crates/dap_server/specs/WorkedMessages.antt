@@ -1,8 +1,9 @@
 -- A worked example: what is sent for three requests, computed.
-use Rattle.std.specs.Prelude.{◌≡◌, List, [], ◌∷◌, ◌++◌, codes, map, None, Some, Ok, Err}
+use Rattle.std.specs.Prelude.{◌≡◌, ◌^◌, List, [], ◌∷◌, ◌++◌, codes, map, None, Some, Ok, Err}
 use Rattle.serde_json.specs.Data.{Data, object, number, unsigned, member, no_members}
 use Rattle.serde_json.specs.Written.{compact_text}
-use Rattle.dap_server.specs.Messages.{PlainEvent, messages}
+use Rattle.dap_server.specs.Inbox.{piece_limit}
+use Rattle.dap_server.specs.Messages.{PlainEvent, messages, number_limit}
 
 abbrev exit_code : Data
 exit_code = object (member (codes "exitCode") (number (unsigned 0)) no_members)
@@ -33,3 +34,7 @@ abbrev pub NothingFollowsDisconnect : Type 0
 NothingFollowsDisconnect =
     map compact_text (messages 4 (codes "disconnect") (record { outcome = Ok None; events = events }) 6)
     ≡ codes "{\"command\":\"disconnect\",\"request_seq\":4,\"seq\":6,\"success\":true,\"type\":\"response\"}" ∷ []
+
+-- A session can go on until its numbers don't fit 64 bits any more, and reads at most 4,096 bytes at once.
+abbrev pub LimitsAre : Type 0
+LimitsAre = (number_limit ≡ 2 ^ 64) × (piece_limit ≡ 4096)

@@ -78,6 +78,18 @@ pub record ServedWorker {S I : Type 0} (replies : Replies S) (works : Works S) (
       (Appends written answers)
   pub ends : WorkerEnds works busy gives polls taken left result replies reached rest after answers later
 
+-- A session that goes on owes nothing: the items that came so far were taken in order, the adapter worked between them,
+-- each request was answered, once, each event was sent, once, all that was written, and neither a whole frame nor a
+-- framing fault waits.
+pub record OwesNothing {S I : Type 0} (replies : Replies S) (works : Works S) (busy : S → Bool) (gives : Gives I)
+    (polls : Polls I) (before : S) (inbox now : I) (written later : StreamLog) : Type 0 where
+  pub reached : State S
+  pub rest : List ℕ
+  pub working : Working replies works busy gives polls (state before 1 true) reached rest inbox now
+      (Appends written later)
+  pub there : reached.present ≡ true
+  pub is_open : IsOpen rest
+
 -- ---- for private contracts
 
 -- what comes next: an item; or nothing yet, which is seen only where the adapter is busy, and then it works

@@ -17,7 +17,7 @@ pub(crate) enum Next {
 }
 
 /// How a session comes to its next item: what it does while nothing has come.
-pub(crate) trait Pace<R, I> {
+pub(crate) trait Pace<R: Responder, I, O> {
     ghost use Rattle.std.specs.Prelude.{◌≡◌, Bool, true, None, IfOk, OnErr};
     ghost use Rattle.dap_server.specs.Inbox.{Gives};
     ghost use Rattle.dap_server.specs.Working.{Works, Polls, ComesNext};
@@ -34,6 +34,9 @@ pub(crate) trait Pace<R, I> {
     /// What a look into the inbox finds.
     ghost polls: { Polls I };
 
+    /// Where an item may be waited for.
+    ghost may_wait: { I → O → Type 0 };
+
     /// Returns the next item; or, where the adapter is busy and none is there, does a part of its work.
     ///
     /// # Errors
@@ -44,7 +47,10 @@ pub(crate) trait Pace<R, I> {
         alloc: Global,
         responder: &mut R,
         inbox: &mut I,
+        output: &O,
     ) -> Result<Next, AllocError>
+        requires { may_wait inbox.old output.now }
+        ensures origin { R.origin responder.new ≡ R.origin responder.old }
         ensures ok { IfOk result (λ next. ComesNext works busy gives polls responder.old inbox.old next responder.new
             inbox.new) }
         ensures err { OnErr result ((busy responder.old ≡ true) × polls inbox.old None inbox.new) };
@@ -53,7 +59,7 @@ pub(crate) trait Pace<R, I> {
 /// The session waits for each item, and never works.
 pub(crate) struct Waiting;
 
-impl<R: Responder, I: Inbox> Pace<R, I> for Waiting {
+impl<R: Responder, I: Inbox<O>, O> Pace<R, I, O> for Waiting {
     ghost use Rattle.std.specs.Prelude.{false};
 
     ghost works = { λ _ _ _. ⊥ };
@@ -64,20 +70,23 @@ impl<R: Responder, I: Inbox> Pace<R, I> for Waiting {
 
     ghost polls = { λ _ _ _. ⊥ };
 
+    ghost may_wait = { I.may_wait };
+
     fn next_turn(
         rt: &impl Wait,
         alloc: Global,
         _responder: &mut R,
         inbox: &mut I,
+        output: &O,
     ) -> Result<Next, AllocError> {
-        Ok(Next::Take(inbox.next(rt, alloc)))
+        Ok(Next::Take(inbox.next(rt, alloc, output)))
     }
 }
 
 /// The adapter works while it is busy and nothing has come.
 pub(crate) struct Polling;
 
-impl<W: Worker, I: Polled> Pace<W, I> for Polling {
+impl<W: Worker, I: Polled<O>, O> Pace<W, I, O> for Polling {
     ghost works = { W.works };
 
     ghost busy = { W.busy };
@@ -86,14 +95,17 @@ impl<W: Worker, I: Polled> Pace<W, I> for Polling {
 
     ghost polls = { I.polls };
 
+    ghost may_wait = { I.may_wait };
+
     fn next_turn(
         rt: &impl Wait,
         alloc: Global,
         worker: &mut W,
         inbox: &mut I,
+        output: &O,
     ) -> Result<Next, AllocError> {
         if !worker.is_busy() {
-            return Ok(Next::Take(inbox.next(rt, alloc)));
+            return Ok(Next::Take(inbox.next(rt, alloc, output)));
         }
         match inbox.poll(rt, alloc) {
             Some(item) => Ok(Next::Take(item)),

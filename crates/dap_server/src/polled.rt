@@ -5,7 +5,7 @@ use std::alloc::Global;
 use std::sync::Wait;
 
 /// An inbox that can be looked into without waiting.
-pub trait Polled: Inbox {
+pub trait Polled<O>: Inbox<O> {
     ghost use Rattle.std.specs.Prelude.{Option, option_map};
     ghost use Rattle.dap_server.specs.Inbox.{PlainItem, plain_item};
 

@@ -1,13 +1,13 @@
 //! The conversation with a client.
 
-ghost use Rattle.std.specs.Prelude.{◌≡◌, true, not, codes, None, IfOk, IfErr, OnOk, option_map};
-ghost use Rattle.std.specs.Str.{bytes_eq};
+ghost use Rattle.std.specs.Prelude.{◌≡◌, true, not, None, IfOk, IfErr, OnOk, option_map};
 ghost use Rattle.byte_streams.specs.Streams.{Appends};
 ghost use Rattle.serde_json.specs.View.{view};
 ghost use Rattle.dap_frame.specs.Frame.{IsOpen};
 ghost use Rattle.dap_server.specs.Requests.{request_of, IsReadAs};
+ghost use Rattle.dap_server.specs.Messages.{leaves};
 ghost use Rattle.dap_server.specs.Conversation.{state, Answers, Turns, Progress};
-ghost use Rattle.dap_server.specs.ServingInbox.{ServedInbox, OutputFailures};
+ghost use Rattle.dap_server.specs.ServingInbox.{ServedInbox, OwesNothing, OutputFailures};
 ghost use Rattle.dap_server.specs.Serving.{stays, FailsAt, FailsIn, HasFailed, Failures, Stops, Served};
 ghost use Rattle.dap_server.specs.declared.serving.Client.TheVariants.{Stays};
 
@@ -15,7 +15,7 @@ use crate::ending::{Ending, ServeFault};
 use crate::inbox::Inbox;
 use crate::messages::frames_of;
 use crate::pace::Waiting;
-use crate::reading::{command_of, is_request, seq_of};
+use crate::reading::{command_of, is_request, leaves, seq_of};
 use crate::responder::Responder;
 use crate::working::converse;
 use byte_streams::{Sink, Source, WriteFailed, write_all};
@@ -45,6 +45,7 @@ pub fn serve<R: Responder, I: Source, O: Sink>(
     input: &mut I,
     output: &mut O,
 ) -> Result<Ending, ServeFault>
+    ensures origin { R.origin responder.new ≡ R.origin responder.old }
     ensures served { Served R.replies responder.old responder.new
         (I.supply input.old) (I.supply input.new) (O.output output.old).written (O.output output.new).written result }
     ensures failures { Failures result (I.supply input.old).failures (I.supply input.new).failures
@@ -59,13 +60,17 @@ pub fn serve<R: Responder, I: Source, O: Sink>(
 /// # Errors
 ///
 /// As [`serve`]. `NoSeq`, `NoMemory` and `Output` also where an event can't be sent.
-pub fn serve_inbox<R: Responder, I: Inbox, O: Sink>(
+pub fn serve_inbox<R: Responder, I: Inbox<O>, O: Sink>(
     rt: &impl Wait,
     alloc: Global,
     responder: &mut R,
     inbox: &mut I,
     output: &mut O,
 ) -> Result<Ending, ServeFault>
+    // An item may be waited for wherever nothing is owed. So none is waited for elsewhere, whether the session ends or not.
+    requires { (i : I) (o : O) → OwesNothing R.replies I.gives responder.old inbox.old i
+        (O.output output.old).written (O.output o).written → I.may_wait i o }
+    ensures origin { R.origin responder.new ≡ R.origin responder.old }
     ensures served { ServedInbox R.replies I.gives responder.old responder.new inbox.old inbox.new
         (O.output output.old).written (O.output output.new).written result }
     ensures failures { OutputFailures result (O.output output.old).failures (O.output output.new).failures }
@@ -83,6 +88,7 @@ pub(crate) fn answer_all<R: Responder, O: Sink>(
     output: &mut O,
 ) -> Result<Client, ServeFault>
     requires { decoder.old.fault ≡ None }
+    ensures origin { R.origin responder.new ≡ R.origin responder.old }
     ensures ok { IfOk result (λ client. Progress R.replies (state responder.old next.old true)
         (state responder.new next.new (stays client)) decoder.old.rest decoder.new.rest
         (Appends (O.output output.old).written (O.output output.new).written)) }
@@ -119,6 +125,7 @@ fn answer<R: Responder, O: Sink>(
     next: &mut u64,
     output: &mut O,
 ) -> Result<Client, ServeFault>
+    ensures origin { R.origin responder.new ≡ R.origin responder.old }
     ensures ok { IfOk result (λ client. Turns R.replies (state responder.old next.old true) content.now
         (state responder.new next.new (stays client)) (Appends (O.output output.old).written (O.output output.new).written)) }
     ensures count { OnOk result ((O.output output.new).failures ≡ (O.output output.old).failures) }
@@ -153,6 +160,7 @@ fn answer_value<R: Responder, O: Sink>(
     next: &mut u64,
     output: &mut O,
 ) -> Result<Client, ServeFault>
+    ensures origin { R.origin responder.new ≡ R.origin responder.old }
     ensures ok { IfOk result (λ client. Answers R.replies (state responder.old next.old true)
         (request_of (view value.now)) (state responder.new next.new (stays client))
         (Appends (O.output output.old).written (O.output output.new).written)) }
@@ -181,9 +189,9 @@ fn answer_value<R: Responder, O: Sink>(
 
 /// Whether the client stays after this command.
 fn client_after(command: &str) -> Client
-    ensures { stays result ≡ not (bytes_eq command.now (codes "disconnect")) }
+    ensures { stays result ≡ not (leaves command.now) }
 {
-    if command == "disconnect" {
+    if leaves(command) {
         Client::Left
     } else {
         Client::Stays

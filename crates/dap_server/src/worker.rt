@@ -27,5 +27,6 @@ pub trait Worker: Responder {
     /// An allocation failed. The session ends then.
     fn work(&mut self, alloc: Global) -> Result<Vec<Event>, AllocError>
         requires { busy self.old ≡ true }
-        ensures { IfOk result (λ events. works self.old (map plain_event events.items) self.new) };
+        ensures origin { Self.origin self.new ≡ Self.origin self.old }
+        ensures worked { IfOk result (λ events. works self.old (map plain_event events.items) self.new) };
 }

@@ -4,8 +4,8 @@ ghost use Rattle.std.specs.Prelude.{◌≡◌, [], ◌∷◌, IfOk, IfErr, OnOk,
 ghost use Rattle.byte_streams.specs.Streams.{Appends};
 ghost use Rattle.dap_server.specs.Messages.{plain_event};
 ghost use Rattle.dap_server.specs.Serving.{HasFailed};
-ghost use Rattle.dap_server.specs.ServingInbox.{OutputFailures, CannotTell};
-ghost use Rattle.dap_server.specs.Working.{ServedWorker, Tells};
+ghost use Rattle.dap_server.specs.ServingInbox.{OutputFailures, CannotTell, end_of_input};
+ghost use Rattle.dap_server.specs.Working.{ServedWorker, OwesNothing, Tells};
 
 use crate::ending::{Ending, ServeFault};
 use crate::inbox::Item;
@@ -28,13 +28,17 @@ use std::sync::Wait;
 ///
 /// As `serve_inbox`; `NoSeq`, `NoMemory` and `Output` also where the events of a part can't be sent, and `NoMemory` where
 /// there is no memory for a part.
-pub fn serve_worker<W: Worker, I: Polled, O: Sink>(
+pub fn serve_worker<W: Worker, I: Polled<O>, O: Sink>(
     rt: &impl Wait,
     alloc: Global,
     worker: &mut W,
     inbox: &mut I,
     output: &mut O,
 ) -> Result<Ending, ServeFault>
+    // An item may be waited for wherever nothing is owed. So none is waited for elsewhere, whether the session ends or not.
+    requires { (i : I) (o : O) → OwesNothing W.replies W.works W.busy I.gives I.polls worker.old inbox.old i
+        (O.output output.old).written (O.output o).written → I.may_wait i o }
+    ensures origin { W.origin worker.new ≡ W.origin worker.old }
     ensures served { ServedWorker W.replies W.works W.busy I.gives I.polls worker.old worker.new inbox.old inbox.new
         (O.output output.old).written (O.output output.new).written result }
     ensures failures { OutputFailures result (O.output output.old).failures (O.output output.new).failures }
@@ -43,13 +47,16 @@ pub fn serve_worker<W: Worker, I: Polled, O: Sink>(
 }
 
 /// Serves a client at this pace.
-pub(crate) fn converse<P: Pace<R, I>, R: Responder, I, O: Sink>(
+pub(crate) fn converse<P: Pace<R, I, O>, R: Responder, I, O: Sink>(
     rt: &impl Wait,
     alloc: Global,
     responder: &mut R,
     inbox: &mut I,
     output: &mut O,
 ) -> Result<Ending, ServeFault>
+    requires { (i : I) (o : O) → OwesNothing R.replies P.works P.busy P.gives P.polls responder.old inbox.old i
+        (O.output output.old).written (O.output o).written → P.may_wait i o }
+    ensures origin { R.origin responder.new ≡ R.origin responder.old }
     ensures served { ServedWorker R.replies P.works P.busy P.gives P.polls responder.old responder.new inbox.old
         inbox.new (O.output output.old).written (O.output output.new).written result }
     ensures failures { OutputFailures result (O.output output.old).failures (O.output output.new).failures }
@@ -57,7 +64,7 @@ pub(crate) fn converse<P: Pace<R, I>, R: Responder, I, O: Sink>(
     let mut decoder = Decoder::new(alloc);
     let mut next = 1;
     for _ in rt.forever() {
-        match P::next_turn(rt, alloc, responder, inbox)? {
+        match P::next_turn(rt, alloc, responder, inbox, output)? {
             Next::Tell(events) => tell(rt, alloc, events, &mut next, output)?,
             Next::Take(Item::Event(event)) => {
                 let events = only(alloc, event)?;
@@ -74,12 +81,23 @@ pub(crate) fn converse<P: Pace<R, I>, R: Responder, I, O: Sink>(
                     Client::Left => return Ok(Ending::Disconnected),
                 }
             }
-            Next::Take(Item::End) => return Ok(Ending::InputEnded),
+            Next::Take(Item::End) => return Ok(input_end(&decoder)),
             Next::Take(Item::Failed) => return Err(ServeFault::Input),
             Next::Take(Item::NoMemory) => return Err(ServeFault::NoMemory),
         }
     }
     unreachable!()
+}
+
+/// Returns how a session ends with its input.
+fn input_end(decoder: &Decoder) -> Ending
+    ensures { result ≡ end_of_input decoder.now.rest }
+{
+    if decoder.is_between_frames() {
+        Ending::InputEnded
+    } else {
+        Ending::InputCut
+    }
 }
 
 /// Returns a list of this event alone.

@@ -9,7 +9,7 @@ use Rattle.dap_server.specs.Conversation.{state, Progress}
 use Rattle.dap_server.specs.Inbox.{Bytes, Event, End, Failed, NoMemory}
 use Rattle.dap_server.specs.ServingInbox.{CannotTell}
 use Rattle.dap_server.specs.Working.{Comes, Working}
-use Rattle.dap_server.specs.declared.ending.Ending.TheVariants.{Disconnected, InputEnded}
+use Rattle.dap_server.specs.declared.ending.Ending.TheVariants.{Disconnected}
 use Rattle.dap_server.specs.declared.ending.ServeFault.TheVariants as fault
 use Rattle.dap_server.proofs.Conversing.{is_done, not_empty}
 use Rattle.dap_server.proofs.Taking.{open_first}
@@ -22,6 +22,7 @@ loop-init g c =
     let written = (g.O.Sink.output c.args.output.now).written in
     let empty = ap (λ (s : Stream). s.rest) c.new-decoder.ensures in
     record {
+      origin = refl;
       sound = ap (λ (s : Stream). s.fault) c.new-decoder.ensures;
       is_open = subst IsOpen (sym empty) open_first;
       outputs = refl;
@@ -53,6 +54,7 @@ loop-preserved-in-Continue-branch-3 g c =
     × g.P.Pace.works c.loop.responder (map plain_event c.in-Tell.events.items) c.next_turn.new.responder =
     rw c.in-Tell.is at c.in_ok-events.ensures.ok in
     record {
+      origin = c.next_turn.ensures.origin ∙ c.loop.invariant.origin;
       sound = c.loop.invariant.sound;
       is_open = c.loop.invariant.is_open;
       outputs = c.in_ok-tell-in-Tell.ensures.count ∙ c.loop.invariant.outputs;
@@ -110,6 +112,7 @@ loop-preserved-in-Continue-branch-5 g c =
     let working = working_same _ _ _ _ _ _ _ _ _ _ _ _ _ _ c.loop.invariant.working came.0 in
     let only = ap (map plain_event) c.in_ok-events-in-Take-Event.ensures in
     record {
+      origin = c.next_turn.ensures.origin ∙ c.loop.invariant.origin;
       sound = c.loop.invariant.sound;
       is_open = c.loop.invariant.is_open;
       outputs = c.in_ok-tell-in-Take-Event.ensures.count ∙ c.loop.invariant.outputs;
@@ -245,6 +248,7 @@ loop-preserved g c =
     ) at c.in_ok-events.ensures.ok in
     let working = working_same _ _ _ _ _ _ _ _ _ _ _ _ _ _ c.loop.invariant.working came.0 in
     let now = state c.answer_all.new.responder c.answer_all.new.next true in record {
+      origin = c.answer_all.ensures.origin ∙ c.next_turn.ensures.origin ∙ c.loop.invariant.origin;
       sound = c.in_ok-client-in-Take-Bytes.ensures.sound;
       is_open = c.in_ok-client-in-Take-Bytes.ensures.open c.in-Stays.is;
       outputs = c.in_ok-client-in-Take-Bytes.ensures.count ∙ c.loop.invariant.outputs;
@@ -277,10 +281,10 @@ returns-in-Take-End-clause-served g c =
     c.args.responder.now c.next_turn.new.responder here
     c.loop.decoder.rest c.args.inbox.now c.loop.inbox c.next_turn.new.inbox End (g.O.Sink.output
     c.args.output.now).written
-    (g.O.Sink.output c.loop.output).written (g.O.Sink.output c.loop.output).written (Ok InputEnded)
+    (g.O.Sink.output c.loop.output).written (g.O.Sink.output c.loop.output).written (Ok c.input_end.result)
     working
     came.1 refl c.loop.invariant.is_open (
-      refl,
+      ap Ok c.input_end.ensures,
       is_done here
           (g.O.Sink.output c.loop.output).written,
     )
@@ -323,3 +327,13 @@ returns-in-Take-NoMemory-clause-served g c =
     (Err fault.NoMemory) working came.1
     refl c.loop.invariant.is_open
     (refl, is_done here (g.O.Sink.output c.loop.output).written)
+
+pub next_turn-requires : goal.next_turn-requires
+next_turn-requires g c =
+    c.requires c.loop.inbox c.loop.output (record {
+      reached = state c.loop.responder c.loop.next true;
+      rest = c.loop.decoder.rest;
+      working = c.loop.invariant.working;
+      there = refl;
+      is_open = c.loop.invariant.is_open;
+    })
