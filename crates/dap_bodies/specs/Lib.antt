@@ -4,3 +4,5 @@ pub mod Events
 pub mod Bodies
 -- an example of each, as text
 pub mod WorkedBodies
+-- members of arguments
+pub mod Arguments

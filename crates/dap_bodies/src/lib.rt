@@ -16,17 +16,21 @@
 //! }
 //! ```
 //!
+//! And the members of a request's arguments by name: `whole(arguments, "line")`, `text(member(arguments, "source"), "path")`.
+//!
 //! Each contract says which event or body it is, in full: `specs/Events.antt` and `specs/Bodies.antt` have the members and
 //! their values, as the Debug Adapter Protocol names them, and `worked_bodies` an example of each. Lines and columns are as
 //! the adapter counts them. An `Err` means that an allocation failed.
 #![tactic(auto)]
 
+mod arguments;
 mod events;
 mod laws;
 mod placing;
 mod showing;
 mod values;
 
+pub use arguments::{list, member, text, truth, whole};
 pub use events::{THREAD, exited, initialized, output, stopped, terminated};
 pub use laws::worked_bodies;
 pub use placing::{Breakpoint, breakpoints};

@@ -3,7 +3,7 @@ use Rattle.std.specs.Prelude.{min, slice_get, codes, Result, Ok, Err}
 use Rattle.std.proofs.Common.{◌≡◌, ◌+◌, ℕ, Bool, true, false, List, [], ◌∷◌, ◌++◌, ◌∙◌, refl, sym, ap, map, arith, Option, None, Some, inl, inr}
 use Rattle.serde_json.specs.Data.{Data}
 use Rattle.dap_server.specs.Messages.{PlainEvent, PlainReply}
-use Rattle.debuggee.specs.Plain.{PlainBreakpoint, PlainEvaluated, Value, NoValue, PlainHalt, AtBreakpoint, AtStep, AtEnd, AtFault, PlainOutput, Printed, Logged}
+use Rattle.debuggee.specs.Plain.{PlainBreakpoint, PlainEvaluated, PlainFault, Value, NoValue, PlainHalt, AtBreakpoint, AtStep, AtEnd, AtFault, PlainOutput, Printed, Logged}
 use Rattle.debuggee.specs.Due.{Sight}
 use Rattle.debuggee.specs.Runs.{Meaning}
 use Rattle.debuggee.specs.declared.mode.Mode.{Mode}
@@ -13,18 +13,19 @@ use Rattle.dap_debug.specs.declared.command.Command.TheVariants as command
 use Rattle.dap_debug.specs.declared.command.Resume.{Resume}
 use Rattle.dap_debug.specs.declared.command.Question.{Question}
 use Rattle.dap_debug.specs.declared.command.Question.TheVariants as question
-use Rattle.dap_debug.specs.declared.language.Location.{Location}
 use Rattle.dap_debug.specs.declared.launching.Unread.{Unread}
 use Rattle.dap_debug.specs.declared.state.Phase.{Phase}
 use Rattle.dap_debug.specs.declared.state.Phase.TheVariants as phase
 use Rattle.dap_debug.specs.Breakpoints.{SetsIn, Own, Other, SetsOnly, SetsFrom}
-use Rattle.dap_debug.specs.Arguments.{text_at}
-use Rattle.dap_debug.specs.Inspecting.{ShowsScopes, ShowsScope, ShowsVariables, Evaluates, Shows, ShowsFrom, ExplainsFrom, frame_asked, frame_limit, frame_of_reference, frame_to_evaluate, index_of_reference, reference_asked, reply_of}
+use Rattle.dap_bodies.specs.Arguments.{text_at}
+use Rattle.dap_debug.specs.Inspecting.{AnswersQuestion, ShowsInside, ShowsScopes, ShowsScope, ShowsVariables, Evaluates, ShowsFrom, ExplainsFrom, frame_asked, frame_limit, frame_of_reference, frame_to_evaluate, index_of_reference, number_of_reference, page_asked, reference_asked, reply_of}
 use Rattle.dap_debug.specs.Loading.{LoadsAs, LoadsGiven, LoadsAt, LoadsFrom}
-use Rattle.dap_debug.specs.Shown.{PlainFrame, PlainScope}
-use Rattle.dap_debug.specs.Replies.{Known, RepliesTo}
-use Rattle.dap_debug.specs.Running.{EntersFrom, GoesFrom, GoesOn, WorksOn, StartsFrom, ResumesFrom, PausesFrom, IsRefused, ended, mode_of, phase_after}
-use Rattle.dap_debug.specs.Standings.{Standing}
+use Rattle.debuggee.specs.Shown.{PlainVariable, Shows}
+use Rattle.debuggee.specs.declared.language.Page.{Page}
+use Rattle.dap_debug.specs.Commands.{checked}
+use Rattle.dap_debug.specs.Replies.{Answers, Known, RepliesTo}
+use Rattle.dap_debug.specs.Running.{EntersFrom, GoesFrom, GoesOn, WorksOn, StartsFrom, ResumesFrom, PausesFrom, TerminatesFrom, IsRefused, ended, mode_of, phase_after}
+use Rattle.dap_debug.specs.Standings.{Standing, program_in}
 use Rattle.dap_debug.specs.Telling.{event_of, merged, told_end, told_of}
 use Rattle.dap_debug.specs.Laws.{ends_told, owed, asks}
 
@@ -73,6 +74,7 @@ worked takes sees (phase.Configuring a stop_on_entry) stood stands events at is 
     still stood stands events _ is.0 is.1 at
 worked takes sees (phase.Stopped a) stood stands events at is = still stood stands events _ is.0 is.1 at
 worked takes sees phase.NoProgram stood stands events at is = still stood stands events _ is.0 is.1 at
+worked takes sees (phase.Ended a) stood stands events at is = still stood stands events _ is.0 is.1 at
 
 pub work_balanced : {S : Type 0} (takes : Meaning S) (sees : Sight S) (stood stands : Standing S)
     (events : List PlainEvent) → WorksOn takes sees stood events stands
@@ -106,6 +108,7 @@ entered (phase.Running a how) stood stands events at is =
 entered (phase.Configuring a stop_on_entry) stood stands events at is = still stood stands events _ is.0 is.1 at
 entered (phase.Stopped a) stood stands events at is = still stood stands events _ is.0 is.1 at
 entered phase.NoProgram stood stands events at is = still stood stands events _ is.0 is.1 at
+entered (phase.Ended a) stood stands events at is = still stood stands events _ is.0 is.1 at
 
 goes_on : {S : Type 0} (takes : Meaning S) (sees : Sight S) (stop_on_entry : Bool) (stood stands : Standing S)
     (events : List PlainEvent) → GoesOn takes sees stop_on_entry stood events stands
@@ -132,6 +135,8 @@ started takes sees (phase.Stopped a) stood stands reply at is =
     let so = refused stood stands reply _ is at in omega (arith, so)
 started takes sees phase.NoProgram stood stands reply at is =
     let so = refused stood stands reply _ is at in omega (arith, so)
+started takes sees (phase.Ended a) stood stands reply at is =
+    let so = refused stood stands reply _ is at in omega (arith, so)
 
 resumes : {S : Type 0} (takes : Meaning S) (sees : Sight S) (p : Phase S) (how : Resume) (stood stands : Standing S)
     (reply : PlainReply) → stood.phase ≡ p → ResumesFrom takes sees p how stood reply stands
@@ -147,6 +152,8 @@ resumes takes sees (phase.Running a before) how stood stands reply at is =
     let so = refused stood stands reply _ is at in omega (arith, so)
 resumes takes sees phase.NoProgram how stood stands reply at is =
     let so = refused stood stands reply _ is at in omega (arith, so)
+resumes takes sees (phase.Ended a) how stood stands reply at is =
+    let so = refused stood stands reply _ is at in omega (arith, so)
 
 paused : {S : Type 0} (p : Phase S) (stood stands : Standing S) (reply : PlainReply) → stood.phase ≡ p
     → PausesFrom p stood reply stands → owed stands.phase + ends_told reply.events ≡ owed p
@@ -155,12 +162,21 @@ paused (phase.Running a how) stood stands reply at is =
 paused (phase.Configuring a stop_on_entry) stood stands reply at is = refused stood stands reply _ is at
 paused (phase.Stopped a) stood stands reply at is = refused stood stands reply _ is at
 paused phase.NoProgram stood stands reply at is = refused stood stands reply _ is at
+paused (phase.Ended a) stood stands reply at is = refused stood stands reply _ is at
 
-ends_of : {S : Type 0} (p : Phase S) → ends_told (ended p) ≡ owed p + asks command.Terminate p
-ends_of (phase.Running a how) = refl
-ends_of (phase.Configuring a stop_on_entry) = refl
-ends_of (phase.Stopped a) = refl
-ends_of phase.NoProgram = refl
+terminated : {S : Type 0} (p : Phase S) (stood stands : Standing S) (reply : PlainReply) → stood.phase ≡ p
+    → TerminatesFrom (program_in p) (ended p) stood reply stands
+    → owed stands.phase + ends_told reply.events ≡ owed p + asks command.Terminate p
+terminated (phase.Running a how) stood stands reply at is =
+    replied stands (phase.Ended a) reply _ 1 is.0 (ap (λ (s : Standing _). s.phase) is.1) refl
+terminated (phase.Configuring a stop_on_entry) stood stands reply at is =
+    replied stands (phase.Ended a) reply _ 1 is.0 (ap (λ (s : Standing _). s.phase) is.1) refl
+terminated (phase.Stopped a) stood stands reply at is =
+    replied stands (phase.Ended a) reply _ 1 is.0 (ap (λ (s : Standing _). s.phase) is.1) refl
+terminated (phase.Ended a) stood stands reply at is =
+    replied stands (phase.Ended a) reply _ 0 is.0 (ap (λ (s : Standing _). s.phase) is.1) refl
+terminated phase.NoProgram stood stands reply at is =
+    let so = quiet stood stands reply _ _ is.0 refl is.1 at in omega (arith, so)
 
 loaded_as : {S : Type 0} (arguments : Option Data) (loaded : Result S (List ℕ)) (p : Phase S)
     (stood stands : Standing S) (reply : PlainReply) → stood.phase ≡ p → owed p ≡ 0
@@ -200,48 +216,59 @@ loaded reads_as (phase.Stopped a) arguments stood stands reply at is =
     loaded_at reads_as arguments (text_at (codes "program") arguments) _ stood stands reply at refl is
 loaded reads_as phase.NoProgram arguments stood stands reply at is =
     loaded_at reads_as arguments (text_at (codes "program") arguments) _ stood stands reply at refl is
+loaded reads_as (phase.Ended a) arguments stood stands reply at is =
+    loaded_at reads_as arguments (text_at (codes "program") arguments) _ stood stands reply at refl is
 
-set_in : {S : Type 0} (first_place : S → ℕ → Option Location → Type 0) (a : S) (arguments : Option Data)
+set_in : {S : Type 0} (shows : Shows S) (a : S) (arguments : Option Data)
     (path : List ℕ) (old new : List PlainBreakpoint) (reply : PlainReply)
-    → SetsIn first_place arguments a path old reply new → ends_told reply.events ≡ 0
-set_in first_place a arguments path old new reply (Own source answers are is) =
+    → SetsIn shows arguments a path old reply new → ends_told reply.events ≡ 0
+set_in shows a arguments path old new reply (Own source answers are is) =
     ap (λ (r : PlainReply). ends_told r.events) is
-set_in first_place a arguments path old new reply (Other source answers are is same) =
+set_in shows a arguments path old new reply (Other source answers are is same) =
     ap (λ (r : PlainReply). ends_told r.events) is
 
-set_only : {S : Type 0} (first_place : S → ℕ → Option Location → Type 0) (p : Phase S) (a : S)
+set_only : {S : Type 0} (shows : Shows S) (p : Phase S) (a : S)
     (arguments : Option Data) (stood stands : Standing S) (reply : PlainReply) → stood.phase ≡ p
-    → SetsOnly first_place arguments a stood reply stands → owed stands.phase + ends_told reply.events ≡ owed p
-set_only first_place p a arguments stood stands reply at is =
-    let told = set_in first_place a arguments _ _ _ reply is.0 in
+    → SetsOnly shows arguments a stood reply stands → owed stands.phase + ends_told reply.events ≡ owed p
+set_only shows p a arguments stood stands reply at is =
+    let told = set_in shows a arguments _ _ _ reply is.0 in
     let owes = ap (λ (s : Standing _). owed s.phase) is.1 ∙ ap owed at in
     omega (arith, told, owes)
 
-sets : {S : Type 0} (first_place : S → ℕ → Option Location → Type 0) (program : Option S) (p : Phase S)
+sets : {S : Type 0} (shows : Shows S) (program : Option S) (p : Phase S)
     (arguments : Option Data) (stood stands : Standing S) (reply : PlainReply) → stood.phase ≡ p
-    → SetsFrom first_place program arguments stood reply stands → owed stands.phase + ends_told reply.events ≡ owed p
-sets first_place None p arguments stood stands reply at is = refused stood stands reply p is at
-sets first_place (Some a) p arguments stood stands reply at is =
-    set_only first_place p a arguments stood stands reply at is
+    → SetsFrom shows program arguments stood reply stands → owed stands.phase + ends_told reply.events ≡ owed p
+sets shows None p arguments stood stands reply at is = refused stood stands reply p is at
+sets shows (Some a) p arguments stood stands reply at is =
+    set_only shows p a arguments stood stands reply at is
 
 -- ---- questions
 
 no_events : (reply says : PlainReply) → reply ≡ says → says.events ≡ [] → reply.events ≡ []
 no_events reply says is none = ap (λ (r : PlainReply). r.events) is ∙ none
 
-scopes_quiet : {S : Type 0} (scopes_of : S → ℕ → List PlainScope → Type 0) (frame : Option ℕ) (a : S)
-    (reply : PlainReply) → ShowsScopes scopes_of frame a reply → reply.events ≡ []
-scopes_quiet scopes_of None a reply is = no_events reply _ is.1 refl
-scopes_quiet scopes_of (Some frame) a reply is = no_events reply _ is.2 refl
+scopes_quiet : {S : Type 0} (shows : Shows S) (frame : Option ℕ) (a : S) (reply : PlainReply)
+    → ShowsScopes shows frame a reply → reply.events ≡ []
+scopes_quiet shows None a reply is = no_events reply _ is.1 refl
+scopes_quiet shows (Some frame) a reply is = no_events reply _ is.2 refl
 
-scope_quiet : (scope : Option PlainScope) (reply : PlainReply) → ShowsScope scope reply → reply.events ≡ []
-scope_quiet None reply is = no_events reply _ is.1 refl
-scope_quiet (Some scope) reply is = no_events reply _ is refl
+inside_quiet : (are_all : List PlainVariable → Type 0) (page : Page) (reply : PlainReply)
+    → ShowsInside are_all page reply → reply.events ≡ []
+inside_quiet are_all page reply (inl is) = no_events reply _ is.2 refl
+inside_quiet are_all page reply (inr is) = no_events reply _ is.1 refl
 
-variables_quiet : {S : Type 0} (scopes_of : S → ℕ → List PlainScope → Type 0) (frame : Option ℕ) (index : ℕ) (a : S)
-    (reply : PlainReply) → ShowsVariables scopes_of frame index a reply → reply.events ≡ []
-variables_quiet scopes_of None index a reply is = no_events reply _ is.1 refl
-variables_quiet scopes_of (Some frame) index a reply is = scope_quiet (slice_get is.0 index) reply is.2
+scope_quiet : {S : Type 0} (shows : Shows S) (frame index : ℕ) (name : Option (List ℕ)) (page : Page) (a : S)
+    (reply : PlainReply) → ShowsScope shows frame index name page a reply → reply.events ≡ []
+scope_quiet shows frame index None page a reply is = no_events reply _ is.1 refl
+scope_quiet shows frame index (Some name) page a reply is = no_events reply _ is.2 refl
+
+variables_quiet : {S : Type 0} (shows : Shows S) (number frame : Option ℕ) (index : ℕ) (page : Page) (a : S)
+    (reply : PlainReply) → ShowsVariables shows number frame index page a reply → reply.events ≡ []
+variables_quiet shows (Some number) frame index page a reply is =
+    inside_quiet (shows.inside_of a number) page reply is
+variables_quiet shows None None index page a reply is = no_events reply _ is.1 refl
+variables_quiet shows None (Some frame) index page a reply is =
+    scope_quiet shows frame index (slice_get is.0 index) page a reply is.2
 
 value_quiet : (evaluated : PlainEvaluated) (reply : PlainReply) → reply ≡ reply_of evaluated → reply.events ≡ []
 value_quiet (Value text holds) reply is = no_events reply _ is refl
@@ -253,74 +280,76 @@ evaluate_quiet sees (Some expression) (Some frame) a reply is = value_quiet (see
 evaluate_quiet sees (Some expression) None a reply is = no_events reply _ is.1 refl
 evaluate_quiet sees None frame a reply is = no_events reply _ is.1 refl
 
-shows_quiet : {S : Type 0} (sees : Sight S) (frame_of : S → ℕ → PlainFrame → Type 0)
-    (scopes_of : S → ℕ → List PlainScope → Type 0) (asked : Question) (arguments : Option Data) (path : List ℕ)
-    (a : S) (reply : PlainReply) → Shows sees frame_of scopes_of asked arguments path a reply → reply.events ≡ []
-shows_quiet sees frame_of scopes_of question.StackTrace arguments path a reply is =
-    no_events reply _ is.reply_is refl
-shows_quiet sees frame_of scopes_of question.Scopes arguments path a reply is =
-    scopes_quiet scopes_of (frame_asked (min (sees.depth_of a) frame_limit) arguments) a reply is
-shows_quiet sees frame_of scopes_of question.Variables arguments path a reply is =
-    variables_quiet scopes_of (frame_of_reference (sees.depth_of a) (reference_asked arguments))
-    (index_of_reference (reference_asked arguments)) a reply is
-shows_quiet sees frame_of scopes_of question.Evaluate arguments path a reply is =
+question_quiet : {S : Type 0} (sees : Sight S) (shows : Shows S) (asked : Question) (arguments : Option Data)
+    (path : List ℕ) (a : S) (reply : PlainReply) → AnswersQuestion sees shows asked arguments path a reply
+    → reply.events ≡ []
+question_quiet sees shows question.StackTrace arguments path a reply is = no_events reply _ is.reply_is refl
+question_quiet sees shows question.Scopes arguments path a reply is =
+    scopes_quiet shows (frame_asked (min (sees.depth_of a) frame_limit) arguments) a reply is
+question_quiet sees shows question.Variables arguments path a reply is =
+    variables_quiet shows (number_of_reference (reference_asked arguments))
+    (frame_of_reference (sees.depth_of a) (reference_asked arguments))
+    (index_of_reference (reference_asked arguments)) (page_asked arguments) a reply is
+question_quiet sees shows question.Evaluate arguments path a reply is =
     evaluate_quiet sees (text_at (codes "expression") arguments) (frame_to_evaluate (sees.depth_of a) arguments) a reply
     is
 
-inspects_quiet : {S : Type 0} (sees : Sight S) (frame_of : S → ℕ → PlainFrame → Type 0)
-    (scopes_of : S → ℕ → List PlainScope → Type 0) (p : Phase S) (asked : Question) (arguments : Option Data)
-    (path : List ℕ) (reply : PlainReply) → ShowsFrom sees frame_of scopes_of p asked arguments path reply
+inspects_quiet : {S : Type 0} (sees : Sight S) (shows : Shows S) (p : Phase S) (asked : Question)
+    (arguments : Option Data) (path : List ℕ) (reply : PlainReply) → ShowsFrom sees shows p asked arguments path reply
     → reply.events ≡ []
-inspects_quiet sees frame_of scopes_of (phase.Stopped a) asked arguments path reply is =
-    shows_quiet sees frame_of scopes_of asked arguments path a reply is
-inspects_quiet sees frame_of scopes_of (phase.Running a how) asked arguments path reply is =
+inspects_quiet sees shows (phase.Stopped a) asked arguments path reply is =
+    question_quiet sees shows asked arguments path a reply is
+inspects_quiet sees shows (phase.Running a how) asked arguments path reply is = no_events reply _ is.1 refl
+inspects_quiet sees shows (phase.Configuring a stop_on_entry) asked arguments path reply is =
     no_events reply _ is.1 refl
-inspects_quiet sees frame_of scopes_of (phase.Configuring a stop_on_entry) asked arguments path reply is =
-    no_events reply _ is.1 refl
-inspects_quiet sees frame_of scopes_of phase.NoProgram asked arguments path reply is = no_events reply _ is.1 refl
+inspects_quiet sees shows (phase.Ended a) asked arguments path reply is = no_events reply _ is.1 refl
+inspects_quiet sees shows phase.NoProgram asked arguments path reply is = no_events reply _ is.1 refl
 
-explains_quiet : {S : Type 0} (p : Phase S) (fault : Option (List ℕ)) (reply : PlainReply)
+explains_quiet : {S : Type 0} (p : Phase S) (fault : Option PlainFault) (reply : PlainReply)
     → ExplainsFrom p fault reply → reply.events ≡ []
 explains_quiet (phase.Stopped a) (Some why) reply is = no_events reply _ is refl
 explains_quiet (phase.Stopped a) None reply is = no_events reply _ is.1 refl
 explains_quiet (phase.Running a how) fault reply is = no_events reply _ is.1 refl
 explains_quiet (phase.Configuring a stop_on_entry) fault reply is = no_events reply _ is.1 refl
+explains_quiet (phase.Ended a) fault reply is = no_events reply _ is.1 refl
 explains_quiet phase.NoProgram fault reply is = no_events reply _ is.1 refl
 
 -- ---- all
 
-pub replies_balanced : {S : Type 0} (known : Known S) (asked : Command) (arguments : Option Data)
-    (stood stands : Standing S) (reply : PlainReply) → RepliesTo known asked arguments stood reply stands
+answers_balanced : {S : Type 0} (known : Known S) (asked : Command) (arguments : Option Data)
+    (stood stands : Standing S) (reply : PlainReply) → Answers known asked arguments stood reply stands
     → owed stands.phase + ends_told reply.events ≡ owed stood.phase + asks asked stood.phase
-replies_balanced known command.Initialize arguments stood stands reply is =
+answers_balanced known command.Initialize arguments stood stands reply is =
     let so = quiet stood stands reply _ stood.phase is.0 refl is.1 refl in omega (arith, so)
-replies_balanced known command.Launch arguments stood stands reply is =
-    let so = loaded known.reads_as stood.phase arguments stood stands reply refl is in omega (arith, so)
-replies_balanced known command.SetBreakpoints arguments stood stands reply is =
-    let so = sets known.first_place _ stood.phase arguments stood stands reply refl is in omega (arith, so)
-replies_balanced known command.ConfigurationDone arguments stood stands reply is =
+answers_balanced known command.Launch arguments stood stands reply is =
+    let so = loaded known.shows.reads_as stood.phase arguments stood stands reply refl is in omega (arith, so)
+answers_balanced known command.SetBreakpoints arguments stood stands reply is =
+    let so = sets known.shows _ stood.phase arguments stood stands reply refl is in omega (arith, so)
+answers_balanced known command.ConfigurationDone arguments stood stands reply is =
     started known.takes known.sees stood.phase stood stands reply refl is
-replies_balanced known command.Threads arguments stood stands reply is =
+answers_balanced known command.Threads arguments stood stands reply is =
     let so = quiet stood stands reply _ stood.phase is.0 refl is.1 refl in omega (arith, so)
-replies_balanced known (command.Resume how) arguments stood stands reply is =
+answers_balanced known (command.Resume how) arguments stood stands reply is =
     resumes known.takes known.sees stood.phase how stood stands reply refl is
-replies_balanced known command.Pause arguments stood stands reply is =
+answers_balanced known command.Pause arguments stood stands reply is =
     let so = paused stood.phase stood stands reply refl is in omega (arith, so)
-replies_balanced known command.Terminate arguments stood stands reply is =
-    let told = ap (λ (r : PlainReply). ends_told r.events) is.0 in
-    let owes = ap (λ (s : Standing _). owed s.phase) is.1 in
-    let all = ends_of stood.phase in
-    omega (arith, told, owes, all)
-replies_balanced known (command.Inspect asked) arguments stood stands reply is =
-    let none = inspects_quiet known.sees known.frame_of known.scopes_of stood.phase asked arguments stood.path reply
-    is.0 in
+answers_balanced known command.Terminate arguments stood stands reply is =
+    terminated stood.phase stood stands reply refl is
+answers_balanced known (command.Inspect asked) arguments stood stands reply is =
+    let none = inspects_quiet known.sees known.shows stood.phase asked arguments stood.path reply is.0 in
     let so = still stood stands reply.events stood.phase none is.1 refl in
     omega (arith, so)
-replies_balanced known command.ExceptionInfo arguments stood stands reply is =
+answers_balanced known command.ExceptionInfo arguments stood stands reply is =
     let none = explains_quiet stood.phase stood.fault reply is.0 in
     let so = still stood stands reply.events stood.phase none is.1 refl in
     omega (arith, so)
-replies_balanced known command.Disconnect arguments stood stands reply is =
+answers_balanced known command.Disconnect arguments stood stands reply is =
     let so = quiet stood stands reply _ stood.phase is.0 refl is.1 refl in omega (arith, so)
-replies_balanced known command.Unsupported arguments stood stands reply is =
+answers_balanced known (command.Refused why) arguments stood stands reply is =
     let so = quiet stood stands reply _ stood.phase is.0 refl is.1 refl in omega (arith, so)
+
+pub replies_balanced : {S : Type 0} (known : Known S) (asked : Command) (arguments : Option Data)
+    (stood stands : Standing S) (reply : PlainReply) → RepliesTo known asked arguments stood reply stands
+    → owed stands.phase + ends_told reply.events ≡ owed stood.phase + asks (checked asked arguments) stood.phase
+replies_balanced known asked arguments stood stands reply is =
+    answers_balanced known (checked asked arguments) arguments stood stands reply is

@@ -1,10 +1,10 @@
 -- Identifiers and references lead back to what they were shown of.
-use Rattle.std.specs.Prelude.{◌&&◌, nat_eq, nat_le, if◌then◌else◌}
+use Rattle.std.specs.Prelude.{◌&&◌, nat_eq, nat_le, nat_lt, if◌then◌else◌}
 use Rattle.std.proofs.Common.{◌≡◌, ◌<◌, ◌≤◌, ◌+◌, ◌-◌, ◌*◌, ◌/◌, ◌%◌, ◌∙◌, ℕ, List, ap, arith, false, None, Some}
-use Rattle.std.proofs.lemmas.Bool.{le-leb, ne_eqb}
+use Rattle.std.proofs.lemmas.Bool.{le-leb, le-ltb, lt-ltb, ne_eqb}
 use Rattle.std.proofs.lemmas.Nat.{div-mul-add, mod-mul-add}
-use Rattle.dap_debug.specs.Inspecting.{frame_of_reference, frame_with, index_of_reference, scope_limit, shown_frame, shown_scope}
-use Rattle.dap_debug.specs.Shown.{PlainFrame, PlainScope}
+use Rattle.dap_debug.specs.Inspecting.{frame_of_reference, frame_with, index_of_reference, scope_limit, shown_frame, shown_scope, frame_limit, inside_base, number_limit, number_of_reference, reference_inside}
+use Rattle.debuggee.specs.Shown.{PlainFrame}
 
 frame_found : (many index : ℕ) → index < many → frame_with many (index + 1) ≡ Some index
 frame_found many index inside =
@@ -19,15 +19,28 @@ pub frames_found : (path : List ℕ) (many index : ℕ) (frame : PlainFrame) →
     → frame_with many (shown_frame path index frame).id ≡ Some index
 frames_found path many index frame inside = frame_found many index inside
 
-pub scopes_found : (many frame index : ℕ) (scope : PlainScope) → frame < many → index < scope_limit
-    → (frame_of_reference many (shown_scope frame index scope).reference ≡ Some frame)
-    × (index_of_reference (shown_scope frame index scope).reference ≡ index)
-scopes_found many frame index scope inside few =
+pub scopes_found : (many frame index : ℕ) (name : List ℕ) → frame < many → frame < frame_limit → index < scope_limit
+    → (number_of_reference (shown_scope frame index name).reference ≡ None)
+    × (frame_of_reference many (shown_scope frame index name).reference ≡ Some frame)
+    × (index_of_reference (shown_scope frame index name).reference ≡ index)
+scopes_found many frame index name inside near few =
     let reference = frame * 16 + index + 1 in
+    let low : reference ≤ inside_base = omega (arith, near, few) in
     let before : reference - 1 ≡ frame * 16 + index = omega arith in
     let some : nat_eq reference 0 ≡ false = ne_eqb reference 0 (λ none. omega (arith, none)) in (
+      ap (λ b. if b then Some (reference - inside_base - 1) else None) (le-ltb inside_base reference low),
       ap (λ b. if b then None else frame_with many ((reference - 1) / 16 + 1)) some
           ∙ ap (λ n. frame_with many (n / 16 + 1)) before
           ∙ ap (λ n. frame_with many (n + 1)) (div-mul-add frame 16 index few) ∙ frame_found many frame inside,
       ap (λ n. n % 16) before ∙ mod-mul-add frame 16 index few,
     )
+
+pub variables_found : (number : ℕ) → number < number_limit
+    → number_of_reference (reference_inside (Some number)) ≡ Some number
+variables_found number few =
+    let reference = inside_base + 1 + number in
+    let high : inside_base < reference = omega arith in
+    let back : reference - inside_base - 1 ≡ number = omega arith in
+    ap (λ b. number_of_reference (if b then reference else 0)) (lt-ltb number number_limit few)
+    ∙ ap (λ b. if b then Some (reference - inside_base - 1) else None) (lt-ltb inside_base reference high)
+    ∙ ap (λ n. Some n) back

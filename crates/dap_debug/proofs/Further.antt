@@ -1,6 +1,6 @@
 -- Frames, scopes, variables and breakpoints, one after another.
 use Rattle.std.proofs.Common.{◌≡◌, ◌<◌, ◌+◌, ℕ, List, [], ◌∷◌, ◌++◌, ◌∙◌, refl, sym, ap, subst, take, get_or, add-one, length, append_assoc, append-nil, arith}
-use Rattle.std.specs.Prelude.{◌≢◌, map, codes, Option, Some, Result, Ok, Err, IfOk}
+use Rattle.std.specs.Prelude.{◌≢◌, map, codes, Option, Some, Result, Ok, Err, IfOk, String, string_bytes}
 use Rattle.std.specs.Option.{option_to_list}
 use Rattle.std.proofs.Math.Seq.{take-suc}
 use Rattle.std.proofs.lemmas.List.{length_push, length-map, map-append}
@@ -13,11 +13,10 @@ use Rattle.dap_bodies.specs.declared.showing.Scope as bodies
 use Rattle.dap_bodies.specs.declared.placing.Breakpoint.{Breakpoint as AnswerValue}
 use Rattle.dap_server.specs.Messages.{PlainReply}
 use Rattle.debuggee.specs.Plain.{PlainBreakpoint}
-use Rattle.dap_debug.specs.declared.language.Location.{Location}
-use Rattle.dap_debug.specs.declared.language.Scope.{Scope}
+use Rattle.std.specs.declared.alloc.Global.{Global}
 use Rattle.dap_debug.specs.Standings.{Standing, program_in}
-use Rattle.dap_debug.specs.Arguments.{list_at}
-use Rattle.dap_debug.specs.Shown.{PlainFrame, PlainScope, plain_scope}
+use Rattle.dap_bodies.specs.Arguments.{list_at}
+use Rattle.debuggee.specs.Shown.{PlainFrame, Shows}
 use Rattle.dap_debug.specs.Inspecting.{ShowsFrame, ShowFrames, shown_scope, shown_scopes}
 use Rattle.dap_debug.specs.Breakpoints.{IsSet, AreSet, AreUnset, SetsIn, Own, Other, SetsOnly, SetsFrom, Sets, answers_reply, source_asked}
 
@@ -47,32 +46,32 @@ one_frame frame_of path a first index values new value grown are at is =
 
 -- ---- scopes and variables
 
-scopes_more : (frame index : ℕ) (scopes : List PlainScope) (one : PlainScope)
-    → shown_scopes frame index (scopes ++ one ∷ [])
-    ≡ shown_scopes frame index scopes ++ shown_scope frame (index + length scopes) one ∷ []
+scopes_more : (frame index : ℕ) (names : List (List ℕ)) (one : List ℕ)
+    → shown_scopes frame index (names ++ one ∷ [])
+    ≡ shown_scopes frame index names ++ shown_scope frame (index + length names) one ∷ []
 scopes_more frame index [] one =
     let e : index ≡ index + 0 = omega arith in ap (λ n. shown_scope frame n one ∷ []) e
-scopes_more frame index (x ∷ scopes) one =
-    let e : (index + 1) + length scopes ≡ index + length (x ∷ scopes) = omega arith in
+scopes_more frame index (x ∷ names) one =
+    let e : (index + 1) + length names ≡ index + length (x ∷ names) = omega arith in
     ap (λ l. shown_scope frame index x ∷ l)
-    (scopes_more frame (index + 1) scopes one
-    ∙ ap (λ n. shown_scopes frame (index + 1) scopes ++ shown_scope frame n one ∷ []) e)
+    (scopes_more frame (index + 1) names one
+    ∙ ap (λ n. shown_scopes frame (index + 1) names ++ shown_scope frame n one ∷ []) e)
 
 -- one scope more
-pub one_scope : (frame : ℕ) (scopes : List Scope) (one : Scope) (values new : List bodies.Scope)
+pub one_scope : (frame : ℕ) (names : List (String Global)) (one : String Global) (values new : List bodies.Scope)
     (value : bodies.Scope) → new ≡ values ++ value ∷ []
-    → map plain_shown_scope values ≡ shown_scopes frame 0 (map plain_scope scopes)
-    → plain_shown_scope value ≡ shown_scope frame (length scopes) (plain_scope one)
-    → map plain_shown_scope new ≡ shown_scopes frame 0 (map plain_scope (scopes ++ one ∷ []))
-one_scope frame scopes one values new value grown are is =
-    let same = length-map scopes plain_scope in
-    let many : length scopes ≡ 0 + length (map plain_scope scopes) = omega (arith, same) in
+    → map plain_shown_scope values ≡ shown_scopes frame 0 (map string_bytes names)
+    → plain_shown_scope value ≡ shown_scope frame (length names) (string_bytes one)
+    → map plain_shown_scope new ≡ shown_scopes frame 0 (map string_bytes (names ++ one ∷ []))
+one_scope frame names one values new value grown are is =
+    let same = length-map names string_bytes in
+    let many : length names ≡ 0 + length (map string_bytes names) = omega (arith, same) in
     ap (map plain_shown_scope) grown ∙ map-append plain_shown_scope values (value ∷ [])
     ∙ ap (λ l. l ++ plain_shown_scope value ∷ []) are
-    ∙ ap (λ d. shown_scopes frame 0 (map plain_scope scopes) ++ d ∷ [])
-    (is ∙ ap (λ n. shown_scope frame n (plain_scope one)) many)
-    ∙ sym (scopes_more frame 0 (map plain_scope scopes) (plain_scope one))
-    ∙ ap (shown_scopes frame 0) (sym (map-append plain_scope scopes (one ∷ [])))
+    ∙ ap (λ d. shown_scopes frame 0 (map string_bytes names) ++ d ∷ [])
+    (is ∙ ap (λ n. shown_scope frame n (string_bytes one)) many)
+    ∙ sym (scopes_more frame 0 (map string_bytes names) (string_bytes one))
+    ∙ ap (shown_scopes frame 0) (sym (map-append string_bytes names (one ∷ [])))
 
 -- ---- breakpoints
 
@@ -81,53 +80,53 @@ pub on_ok : {A E : Type 0} (P Q : A → Type 0) (r : Result A E) → IfOk r P �
 on_ok P Q (Ok a) is so = so a is
 on_ok P Q (Err e) is so = tt
 
-pub set_own : {S : Type 0} (first_place : S → ℕ → Option Location → Type 0) (arguments : Option Data) (program : S)
+pub set_own : {S : Type 0} (shows : Shows S) (arguments : Option Data) (program : S)
     (path : List ℕ) (old new : List PlainBreakpoint) (reply : PlainReply) (asked : Items)
     (answers : List ShownBreakpoint)
     → asked ≡ list_at (codes "breakpoints") arguments → source_asked arguments ≡ Some path
-    → AreSet first_place program asked answers new → reply ≡ answers_reply answers
-    → SetsIn first_place arguments program path old reply new
-set_own first_place arguments program path old new reply asked answers at own are is =
-    Own own answers (subst (λ l. AreSet first_place program l answers new) at are) is
+    → AreSet shows program asked answers new → reply ≡ answers_reply answers
+    → SetsIn shows arguments program path old reply new
+set_own shows arguments program path old new reply asked answers at own are is =
+    Own own answers (subst (λ l. AreSet shows program l answers new) at are) is
 
-pub refuse_other : {S : Type 0} (first_place : S → ℕ → Option Location → Type 0) (arguments : Option Data)
+pub refuse_other : {S : Type 0} (shows : Shows S) (arguments : Option Data)
     (program : S) (path : List ℕ) (old : List PlainBreakpoint) (reply : PlainReply) (asked : Items)
     (answers : List ShownBreakpoint)
     → asked ≡ list_at (codes "breakpoints") arguments → source_asked arguments ≢ Some path → AreUnset asked answers
-    → reply ≡ answers_reply answers → SetsIn first_place arguments program path old reply old
-refuse_other first_place arguments program path old reply asked answers at other are is =
+    → reply ≡ answers_reply answers → SetsIn shows arguments program path old reply old
+refuse_other shows arguments program path old reply asked answers at other are is =
     Other other answers (subst (λ l. AreUnset l answers) at are) is refl
 
-pub set_within : {S : Type 0} (first_place : S → ℕ → Option Location → Type 0) (arguments : Option Data) (program : S)
+pub set_within : {S : Type 0} (shows : Shows S) (arguments : Option Data) (program : S)
     (path : List ℕ) (stood stands : Standing S) (reply : PlainReply) → path ≡ stood.path
     → stands ≡ record stood { breakpoints = stands.breakpoints }
-    → SetsIn first_place arguments program path stood.breakpoints reply stands.breakpoints
-    → SetsOnly first_place arguments program stood reply stands
-set_within first_place arguments program path stood stands reply at only is =
-    (subst (λ p. SetsIn first_place arguments program p stood.breakpoints reply stands.breakpoints) at is, only)
+    → SetsIn shows arguments program path stood.breakpoints reply stands.breakpoints
+    → SetsOnly shows arguments program stood reply stands
+set_within shows arguments program path stood stands reply at only is =
+    (subst (λ p. SetsIn shows arguments program p stood.breakpoints reply stands.breakpoints) at is, only)
 
-pub sets_from : {S : Type 0} (first_place : S → ℕ → Option Location → Type 0) (arguments : Option Data) (program : S)
+pub sets_from : {S : Type 0} (shows : Shows S) (arguments : Option Data) (program : S)
     (stood stands : Standing S) (reply : PlainReply) → Some program ≡ program_in stood.phase
-    → SetsOnly first_place arguments program stood reply stands → Sets first_place arguments stood reply stands
-sets_from first_place arguments program stood stands reply at is =
-    subst (λ found. SetsFrom first_place found arguments stood reply stands) at is
+    → SetsOnly shows arguments program stood reply stands → Sets shows arguments stood reply stands
+sets_from shows arguments program stood stands reply at is =
+    subst (λ found. SetsFrom shows found arguments stood reply stands) at is
 
-set_more : {S : Type 0} (first_place : S → ℕ → Option Location → Type 0) (a : S) (asked : List Data)
+set_more : {S : Type 0} (shows : Shows S) (a : S) (asked : List Data)
     (answers : List ShownBreakpoint) (set : List PlainBreakpoint) (more : Option PlainBreakpoint) (one : Data)
     (answer : ShownBreakpoint)
-    → AreSet first_place a (items_of asked) answers set → IsSet first_place a one answer more
-    → AreSet first_place a (items_of (asked ++ one ∷ [])) (answers ++ answer ∷ [])
+    → AreSet shows a (items_of asked) answers set → IsSet shows a one answer more
+    → AreSet shows a (items_of (asked ++ one ∷ [])) (answers ++ answer ∷ [])
     (set ++ option_to_list more)
-set_more first_place a [] [] set more one answer are is =
+set_more shows a [] [] set more one answer are is =
     (more, [], ap (λ l. l ++ option_to_list more) are ∙ sym (append-nil (option_to_list more)), is, refl)
-set_more first_place a [] (x ∷ answers) set more one answer are is = absurd are
-set_more first_place a (x ∷ asked) [] set more one answer are is = absurd are
-set_more first_place a (x ∷ asked) (y ∷ answers) set more one answer are is = (
+set_more shows a [] (x ∷ answers) set more one answer are is = absurd are
+set_more shows a (x ∷ asked) [] set more one answer are is = absurd are
+set_more shows a (x ∷ asked) (y ∷ answers) set more one answer are is = (
   are.0,
   are.1 ++ option_to_list more,
   ap (λ l. l ++ option_to_list more) are.2 ∙ append_assoc (option_to_list are.0) are.1 (option_to_list more),
   are.3,
-  set_more first_place a asked answers are.1 more one answer are.4 is,
+  set_more shows a asked answers are.1 more one answer are.4 is,
 )
 
 unset_more : (asked : List Data) (answers : List ShownBreakpoint) (one : Data) (answer : ShownBreakpoint)
@@ -151,21 +150,21 @@ grown_to : (answers new : List AnswerValue) (answer : AnswerValue) → new ≡ a
 grown_to answers new answer grown =
     ap (map plain_shown_breakpoint) grown ∙ map-append plain_shown_breakpoint answers (answer ∷ [])
 
-pub one_set : {S : Type 0} (first_place : S → ℕ → Option Location → Type 0) (a : S) (asked : List Value) (i : ℕ)
+pub one_set : {S : Type 0} (shows : Shows S) (a : S) (asked : List Value) (i : ℕ)
     (one : Value) (answers new : List AnswerValue) (answer : AnswerValue) (set all : List PlainBreakpoint)
     (more : Option PlainBreakpoint) → i < length asked
     → one ≡ get_or asked i one → new ≡ answers ++ answer ∷ [] → all ≡ set ++ option_to_list more
-    → AreSet first_place a (items_of (map view (take i asked))) (map plain_shown_breakpoint answers) set
-    → IsSet first_place a (view one) (plain_shown_breakpoint answer) more
-    → AreSet first_place a (items_of (map view (take (i + 1) asked))) (map plain_shown_breakpoint new) all
-one_set first_place a asked i one answers new answer set all more within here grown kept are is =
-    subst (λ l. AreSet first_place a (items_of l) (map plain_shown_breakpoint new) all)
+    → AreSet shows a (items_of (map view (take i asked))) (map plain_shown_breakpoint answers) set
+    → IsSet shows a (view one) (plain_shown_breakpoint answer) more
+    → AreSet shows a (items_of (map view (take (i + 1) asked))) (map plain_shown_breakpoint new) all
+one_set shows a asked i one answers new answer set all more within here grown kept are is =
+    subst (λ l. AreSet shows a (items_of l) (map plain_shown_breakpoint new) all)
     (sym (taken asked i one within here))
-    (subst (λ l. AreSet first_place a (items_of (map view (take i asked) ++ view one ∷ [])) l all)
+    (subst (λ l. AreSet shows a (items_of (map view (take i asked) ++ view one ∷ [])) l all)
     (sym (grown_to answers new answer grown))
-    (subst (AreSet first_place a (items_of (map view (take i asked) ++ view one ∷ []))
+    (subst (AreSet shows a (items_of (map view (take i asked) ++ view one ∷ []))
     (map plain_shown_breakpoint answers ++ plain_shown_breakpoint answer ∷ [])) (sym kept)
-    (set_more first_place a (map view (take i asked)) (map plain_shown_breakpoint answers) set more (view one)
+    (set_more shows a (map view (take i asked)) (map plain_shown_breakpoint answers) set more (view one)
     (plain_shown_breakpoint answer) are is)))
 
 pub one_unset : (asked : List Value) (i : ℕ) (one : Value) (answers new : List AnswerValue) (answer : AnswerValue)

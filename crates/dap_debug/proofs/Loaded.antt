@@ -7,7 +7,7 @@ use Rattle.debuggee.specs.declared.mode.Mode.{Mode}
 use Rattle.dap_debug.specs.declared.launching.Unread.{Unread}
 use Rattle.dap_debug.specs.declared.state.Phase.{Phase}
 use Rattle.dap_debug.specs.declared.state.Phase.TheVariants as phase
-use Rattle.dap_debug.specs.Arguments.{text_at}
+use Rattle.dap_bodies.specs.Arguments.{text_at}
 use Rattle.dap_debug.specs.Loading.{LoadsGiven, LoadsAt, LoadsFrom}
 use Rattle.dap_debug.specs.Standings.{Standing}
 

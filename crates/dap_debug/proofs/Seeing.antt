@@ -133,18 +133,19 @@ ended_within : {S T : Type 0} (see : S → T) (result : Result Ending ServeFault
 ended_within see (Ok ending.Disconnected) replies b rest adapter written later is =
     (done see b adapter written later is.0, is.1)
 ended_within see (Ok ending.InputEnded) replies b rest adapter written later is = absurd is
+ended_within see (Ok ending.InputCut) replies b rest adapter written later is = absurd is
 ended_within see (Err f) replies b rest adapter written later is =
     (is.0, broke see f replies b rest adapter written later is.1)
 
 ended_by : {S T : Type 0} (see : S → T) (item : PlainItem) (result : Result Ending ServeFault) (b : State S)
-    (adapter : S) (written later : StreamLog) → ServingEndsBy item result b adapter written later
-    → ServingEndsBy item result (seen see b) (see adapter) written later
-ended_by see (Bytes bytes) result b adapter written later is =
+    (rest : List ℕ) (adapter : S) (written later : StreamLog) → ServingEndsBy item result b rest adapter written later
+    → ServingEndsBy item result (seen see b) rest (see adapter) written later
+ended_by see (Bytes bytes) result b rest adapter written later is =
     (is.0, is.1, done see b adapter written later is.2)
-ended_by see (Event event) result b adapter written later is = (is.0, is.1, ap see is.2, is.3)
-ended_by see End result b adapter written later is = (is.0, done see b adapter written later is.1)
-ended_by see Failed result b adapter written later is = (is.0, done see b adapter written later is.1)
-ended_by see NoMemory result b adapter written later is = (is.0, done see b adapter written later is.1)
+ended_by see (Event event) result b rest adapter written later is = (is.0, is.1, ap see is.2, is.3)
+ended_by see End result b rest adapter written later is = (is.0, done see b adapter written later is.1)
+ended_by see Failed result b rest adapter written later is = (is.0, done see b adapter written later is.1)
+ended_by see NoMemory result b rest adapter written later is = (is.0, done see b adapter written later is.1)
 
 ended_at : {S T I : Type 0} (see : S → T) (last : Option PlainItem) (gives : Gives I) (inbox left : I)
     (result : Result Ending ServeFault) (replies : Replies T) (b : State S) (rest : List ℕ) (adapter : S)
@@ -154,7 +155,7 @@ ended_at : {S T I : Type 0} (see : S → T) (last : Option PlainItem) (gives : G
 ended_at see None gives inbox left result replies b rest adapter written later is =
     (is.0, ended_within see result replies b rest adapter written later is.1)
 ended_at see (Some item) gives inbox left result replies b rest adapter written later is =
-    (is.0, is.1, is.2, ended_by see item result b adapter written later is.3)
+    (is.0, is.1, is.2, ended_by see item result b rest adapter written later is.3)
 
 ended_in_work : {S T : Type 0} (see : S → T) (f : ServeFault) (works : Works T) (b : State S) (adapter : S)
     (written later : StreamLog) → EndsInWork f (seen_works see works) b adapter written later

@@ -1,5 +1,5 @@
 -- Defines which breakpoints are set, and what is answered.
-use Rattle.std.specs.Prelude.{◌≡◌, ◌≢◌, ◌⊎◌, ◌<◌, ◌^◌, ℕ, All, List, [], ◌∷◌, ◌++◌, codes, decimal, Option, None, Some, unwrap_or}
+use Rattle.std.specs.Prelude.{◌≡◌, ◌≢◌, ◌⊎◌, ◌<◌, ◌≤◌, ◌^◌, ℕ, length, All, List, [], ◌∷◌, ◌++◌, codes, decimal, Option, None, Some, unwrap_or}
 use Rattle.std.specs.Option.{option_to_list}
 use Rattle.serde_json.specs.Data.{Data, Items, no_items, item}
 use Rattle.dap_bodies.specs.Bodies.{ShownBreakpoint, SetAt, Refused, breakpoints}
@@ -7,8 +7,9 @@ use Rattle.dap_server.specs.Messages.{PlainReply}
 use Rattle.debuggee.specs.Plain.{PlainPart, Text, Expression, PlainBreakpoint}
 use Rattle.debuggee.specs.declared.breakpoint.Rule.{Rule}
 use Rattle.debuggee.specs.declared.breakpoint.Rule.TheVariants.{From, Exactly, Every}
-use Rattle.dap_debug.specs.declared.language.Location.{Location}
-use Rattle.dap_debug.specs.Arguments.{list_at, member_at, text_at, whole_at}
+use Rattle.debuggee.specs.Shown.{Shows}
+use Rattle.debuggee.specs.declared.language.Location.{Location}
+use Rattle.dap_bodies.specs.Arguments.{list_at, member_at, text_at, whole_at}
 use Rattle.dap_debug.specs.Running.{success, IsRefused}
 use Rattle.dap_debug.specs.Standings.{Standing, program_in}
 
@@ -72,50 +73,75 @@ abbrev pub IsMessage : List ℕ → Option (List PlainPart) → Type 0
 IsMessage text None = text ≡ []
 IsMessage text (Some parts) = (text ≢ []) × AreParts text parts
 
+-- the most bytes of a message
+abbrev pub message_limit : ℕ
+message_limit = 65536
+
 -- ---- one breakpoint
 
 -- the line that a breakpoint is asked for
 abbrev pub line_of : Data → Option ℕ
 line_of asked = whole_at (codes "line") (Some asked)
 
+-- the condition that is asked for, if there is one
+abbrev pub condition_of : Data → Option (List ℕ)
+condition_of asked = unless_empty (text_of (codes "condition") asked)
+
 -- the breakpoint is set at this place with the condition, the rule and the message that are asked for, and no arrival
 pub record IsBreakpoint (asked : Data) (place : ℕ) (set : PlainBreakpoint) : Type 0 where
   pub place_is : set.place ≡ place
-  pub condition : set.condition ≡ unless_empty (text_of (codes "condition") asked)
+  pub condition : set.condition ≡ condition_of asked
   pub rule : IsRule (text_of (codes "hitCondition") asked) set.rule
   pub message : IsMessage (text_of (codes "logMessage") asked) set.message
+  pub short : length (text_of (codes "logMessage") asked) ≤ message_limit
   pub none_yet : set.arrivals ≡ 0
 
+-- the hit condition that is asked for is no rule
+abbrev pub IsNoRule : Data → Type 0
+IsNoRule asked = (rule : Option Rule) → ¬ IsRule (text_of (codes "hitCondition") asked) rule
+
+-- the message that is asked for has too many bytes
+abbrev pub IsTooLong : Data → Type 0
+IsTooLong asked = message_limit < length (text_of (codes "logMessage") asked)
+
+-- the condition that is asked for has this mistake, as the language says
+abbrev pub HasMistake : {S : Type 0} → Shows S → S → ℕ → Option (List ℕ) → List ℕ → Type 0
+HasMistake shows program place None why = ⊥
+HasMistake shows program place (Some condition) why = shows.mistake_of program place condition why
+
 -- What is answered where the first place for the line is this one: a breakpoint is set there, and it is told at which
--- line; or none is, and why. Where there is a place, none is only where the hit condition is no rule.
-abbrev pub IsAnswered : Data → Option Location → ShownBreakpoint → Option PlainBreakpoint → Type 0
-IsAnswered asked None answer None = (why : List ℕ) × (answer ≡ Refused why)
-IsAnswered asked None answer (Some set) = ⊥
-IsAnswered asked (Some location) answer None =
-    ((why : List ℕ) × (answer ≡ Refused why))
-    × ((rule : Option Rule) → ¬ IsRule (text_of (codes "hitCondition") asked) rule)
-IsAnswered asked (Some location) answer (Some set) =
+-- line; or none is, and why. Where there is a place, none is only where the hit condition is no rule, the message is
+-- too long, or the condition has a mistake, which is told.
+abbrev pub IsAnswered : {S : Type 0} → Shows S → S → Data → Option Location → ShownBreakpoint → Option PlainBreakpoint
+    → Type 0
+IsAnswered shows program asked None answer None = (why : List ℕ) × (answer ≡ Refused why)
+IsAnswered shows program asked None answer (Some set) = ⊥
+IsAnswered shows program asked (Some location) answer None =
+    (why : List ℕ) × (answer ≡ Refused why)
+    × (IsNoRule asked ⊎ (IsTooLong asked ⊎ HasMistake shows program location.place (condition_of asked) why))
+IsAnswered shows program asked (Some location) answer (Some set) =
     (answer ≡ SetAt location.line) × IsBreakpoint asked location.place set
 
 -- the first place for a line, as the language says; without a line there is none
-abbrev pub IsFirst : {S : Type 0} → (S → ℕ → Option Location → Type 0) → S → Option ℕ → Option Location → Type 0
-IsFirst first_place program None first = first ≡ None
-IsFirst first_place program (Some line) first = first_place program line first
+abbrev pub IsFirst : {S : Type 0} → Shows S → S → Option ℕ → Option Location → Type 0
+IsFirst shows program None first = first ≡ None
+IsFirst shows program (Some line) first = shows.first_place program line first
 
 -- what is answered to a breakpoint, and what is set for it
-abbrev pub IsSet : {S : Type 0} → (S → ℕ → Option Location → Type 0) → S → Data → ShownBreakpoint
+abbrev pub IsSet : {S : Type 0} → Shows S → S → Data → ShownBreakpoint
     → Option PlainBreakpoint → Type 0
-IsSet first_place program asked answer set =
-    (first : Option Location) × IsFirst first_place program (line_of asked) first × IsAnswered asked first answer set
+IsSet shows program asked answer set =
+    (first : Option Location) × IsFirst shows program (line_of asked) first
+    × IsAnswered shows program asked first answer set
 
 -- each is answered, in order, and what is set is just those that are
-abbrev pub AreSet : {S : Type 0} → (S → ℕ → Option Location → Type 0) → S → Items → List ShownBreakpoint
+abbrev pub AreSet : {S : Type 0} → Shows S → S → Items → List ShownBreakpoint
     → List PlainBreakpoint → Type 0
-AreSet first_place program no_items [] set = set ≡ []
-AreSet first_place program (item asked more) (answer ∷ others) set =
+AreSet shows program no_items [] set = set ≡ []
+AreSet shows program (item asked more) (answer ∷ others) set =
     (one : Option PlainBreakpoint) × (rest : List PlainBreakpoint) × (set ≡ option_to_list one ++ rest)
-    × IsSet first_place program asked answer one × AreSet first_place program more others rest
-AreSet first_place program _ _ set = ⊥
+    × IsSet shows program asked answer one × AreSet shows program more others rest
+AreSet shows program _ _ set = ⊥
 
 -- ---- replies
 
@@ -135,30 +161,30 @@ answers_reply answers = success (Some (breakpoints answers)) []
 
 -- In the program's own source each is set or not, as it is answered, and no other is left. In another source none is
 -- set, and those of the program are left.
-pub data SetsIn {S : Type 0} (first_place : S → ℕ → Option Location → Type 0) (arguments : Option Data) (program : S)
+pub data SetsIn {S : Type 0} (shows : Shows S) (arguments : Option Data) (program : S)
     (path : List ℕ) (old : List PlainBreakpoint) (reply : PlainReply) (new : List PlainBreakpoint) : Type 0 where
   Own : source_asked arguments ≡ Some path → (answers : List ShownBreakpoint)
-      → AreSet first_place program (list_at (codes "breakpoints") arguments) answers new
-      → reply ≡ answers_reply answers → SetsIn first_place arguments program path old reply new
+      → AreSet shows program (list_at (codes "breakpoints") arguments) answers new
+      → reply ≡ answers_reply answers → SetsIn shows arguments program path old reply new
   Other : source_asked arguments ≢ Some path → (answers : List ShownBreakpoint)
       → AreUnset (list_at (codes "breakpoints") arguments) answers → reply ≡ answers_reply answers → new ≡ old
-      → SetsIn first_place arguments program path old reply new
+      → SetsIn shows arguments program path old reply new
 
 -- nothing but the breakpoints changes
-abbrev pub SetsOnly : {S : Type 0} → (S → ℕ → Option Location → Type 0) → Option Data → S → Standing S → PlainReply
+abbrev pub SetsOnly : {S : Type 0} → Shows S → Option Data → S → Standing S → PlainReply
     → Standing S → Type 0
-SetsOnly first_place arguments program stood reply stands =
-    SetsIn first_place arguments program stood.path stood.breakpoints reply stands.breakpoints
+SetsOnly shows arguments program stood reply stands =
+    SetsIn shows arguments program stood.path stood.breakpoints reply stands.breakpoints
     × (stands ≡ record stood { breakpoints = stands.breakpoints })
 
 -- breakpoints are set in a program that there is, also while it runs
-abbrev pub SetsFrom : {S : Type 0} → (S → ℕ → Option Location → Type 0) → Option S → Option Data → Standing S
+abbrev pub SetsFrom : {S : Type 0} → Shows S → Option S → Option Data → Standing S
     → PlainReply → Standing S → Type 0
-SetsFrom first_place None arguments stood reply stands = IsRefused stood reply stands
-SetsFrom first_place (Some program) arguments stood reply stands =
-    SetsOnly first_place arguments program stood reply stands
+SetsFrom shows None arguments stood reply stands = IsRefused stood reply stands
+SetsFrom shows (Some program) arguments stood reply stands =
+    SetsOnly shows arguments program stood reply stands
 
-abbrev pub Sets : {S : Type 0} → (S → ℕ → Option Location → Type 0) → Option Data → Standing S → PlainReply
+abbrev pub Sets : {S : Type 0} → Shows S → Option Data → Standing S → PlainReply
     → Standing S → Type 0
-Sets first_place arguments stood reply stands =
-    SetsFrom first_place (program_in stood.phase) arguments stood reply stands
+Sets shows arguments stood reply stands =
+    SetsFrom shows (program_in stood.phase) arguments stood reply stands

@@ -1,17 +1,18 @@
 -- Defines what questions show of a program where it stands.
-use Rattle.std.specs.Prelude.{◌≡◌, ◌+◌, ◌-◌, ◌*◌, ◌/◌, ◌%◌, ◌^◌, ◌&&◌, ℕ, min, nat_eq, nat_le, List, [], ◌∷◌, map, length, take, slice_get, codes, if◌then◌else◌, Option, None, Some, option_and_then, unwrap_or}
+use Rattle.std.specs.Prelude.{◌≡◌, ◌⊎◌, ◌+◌, ◌-◌, ◌*◌, ◌/◌, ◌%◌, ◌^◌, ◌&&◌, ℕ, min, nat_eq, nat_le, nat_lt, List, [], ◌∷◌, map, length, take, slice_get, codes, if◌then◌else◌, Option, None, Some, option_and_then, unwrap_or}
 use Rattle.serde_json.specs.Data.{Data}
 use Rattle.dap_bodies.specs.Bodies.{ShownFrame, stack_trace, ShownScope, scopes, ShownVariable, variables, evaluated, exception_info}
 use Rattle.dap_server.specs.Messages.{PlainReply}
-use Rattle.debuggee.specs.Plain.{PlainEvaluated, Value, NoValue}
+use Rattle.debuggee.specs.Plain.{PlainEvaluated, PlainFault, Value, NoValue}
 use Rattle.debuggee.specs.Due.{Sight}
 use Rattle.dap_debug.specs.declared.command.Question.{Question}
 use Rattle.dap_debug.specs.declared.command.Question.TheVariants as question
 use Rattle.dap_debug.specs.declared.state.Phase.{Phase}
 use Rattle.dap_debug.specs.declared.state.Phase.TheVariants as phase
-use Rattle.dap_debug.specs.Arguments.{text_at, whole_at}
+use Rattle.dap_bodies.specs.Arguments.{text_at, whole_at}
 use Rattle.dap_debug.specs.Running.{success, refusal, Refuses}
-use Rattle.dap_debug.specs.Shown.{PlainFrame, PlainVariable, PlainScope}
+use Rattle.debuggee.specs.Shown.{IsPage, PlainFrame, PlainVariable, Shows}
+use Rattle.debuggee.specs.declared.language.Page.{Page}
 use Rattle.dap_debug.specs.Standings.{Standing}
 
 -- ---- frames
@@ -75,42 +76,90 @@ abbrev pub frame_asked : ℕ → Option Data → Option ℕ
 frame_asked many arguments = option_and_then (frame_with many) (whole_at (codes "frameId") arguments)
 
 -- what is shown of scopes, of which the first has this index
-abbrev pub shown_scope : ℕ → ℕ → PlainScope → ShownScope
-shown_scope frame index scope = record { name = scope.name; reference = frame * scope_limit + index + 1 }
+abbrev pub shown_scope : ℕ → ℕ → List ℕ → ShownScope
+shown_scope frame index name = record { name = name; reference = frame * scope_limit + index + 1 }
 
-abbrev pub shown_scopes : ℕ → ℕ → List PlainScope → List ShownScope
+abbrev pub shown_scopes : ℕ → ℕ → List (List ℕ) → List ShownScope
 shown_scopes frame index [] = []
-shown_scopes frame index (scope ∷ others) = shown_scope frame index scope ∷ shown_scopes frame (index + 1) others
+shown_scopes frame index (name ∷ others) = shown_scope frame index name ∷ shown_scopes frame (index + 1) others
 
--- the reply that shows the scopes of a frame
-abbrev pub scopes_reply : ℕ → List PlainScope → PlainReply
-scopes_reply frame all = success (Some (scopes (shown_scopes frame 0 (take scope_limit all)))) []
+-- the reply that shows the scopes of a frame, by their names
+abbrev pub scopes_reply : ℕ → List (List ℕ) → PlainReply
+scopes_reply frame names = success (Some (scopes (shown_scopes frame 0 (take scope_limit names)))) []
 
 -- the scopes of a frame are shown; where it isn't alive, or too far down, that is refused
-abbrev pub ShowsScopes : {S : Type 0} → (S → ℕ → List PlainScope → Type 0) → Option ℕ → S → PlainReply → Type 0
-ShowsScopes scopes_of None program reply = Refuses reply
-ShowsScopes scopes_of (Some frame) program reply =
-    (all : List PlainScope) × scopes_of program frame all × (reply ≡ scopes_reply frame all)
+abbrev pub ShowsScopes : {S : Type 0} → Shows S → Option ℕ → S → PlainReply → Type 0
+ShowsScopes shows None program reply = Refuses reply
+ShowsScopes shows (Some frame) program reply =
+    (names : List (List ℕ)) × shows.scopes_of program frame names × (reply ≡ scopes_reply frame names)
+
+-- the references after this one are of variables inside others, by their numbers, of which these are shown
+abbrev pub inside_base : ℕ
+inside_base = 2 ^ 30
+
+abbrev pub number_limit : ℕ
+number_limit = 2 ^ 30 - 1
+
+-- the reference of what is inside a variable with this number; 0 where there is none
+abbrev pub reference_inside : Option ℕ → ℕ
+reference_inside None = 0
+reference_inside (Some number) = if nat_lt number number_limit then inside_base + 1 + number else 0
 
 -- what is shown of a variable
 abbrev pub shown_variable : PlainVariable → ShownVariable
-shown_variable variable = record { name = variable.name; value = variable.value; reference = 0 }
+shown_variable variable =
+    record { name = variable.name; value = variable.value; reference = reference_inside variable.inside }
 
--- the variables of a scope are shown; where there is no such scope, that is refused
-abbrev pub ShowsScope : Option PlainScope → PlainReply → Type 0
-ShowsScope None reply = Refuses reply
-ShowsScope (Some scope) reply = reply ≡ success (Some (variables (map shown_variable scope.variables))) []
+abbrev pub variables_reply : List PlainVariable → PlainReply
+variables_reply shown = success (Some (variables (map shown_variable shown))) []
+
+-- the most variables that are shown at once
+abbrev pub page_limit : ℕ
+page_limit = 1024
+
+-- which variables are asked for; where no number is given, or 0, as many as are shown at once
+abbrev pub page_count : ℕ → ℕ
+page_count count = if nat_eq count 0 then page_limit else min count page_limit
+
+abbrev pub page_asked : Option Data → Page
+page_asked arguments = record {
+  start = unwrap_or (whole_at (codes "start") arguments) 0;
+  count = page_count (unwrap_or (whole_at (codes "count") arguments) 0);
+}
 
 -- the reference that is asked for; 0 where there is none
 abbrev pub reference_asked : Option Data → ℕ
 reference_asked arguments = unwrap_or (whole_at (codes "variablesReference") arguments) 0
 
--- The variables of the scope with the reference that is asked for are shown.
-abbrev pub ShowsVariables : {S : Type 0} → (S → ℕ → List PlainScope → Type 0) → Option ℕ → ℕ → S → PlainReply
-    → Type 0
-ShowsVariables scopes_of None index program reply = Refuses reply
-ShowsVariables scopes_of (Some frame) index program reply =
-    (all : List PlainScope) × scopes_of program frame all × ShowsScope (slice_get all index) reply
+-- those that a page asks for of all are shown
+abbrev pub ShowsPage : (List PlainVariable → Type 0) → Page → PlainReply → Type 0
+ShowsPage are_all page reply =
+    (shown : List PlainVariable) × IsPage are_all page shown × (reply ≡ variables_reply shown)
+
+-- the same of those inside a variable; where there are none, that is refused
+abbrev pub ShowsInside : (List PlainVariable → Type 0) → Page → PlainReply → Type 0
+ShowsInside are_all page reply = ShowsPage are_all page reply ⊎ Refuses reply
+
+-- the same of the scope with this index; where there is no such scope, that is refused
+abbrev pub ShowsScope : {S : Type 0} → Shows S → ℕ → ℕ → Option (List ℕ) → Page → S → PlainReply → Type 0
+ShowsScope shows frame index None page program reply = Refuses reply
+ShowsScope shows frame index (Some name) page program reply =
+    ShowsPage (shows.variables_of program frame index) page reply
+
+-- The variables are shown that have the reference that is asked for: those inside the variable with a number, or those
+-- of a frame's scope with an index. Where there is neither, that is refused.
+abbrev pub ShowsVariables : {S : Type 0} → Shows S → Option ℕ → Option ℕ → ℕ → Page → S → PlainReply → Type 0
+ShowsVariables shows (Some number) frame index page program reply =
+    ShowsInside (shows.inside_of program number) page reply
+ShowsVariables shows None None index page program reply = Refuses reply
+ShowsVariables shows None (Some frame) index page program reply =
+    (names : List (List ℕ)) × shows.scopes_of program frame names
+    × ShowsScope shows frame index (slice_get names index) page program reply
+
+-- the number of the variable whose inside has a reference
+abbrev pub number_of_reference : ℕ → Option ℕ
+number_of_reference reference =
+    if nat_lt inside_base reference then Some (reference - inside_base - 1) else None
 
 -- the frame and the index of the scope with a reference
 abbrev pub frame_of_reference : ℕ → ℕ → Option ℕ
@@ -140,9 +189,9 @@ Evaluates sees _ _ program reply = Refuses reply
 -- ---- faults
 
 -- why the next step can't be taken is told where the program has stopped at a fault, and elsewhere that is refused
-abbrev pub ExplainsFrom : {S : Type 0} → Phase S → Option (List ℕ) → PlainReply → Type 0
-ExplainsFrom (phase.Stopped program) (Some why) reply =
-    reply ≡ success (Some (exception_info why (codes "the next step can't be taken"))) []
+abbrev pub ExplainsFrom : {S : Type 0} → Phase S → Option PlainFault → PlainReply → Type 0
+ExplainsFrom (phase.Stopped program) (Some fault) reply =
+    reply ≡ success (Some (exception_info fault.name fault.text)) []
 ExplainsFrom _ _ reply = Refuses reply
 
 abbrev pub Explains : {S : Type 0} → Standing S → PlainReply → Type 0
@@ -151,27 +200,27 @@ Explains stood reply = ExplainsFrom stood.phase stood.fault reply
 -- ---- all questions
 
 -- what is shown of a program that is stopped
-abbrev pub Shows : {S : Type 0} → Sight S → (S → ℕ → PlainFrame → Type 0) → (S → ℕ → List PlainScope → Type 0)
-    → Question → Option Data → List ℕ → S → PlainReply → Type 0
-Shows sees frame_of scopes_of question.StackTrace arguments path program reply =
-    ShowsStack sees frame_of path arguments program reply
-Shows sees frame_of scopes_of question.Scopes arguments path program reply =
-    ShowsScopes scopes_of (frame_asked (min (sees.depth_of program) frame_limit) arguments) program reply
-Shows sees frame_of scopes_of question.Variables arguments path program reply =
-    ShowsVariables scopes_of (frame_of_reference (sees.depth_of program) (reference_asked arguments))
-    (index_of_reference (reference_asked arguments)) program reply
-Shows sees frame_of scopes_of question.Evaluate arguments path program reply =
+abbrev pub AnswersQuestion : {S : Type 0} → Sight S → Shows S → Question → Option Data → List ℕ → S → PlainReply
+    → Type 0
+AnswersQuestion sees shows question.StackTrace arguments path program reply =
+    ShowsStack sees shows.frame_of path arguments program reply
+AnswersQuestion sees shows question.Scopes arguments path program reply =
+    ShowsScopes shows (frame_asked (min (sees.depth_of program) frame_limit) arguments) program reply
+AnswersQuestion sees shows question.Variables arguments path program reply =
+    ShowsVariables shows (number_of_reference (reference_asked arguments))
+    (frame_of_reference (sees.depth_of program) (reference_asked arguments))
+    (index_of_reference (reference_asked arguments)) (page_asked arguments) program reply
+AnswersQuestion sees shows question.Evaluate arguments path program reply =
     Evaluates sees (text_at (codes "expression") arguments) (frame_to_evaluate (sees.depth_of program) arguments)
     program reply
 
 -- a question is answered where the program is stopped, and refused elsewhere
-abbrev pub ShowsFrom : {S : Type 0} → Sight S → (S → ℕ → PlainFrame → Type 0) → (S → ℕ → List PlainScope → Type 0)
-    → Phase S → Question → Option Data → List ℕ → PlainReply → Type 0
-ShowsFrom sees frame_of scopes_of (phase.Stopped program) asked arguments path reply =
-    Shows sees frame_of scopes_of asked arguments path program reply
-ShowsFrom sees frame_of scopes_of _ asked arguments path reply = Refuses reply
+abbrev pub ShowsFrom : {S : Type 0} → Sight S → Shows S → Phase S → Question → Option Data → List ℕ → PlainReply
+    → Type 0
+ShowsFrom sees shows (phase.Stopped program) asked arguments path reply =
+    AnswersQuestion sees shows asked arguments path program reply
+ShowsFrom sees shows _ asked arguments path reply = Refuses reply
 
-abbrev pub Inspects : {S : Type 0} → Sight S → (S → ℕ → PlainFrame → Type 0) → (S → ℕ → List PlainScope → Type 0)
-    → Question → Option Data → Standing S → PlainReply → Type 0
-Inspects sees frame_of scopes_of asked arguments stood reply =
-    ShowsFrom sees frame_of scopes_of stood.phase asked arguments stood.path reply
+abbrev pub Inspects : {S : Type 0} → Sight S → Shows S → Question → Option Data → Standing S → PlainReply → Type 0
+Inspects sees shows asked arguments stood reply =
+    ShowsFrom sees shows stood.phase asked arguments stood.path reply

@@ -1,6 +1,6 @@
 -- States what holds of each session: each run ends once; each byte that is printed or said is told, in order; and the
 -- identifiers and references that are shown lead back to what they were shown of.
-use Rattle.std.specs.Prelude.{◌≡◌, ◌<◌, ◌+◌, ◌||◌, ℕ, Bool, true, false, List, [], ◌∷◌, map, codes, Option, Some, if◌then◌else◌}
+use Rattle.std.specs.Prelude.{◌≡◌, ◌<◌, ◌+◌, ◌||◌, ℕ, Bool, true, false, List, [], ◌∷◌, map, codes, Option, None, Some, if◌then◌else◌}
 use Rattle.std.specs.List.{flat_map}
 use Rattle.std.specs.Str.{bytes_eq}
 use Rattle.serde_json.specs.Data.{Data}
@@ -12,10 +12,11 @@ use Rattle.dap_debug.specs.declared.command.Command.{Command}
 use Rattle.dap_debug.specs.declared.command.Command.TheVariants as command
 use Rattle.dap_debug.specs.declared.state.Phase.{Phase}
 use Rattle.dap_debug.specs.declared.state.Phase.TheVariants as phase
-use Rattle.dap_debug.specs.Inspecting.{frame_of_reference, frame_with, index_of_reference, scope_limit, shown_frame, shown_scope}
+use Rattle.dap_debug.specs.Commands.{checked}
+use Rattle.dap_debug.specs.Inspecting.{frame_limit, frame_of_reference, frame_with, index_of_reference, number_limit, number_of_reference, reference_inside, scope_limit, shown_frame, shown_scope}
 use Rattle.dap_debug.specs.Replies.{Known, RepliesTo}
 use Rattle.dap_debug.specs.Running.{WorksOn}
-use Rattle.dap_debug.specs.Shown.{PlainFrame, PlainScope}
+use Rattle.debuggee.specs.Shown.{PlainFrame}
 use Rattle.dap_debug.specs.Standings.{Standing}
 use Rattle.dap_debug.specs.Telling.{merged}
 
@@ -33,7 +34,8 @@ abbrev pub owed : {S : Type 0} → Phase S → ℕ
 owed (phase.Running program how) = 1
 owed _ = 0
 
--- how many ends a request asks for: one where a program is started, goes on, or is ended that doesn't run
+-- how many ends a command asks for that isn't refused for its arguments: one where a program is started, goes on, or is
+-- ended that doesn't run
 abbrev pub asks : {S : Type 0} → Command → Phase S → ℕ
 asks command.ConfigurationDone (phase.Configuring program stop_on_entry) = 1
 asks (command.Resume how) (phase.Stopped program) = 1
@@ -52,7 +54,7 @@ abbrev pub RepliesAreBalanced : {S : Type 0} → Known S → Type 0
 RepliesAreBalanced {S} known =
     (asked : Command) (arguments : Option Data) (stood stands : Standing S) (reply : PlainReply)
     → RepliesTo known asked arguments stood reply stands
-    → owed stands.phase + ends_told reply.events ≡ owed stood.phase + asks asked stood.phase
+    → owed stands.phase + ends_told reply.events ≡ owed stood.phase + asks (checked asked arguments) stood.phase
 
 -- ---- texts
 
@@ -85,9 +87,15 @@ FramesAreFound =
     (path : List ℕ) (many index : ℕ) (frame : PlainFrame) → index < many
     → frame_with many (shown_frame path index frame).id ≡ Some index
 
--- the reference that is shown of a scope is that of its frame and its index
+-- the reference that is shown of a scope is that of its frame and its index, and of nothing else
 abbrev pub ScopesAreFound : Type 0
 ScopesAreFound =
-    (many frame index : ℕ) (scope : PlainScope) → frame < many → index < scope_limit
-    → (frame_of_reference many (shown_scope frame index scope).reference ≡ Some frame)
-    × (index_of_reference (shown_scope frame index scope).reference ≡ index)
+    (many frame index : ℕ) (name : List ℕ) → frame < many → frame < frame_limit → index < scope_limit
+    → (number_of_reference (shown_scope frame index name).reference ≡ None)
+    × (frame_of_reference many (shown_scope frame index name).reference ≡ Some frame)
+    × (index_of_reference (shown_scope frame index name).reference ≡ index)
+
+-- the reference that is shown of what is inside a variable is that of its number
+abbrev pub VariablesAreFound : Type 0
+VariablesAreFound =
+    (number : ℕ) → number < number_limit → number_of_reference (reference_inside (Some number)) ≡ Some number

@@ -1,9 +1,5 @@
 -- the names of the commands
 pub mod Commands
--- members of arguments
-pub mod Arguments
--- frames, scopes and variables as data without addresses
-pub mod Shown
 -- how a session stands
 pub mod Standings
 -- the events that tell of a run

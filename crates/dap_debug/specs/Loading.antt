@@ -8,7 +8,7 @@ use Rattle.dap_debug.specs.declared.launching.Unread.{Unread}
 use Rattle.dap_debug.specs.declared.launching.Unread.TheVariants.{Missing, Folder, Forbidden, Failed}
 use Rattle.dap_debug.specs.declared.state.Phase.{Phase}
 use Rattle.dap_debug.specs.declared.state.Phase.TheVariants as phase
-use Rattle.dap_debug.specs.Arguments.{text_at, truth_at}
+use Rattle.dap_bodies.specs.Arguments.{text_at, truth_at}
 use Rattle.dap_debug.specs.Running.{success, refusal, IsQuiet}
 use Rattle.dap_debug.specs.Standings.{Standing}
 

@@ -2,8 +2,8 @@
 use Rattle.std.specs.Prelude.{◌≡◌, ℕ, Bool, true, false, List, [], ◌∷◌, ◌++◌, codes, Option, None, Some, Ok, Err}
 use Rattle.serde_json.specs.Data.{Data, boolean, object, no_members, member}
 use Rattle.dap_server.specs.Messages.{PlainEvent, PlainReply}
-use Rattle.dap_bodies.specs.Events.{stopped, exited, terminated}
-use Rattle.debuggee.specs.Plain.{PlainBreakpoint, PlainHalt, AtEnd, AtFault, PlainOutput}
+use Rattle.dap_bodies.specs.Events.{stopped, terminated}
+use Rattle.debuggee.specs.Plain.{PlainBreakpoint, PlainFault, PlainHalt, AtEnd, AtFault, PlainOutput}
 use Rattle.debuggee.specs.Due.{Sight}
 use Rattle.debuggee.specs.Runs.{Meaning, Runs, Arrives}
 use Rattle.debuggee.specs.declared.mode.Mode.{Mode}
@@ -12,7 +12,7 @@ use Rattle.dap_debug.specs.declared.command.Resume.{Resume}
 use Rattle.dap_debug.specs.declared.command.Resume.TheVariants as resume
 use Rattle.dap_debug.specs.declared.state.Phase.{Phase}
 use Rattle.dap_debug.specs.declared.state.Phase.TheVariants as phase
-use Rattle.dap_debug.specs.Standings.{Standing}
+use Rattle.dap_debug.specs.Standings.{Standing, program_in}
 use Rattle.dap_debug.specs.Telling.{told_of}
 
 -- In what follows `stood` says how the session stood before, and `stands` how it does after.
@@ -26,18 +26,18 @@ with_phase stood now = record stood { phase = now }
 -- how far a program has come after a run that halted, or that goes on
 abbrev pub phase_after : {S : Type 0} → Option PlainHalt → S → Mode → Phase S
 phase_after None program how = phase.Running program how
-phase_after (Some (AtEnd status)) program how = phase.NoProgram
+phase_after (Some (AtEnd status)) program how = phase.Ended program
 phase_after (Some _) program how = phase.Stopped program
 
 -- why a run can't go on, where it halted at a fault
-abbrev pub fault_of : Option PlainHalt → Option (List ℕ)
-fault_of (Some (AtFault why)) = Some why
+abbrev pub fault_of : Option PlainHalt → Option PlainFault
+fault_of (Some (AtFault fault)) = Some fault
 fault_of _ = None
 
 -- A slice of a run: it goes by the language's own steps to the first state in which the program is due, to its end or
 -- into its fault, or halts at none of these; and the events are all that is told of it.
 abbrev pub Slice : {S : Type 0} → Meaning S → Sight S → S → Mode → List PlainBreakpoint → List PlainEvent → Phase S
-    → Option (List ℕ) → List PlainBreakpoint → Type 0
+    → Option PlainFault → List PlainBreakpoint → Type 0
 Slice {S} takes sees program how old events now fault new =
     (halt : Option PlainHalt) × (there : S) × (told : List PlainOutput)
     × Runs takes sees how program old halt there new [] told
@@ -81,7 +81,7 @@ IsRefused stood reply stands = Refuses reply × (stands ≡ stood)
 
 -- The program arrives where it begins: breakpoints count and speak there, and one may stop it.
 abbrev pub Arrival : {S : Type 0} → Sight S → S → List PlainBreakpoint → List PlainEvent → Phase S
-    → Option (List ℕ) → List PlainBreakpoint → Type 0
+    → Option PlainFault → List PlainBreakpoint → Type 0
 Arrival sees program old events now fault new =
     (halt : Option PlainHalt) × (told : List PlainOutput) × Arrives sees mode.Continue program old halt new [] told
     × (events ≡ told_of told halt) × (now ≡ phase_after halt program mode.Continue) × (fault ≡ fault_of halt)
@@ -153,11 +153,17 @@ PausesFrom _ stood reply stands = IsRefused stood reply stands
 abbrev pub Pauses : {S : Type 0} → Standing S → PlainReply → Standing S → Type 0
 Pauses stood reply stands = PausesFrom stood.phase stood reply stands
 
--- a program that there is ends
+-- A program that there is, and hasn't ended, ends. It returns no status, so none is told.
+abbrev pub TerminatesFrom : {S : Type 0} → Option S → List PlainEvent → Standing S → PlainReply → Standing S → Type 0
+TerminatesFrom None events stood reply stands = IsQuiet (success None []) stood reply stands
+TerminatesFrom (Some program) events stood reply stands =
+    (reply ≡ success None events) × (stands ≡ with_phase stood (phase.Ended program))
+
 abbrev pub ended : {S : Type 0} → Phase S → List PlainEvent
 ended phase.NoProgram = []
-ended _ = exited 0 ∷ (terminated ∷ [])
+ended (phase.Ended program) = []
+ended _ = terminated ∷ []
 
 abbrev pub Terminates : {S : Type 0} → Standing S → PlainReply → Standing S → Type 0
 Terminates stood reply stands =
-    (reply ≡ success None (ended stood.phase)) × (stands ≡ with_phase stood phase.NoProgram)
+    TerminatesFrom (program_in stood.phase) (ended stood.phase) stood reply stands

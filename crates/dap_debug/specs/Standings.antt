@@ -1,6 +1,6 @@
 -- Defines how a session stands.
 use Rattle.std.specs.Prelude.{ℕ, Bool, true, false, List, [], map, Option, None, Some, option_map, string_bytes}
-use Rattle.debuggee.specs.Plain.{PlainBreakpoint, plain_breakpoint}
+use Rattle.debuggee.specs.Plain.{PlainBreakpoint, PlainFault, plain_breakpoint, plain_fault}
 use Rattle.dap_debug.specs.declared.state.Phase.{Phase}
 use Rattle.dap_debug.specs.declared.state.Phase.TheVariants as phase
 use Rattle.dap_debug.specs.declared.state.State.{State}
@@ -10,14 +10,14 @@ use Rattle.dap_debug.specs.declared.state.State.{State}
 pub record Standing (S : Type 0) : Type 0 where
   pub phase : Phase S
   pub path : List ℕ
-  pub fault : Option (List ℕ)
+  pub fault : Option PlainFault
   pub breakpoints : List PlainBreakpoint
 
 abbrev pub standing : {S : Type 0} → State S → Standing S
 standing state = record {
   phase = state.phase;
   path = string_bytes state.path;
-  fault = option_map string_bytes state.fault;
+  fault = option_map plain_fault state.fault;
   breakpoints = map plain_breakpoint state.breakpoints.items;
 }
 
@@ -31,6 +31,7 @@ program_in phase.NoProgram = None
 program_in (phase.Configuring program stop_on_entry) = Some program
 program_in (phase.Running program how) = Some program
 program_in (phase.Stopped program) = Some program
+program_in (phase.Ended program) = Some program
 
 -- the program runs
 abbrev pub is_running : {S : Type 0} → Phase S → Bool

@@ -7,7 +7,7 @@ use Rattle.dap_server.specs.Conversation.{State, Handles, Conversation}
 use Rattle.dap_server.specs.Inbox.{PlainItem, Bytes, Gives, TakesOne}
 use Rattle.dap_server.specs.Working as courses
 use Rattle.dap_server.specs.Working.{Polls, Course}
-use Rattle.dap_debug.specs.Commands.{command_of}
+use Rattle.dap_debug.specs.Commands.{checked, command_of}
 use Rattle.dap_debug.specs.Laws.{asks, ends_told, owed}
 use Rattle.dap_debug.specs.Replies.{Known}
 use Rattle.dap_debug.specs.Serving.{replied_by, worked_by, runs_in}
@@ -17,7 +17,7 @@ use Rattle.dap_debug.specs.Standings.{Standing}
 
 abbrev pub asked_by : {S : Type 0} → State (Standing S) → Option Request → ℕ
 asked_by a None = 0
-asked_by a (Some request) = asks (command_of request.command) a.adapter.phase
+asked_by a (Some request) = asks (checked (command_of request.command) request.arguments) a.adapter.phase
 
 abbrev pub asked_in : {S : Type 0} → (known : Known S) → (a b : State (Standing S)) → (contents texts : List (List ℕ))
     → Conversation (replied_by known) a contents texts b → ℕ

@@ -14,7 +14,7 @@ abbrev pub told_end : Option PlainHalt → List PlainEvent
 told_end None = []
 told_end (Some AtBreakpoint) = stopped (codes "breakpoint") None ∷ []
 told_end (Some AtStep) = stopped (codes "step") None ∷ []
-told_end (Some (AtFault why)) = stopped (codes "exception") (Some why) ∷ []
+told_end (Some (AtFault fault)) = stopped (codes "exception") (Some fault.text) ∷ []
 told_end (Some (AtEnd status)) = exited status ∷ (terminated ∷ [])
 
 -- a text is told with the one that follows it, where both are of one kind

@@ -1,19 +1,26 @@
 -- Worked examples: commands, modes, what is told of a run, hit conditions, messages, identifiers and references,
 -- computed.
-use Rattle.std.specs.Prelude.{◌≡◌, ℕ, List, [], ◌∷◌, ◌++◌, codes, map, Option, None, Some}
+use Rattle.std.specs.Prelude.{◌≡◌, ℕ, true, false, List, [], ◌∷◌, ◌++◌, codes, map, Option, None, Some}
 use Rattle.serde_json.specs.Written.{compact_text}
 use Rattle.dap_server.specs.Messages.{PlainEvent, events_from}
-use Rattle.debuggee.specs.Plain.{AtBreakpoint, AtStep, AtEnd, AtFault, Printed, Logged, Text, Expression}
+use Rattle.debuggee.specs.Due.{Sight}
+use Rattle.debuggee.specs.Plain.{NoValue, AtBreakpoint, AtStep, AtEnd, AtFault, Printed, Logged, Text, Expression}
+use Rattle.debuggee.specs.Runs.{Meaning}
 use Rattle.debuggee.specs.declared.breakpoint.Rule.{Rule}
 use Rattle.debuggee.specs.declared.breakpoint.Rule.TheVariants.{From, Exactly, Every}
 use Rattle.debuggee.specs.declared.mode.Mode.TheVariants as mode
 use Rattle.dap_debug.specs.declared.command.Command.TheVariants as command
 use Rattle.dap_debug.specs.declared.command.Question.TheVariants as question
+use Rattle.dap_debug.specs.declared.command.Refusal.TheVariants as refusal
 use Rattle.dap_debug.specs.declared.command.Resume.TheVariants as resume
+use Rattle.dap_debug.specs.declared.state.Phase.{Phase}
+use Rattle.dap_debug.specs.declared.state.Phase.TheVariants as phase
 use Rattle.dap_debug.specs.Breakpoints.{AreParts, IsMessage, IsRule}
 use Rattle.dap_debug.specs.Commands.{command_of}
-use Rattle.dap_debug.specs.Inspecting.{frame_of_reference, frame_with, index_of_reference, shown_frame, shown_scope}
-use Rattle.dap_debug.specs.Running.{mode_of}
+use Rattle.dap_debug.specs.Inspecting.{frame_of_reference, frame_with, index_of_reference, number_of_reference, reference_inside, shown_frame, shown_scope}
+use Rattle.dap_debug.specs.Replies.{capabilities}
+use Rattle.dap_debug.specs.Running.{GoesOn, PausesFrom, ended, mode_of, success}
+use Rattle.dap_debug.specs.Standings.{Standing}
 use Rattle.dap_debug.specs.Telling.{told_of}
 
 abbrev pub CommandsAreNamed : Type 0
@@ -26,7 +33,7 @@ CommandsAreNamed =
     ∷ command.Resume resume.Continue ∷ command.Resume resume.Next ∷ command.Resume resume.StepIn
     ∷ command.Resume resume.StepOut ∷ command.Pause ∷ command.Terminate ∷ command.Inspect question.StackTrace
     ∷ command.Inspect question.Scopes ∷ command.Inspect question.Variables ∷ command.Inspect question.Evaluate
-    ∷ command.ExceptionInfo ∷ command.Disconnect ∷ command.Unsupported ∷ []
+    ∷ command.ExceptionInfo ∷ command.Disconnect ∷ command.Refused refusal.Unsupported ∷ []
 
 -- three frames are alive
 abbrev pub ModesFollow : Type 0
@@ -54,13 +61,60 @@ a_stop reason text =
 
 abbrev pub HaltsAreTold : Type 0
 HaltsAreTold =
-    map (λ halt. texts (told_of [] halt)) (Some AtBreakpoint ∷ Some AtStep ∷ Some (AtFault (codes "no"))
-    ∷ Some (AtEnd 3) ∷ None ∷ [])
+    map (λ halt. texts (told_of [] halt)) (Some AtBreakpoint ∷ Some AtStep
+    ∷ Some (AtFault (record { name = codes "No"; text = codes "no" })) ∷ Some (AtEnd 3) ∷ None ∷ [])
     ≡ (a_stop (codes "breakpoint") [] ∷ []) ∷ (a_stop (codes "step") [] ∷ [])
     ∷ (a_stop (codes "exception") (codes "\"text\":\"no\",") ∷ [])
     ∷ (codes "{\"body\":{\"exitCode\":3},\"event\":\"exited\",\"seq\":1,\"type\":\"event\"}"
     ∷ codes "{\"event\":\"terminated\",\"seq\":2,\"type\":\"event\"}" ∷ [])
     ∷ [] ∷ []
+
+-- ---- a program that takes no step
+
+abbrev pub never : Meaning (Unit {0})
+never s step t = ⊥
+
+abbrev pub nowhere : Sight (Unit {0})
+nowhere = record {
+  place_of = λ s. None;
+  depth_of = λ s. 0;
+  value_of = λ s frame expression. NoValue [];
+}
+
+abbrev pub stood : Phase (Unit {0}) → Standing (Unit {0})
+stood now = record { phase = now; path = []; fault = None; breakpoints = [] }
+
+-- an event that tells a stop for this reason
+abbrev pub stop_event : List ℕ → PlainEvent → Type 0
+stop_event reason event = texts (event ∷ []) ≡ a_stop reason [] ∷ []
+
+-- It stops where it begins where that is asked for.
+abbrev pub EntryIsTold : Type 0
+EntryIsTold =
+    (event : PlainEvent) × stop_event (codes "entry") event
+    × GoesOn never nowhere true (stood (phase.Running (tt {0}) mode.Continue)) (event ∷ [])
+    (stood (phase.Stopped (tt {0})))
+
+-- It is paused while it runs.
+abbrev pub PauseIsTold : Type 0
+PauseIsTold =
+    (event : PlainEvent) × stop_event (codes "pause") event
+    × PausesFrom (phase.Running (tt {0}) mode.In) (stood (phase.Running (tt {0}) mode.In))
+    (success None (event ∷ [])) (stood (phase.Stopped (tt {0})))
+
+-- One that is ended tells so; one that has ended, or that there isn't, tells nothing.
+abbrev pub EndIsTold : Type 0
+EndIsTold =
+    map (λ now. texts (ended now)) (phase.Stopped (tt {0}) ∷ phase.Ended (tt {0}) ∷ phase.NoProgram ∷ [])
+    ≡ (codes "{\"event\":\"terminated\",\"seq\":1,\"type\":\"event\"}" ∷ []) ∷ [] ∷ [] ∷ []
+
+-- what `initialize` is answered with
+abbrev pub CapabilitiesAre : Type 0
+CapabilitiesAre =
+    compact_text capabilities
+    ≡ codes "{\"supportsConditionalBreakpoints\":true,\"supportsConfigurationDoneRequest\":true,"
+    ++ (codes "\"supportsEvaluateForHovers\":true,\"supportsExceptionInfoRequest\":true,"
+    ++ codes "\"supportsHitConditionalBreakpoints\":true,\"supportsLogPoints\":true,\"supportsTerminateRequest\":true}")
 
 -- `03` is no rule
 abbrev pub RulesAreRead : Type 0
@@ -76,12 +130,12 @@ MessagesAreRead =
     × IsMessage [] None
 
 -- the newest frame has the identifier 1, and its first scope the reference 1; those of the next scope, and of the next
--- frame, follow
+-- frame, follow; those of what is inside variables come after all of them
 abbrev pub ShownAreNumbered : Type 0
 ShownAreNumbered =
-    ((shown_frame [] 0 (record { name = []; line = 4; column = 1 })).id ≡ 1)
-    × ((shown_scope 0 0 (record { name = []; variables = [] })).reference ≡ 1)
-    × ((shown_scope 1 2 (record { name = []; variables = [] })).reference ≡ 19)
+    ((shown_frame [] 0 (record { name = []; line = 4; column = 1 })).id ≡ 1) × ((shown_scope 0 0 []).reference ≡ 1)
+    × ((shown_scope 1 2 []).reference ≡ 19)
+    × (map reference_inside (None ∷ Some 0 ∷ Some 5 ∷ Some 1073741823 ∷ []) ≡ 0 ∷ 1073741825 ∷ 1073741830 ∷ 0 ∷ [])
 
 -- two frames are alive
 abbrev pub NumbersAreFound : Type 0
@@ -89,3 +143,4 @@ NumbersAreFound =
     (map (frame_with 2) (0 ∷ 1 ∷ 2 ∷ 3 ∷ []) ≡ None ∷ Some 0 ∷ Some 1 ∷ None ∷ [])
     × (map (frame_of_reference 2) (0 ∷ 1 ∷ 19 ∷ 33 ∷ []) ≡ None ∷ Some 0 ∷ Some 1 ∷ None ∷ [])
     × (index_of_reference 19 ≡ 2)
+    × (map number_of_reference (19 ∷ 1073741824 ∷ 1073741825 ∷ 1073741830 ∷ []) ≡ None ∷ None ∷ Some 0 ∷ Some 5 ∷ [])

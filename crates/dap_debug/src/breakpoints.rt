@@ -1,23 +1,25 @@
 //! Setting breakpoints.
 
-ghost use Rattle.std.specs.Prelude.{◌≡◌, ◌≢◌, ℕ, Option, ◌++◌, ◌∷◌, [], codes, decimal, None, Some, IfNone, IfOk, IfSome, OnOk, map, option_map, string_bytes};
+ghost use Rattle.std.specs.Prelude.{◌≡◌, ◌≢◌, ◌≤◌, ℕ, length, Option, ◌++◌, ◌∷◌, [], codes, decimal, None, Some, IfNone, IfOk, IfSome, OnOk, map, option_map, string_bytes};
 ghost use Rattle.std.specs.Bool.{Decides};
 ghost use Rattle.std.specs.Option.{option_to_list};
 ghost use Rattle.serde_json.specs.View.{items_view, view};
 ghost use Rattle.dap_bodies.specs.Bodies.{Refused, plain_shown_breakpoint};
 ghost use Rattle.dap_server.specs.Messages.{plain_reply};
 ghost use Rattle.debuggee.specs.Plain.{Text, Expression, plain_breakpoint, plain_part};
-ghost use Rattle.dap_debug.specs.Arguments.{list_at};
+ghost use Rattle.dap_bodies.specs.Arguments.{list_at};
 ghost use Rattle.dap_debug.specs.Standings.{standing};
-ghost use Rattle.dap_debug.specs.Breakpoints.{AreParts, AreSet, AreUnset, HasExpression, IsAnswered, IsBreakpoint, IsCount, IsMessage, IsUnclosed, IsRule, IsSet, Sets, SetsIn, answers_reply, source_asked, text_of, unless_empty};
+ghost use Rattle.dap_debug.specs.Breakpoints.{AreParts, AreSet, AreUnset, HasExpression, HasMistake, IsAnswered, IsBreakpoint, IsCount, IsMessage, IsUnclosed, IsRule, IsSet, Sets, SetsIn, answers_reply, condition_of, message_limit, source_asked, text_of, unless_empty};
 
-use crate::arguments::{list, member, text, whole};
-use crate::language::{Language, Location};
 use crate::state::State;
+use dap_bodies::{list, member, text, whole};
 use dap_server::Reply;
-use debuggee::{Breakpoint, Part, Rule};
+use debuggee::{Breakpoint, Language, Location, Part, Rule};
 use serde_json::Value;
 use std::alloc::{AllocError, Global};
+
+/// How many bytes a message has at most.
+const MESSAGE_LIMIT: usize = 65_536;
 
 /// A breakpoint, if it is set, and what is answered.
 #[derive(Drop)]
@@ -44,7 +46,7 @@ impl<L: Language> State<L> {
         alloc: Global,
         arguments: Option<&Value>,
     ) -> Result<Reply, AllocError>
-        ensures { IfOk result (λ reply. Sets L.first_place (option_map (λ v. view v.now) arguments.entry)
+        ensures { IfOk result (λ reply. Sets L.shows (option_map (λ v. view v.now) arguments.entry)
             (standing self.old) (plain_reply reply) (standing self.new)) }
     {
         match self.phase.program() {
@@ -65,7 +67,7 @@ fn set_in<L: Language>(
     arguments: Option<&Value>,
     breakpoints: &mut Vec<Breakpoint>,
 ) -> Result<Reply, AllocError>
-    ensures { IfOk result (λ reply. SetsIn L.first_place (option_map (λ v. view v.now) arguments.entry) program.now
+    ensures { IfOk result (λ reply. SetsIn L.shows (option_map (λ v. view v.now) arguments.entry) program.now
         path.now (map plain_breakpoint breakpoints.old.items) (plain_reply reply)
         (map plain_breakpoint breakpoints.new.items)) }
 {
@@ -115,7 +117,7 @@ fn set_all<L: Language>(
     program: &L,
     asked: &[Value],
 ) -> Result<AllAnswered, AllocError>
-    ensures { IfOk result (λ set. AreSet L.first_place program.now (items_view asked.now)
+    ensures { IfOk result (λ set. AreSet L.shows program.now (items_view asked.now)
         (map plain_shown_breakpoint set.answers.items) (map plain_breakpoint set.breakpoints.items)) }
 {
     let mut breakpoints = Vec::new(alloc);
@@ -145,45 +147,93 @@ fn keep(breakpoints: &mut Vec<Breakpoint>, breakpoint: Option<Breakpoint>) -> Re
 
 /// Sets a breakpoint.
 fn set_one<L: Language>(alloc: Global, program: &L, asked: &Value) -> Result<Answered, AllocError>
-    ensures { IfOk result (λ set. IsSet L.first_place program.now (view asked.now) (plain_shown_breakpoint set.answer)
+    ensures { IfOk result (λ set. IsSet L.shows program.now (view asked.now) (plain_shown_breakpoint set.answer)
         (option_map plain_breakpoint set.breakpoint)) }
 {
     match whole(Some(asked), "line") {
-        Some(line) => set_at(alloc, asked, program.place_for(line)),
+        Some(line) => set_at(alloc, program, asked, program.place_for(line)),
         None => refuse(alloc, "`line` is missing"),
     }
 }
 
 /// Sets a breakpoint where the first place for its line is this one.
-fn set_at(alloc: Global, asked: &Value, first: Option<Location>) -> Result<Answered, AllocError>
-    ensures { IfOk result (λ set. IsAnswered (view asked.now) first (plain_shown_breakpoint set.answer)
-        (option_map plain_breakpoint set.breakpoint)) }
+fn set_at<L: Language>(
+    alloc: Global,
+    program: &L,
+    asked: &Value,
+    first: Option<Location>,
+) -> Result<Answered, AllocError>
+    ensures { IfOk result (λ set. IsAnswered L.shows program.now (view asked.now) first
+        (plain_shown_breakpoint set.answer) (option_map plain_breakpoint set.breakpoint)) }
 {
     match first {
         Some(location) => match rule_of(text_of(asked, "hitCondition")) {
-            Some(rule) => set_with(alloc, asked, location, rule),
+            Some(rule) => set_short(alloc, program, asked, location, rule),
             None => refuse(alloc, "a hit condition is N, =N or %N"),
         },
         None => refuse(alloc, "no place is at this line or after it"),
     }
 }
 
-/// Sets a breakpoint with this rule.
-fn set_with(
+/// Sets a breakpoint with this rule, unless its message is too long or its condition has a mistake.
+fn set_short<L: Language>(
     alloc: Global,
+    program: &L,
     asked: &Value,
     location: Location,
     rule: Option<Rule>,
 ) -> Result<Answered, AllocError>
     requires { IsRule (text_of (codes "hitCondition") (view asked.now)) rule }
-    ensures { IfOk result (λ set. IsAnswered (view asked.now) (Some location) (plain_shown_breakpoint set.answer)
-        (option_map plain_breakpoint set.breakpoint)) }
+    ensures { IfOk result (λ set. IsAnswered L.shows program.now (view asked.now) (Some location)
+        (plain_shown_breakpoint set.answer) (option_map plain_breakpoint set.breakpoint)) }
 {
-    let breakpoint = breakpoint_at(alloc, asked, location.place, rule)?;
-    Ok(Answered {
-        breakpoint: Some(breakpoint),
-        answer: dap_bodies::Breakpoint::SetAt(location.line),
-    })
+    if MESSAGE_LIMIT < text_of(asked, "logMessage").len() {
+        refuse(alloc, "a message has at most 65,536 bytes")
+    } else {
+        set_with(alloc, program, asked, location, rule)
+    }
+}
+
+/// Sets a breakpoint with this rule, unless its condition has a mistake.
+fn set_with<L: Language>(
+    alloc: Global,
+    program: &L,
+    asked: &Value,
+    location: Location,
+    rule: Option<Rule>,
+) -> Result<Answered, AllocError>
+    requires rule { IsRule (text_of (codes "hitCondition") (view asked.now)) rule }
+    requires short { length (text_of (codes "logMessage") (view asked.now)) ≤ message_limit }
+    ensures { IfOk result (λ set. IsAnswered L.shows program.now (view asked.now) (Some location)
+        (plain_shown_breakpoint set.answer) (option_map plain_breakpoint set.breakpoint)) }
+{
+    let condition = unless_empty(alloc, text_of(asked, "condition"))?;
+    match mistake_in(alloc, program, location.place, &condition)? {
+        Some(why) => refuse(alloc, why.as_str()),
+        None => {
+            let breakpoint = breakpoint_at(alloc, asked, location.place, rule, condition)?;
+            Ok(Answered {
+                breakpoint: Some(breakpoint),
+                answer: dap_bodies::Breakpoint::SetAt(location.line),
+            })
+        }
+    }
+}
+
+/// Returns the mistake in a condition, if there is one and it has one.
+fn mistake_in<L: Language>(
+    alloc: Global,
+    program: &L,
+    place: usize,
+    condition: &Option<String>,
+) -> Result<Option<String>, AllocError>
+    ensures { IfOk result (λ mistake. IfSome mistake (λ why.
+        HasMistake L.shows program.now place (option_map string_bytes condition.now) (string_bytes why))) }
+{
+    match condition {
+        Some(condition) => program.mistake_in(alloc, place, condition.as_str()),
+        None => Ok(None),
+    }
 }
 
 /// Returns the breakpoint that is asked for.
@@ -192,13 +242,16 @@ fn breakpoint_at(
     asked: &Value,
     place: usize,
     rule: Option<Rule>,
+    condition: Option<String>,
 ) -> Result<Breakpoint, AllocError>
-    requires { IsRule (text_of (codes "hitCondition") (view asked.now)) rule }
+    requires rule { IsRule (text_of (codes "hitCondition") (view asked.now)) rule }
+    requires condition { option_map string_bytes condition ≡ condition_of (view asked.now) }
+    requires short { length (text_of (codes "logMessage") (view asked.now)) ≤ message_limit }
     ensures { IfOk result (λ breakpoint. IsBreakpoint (view asked.now) place (plain_breakpoint breakpoint)) }
 {
     Ok(Breakpoint {
         place,
-        condition: unless_empty(alloc, text_of(asked, "condition"))?,
+        condition,
         rule,
         arrivals: 0,
         message: message_of(alloc, text_of(asked, "logMessage"))?,

@@ -1,21 +1,19 @@
 //! Questions about the program where it stands.
 
-ghost use Rattle.std.specs.Prelude.{◌≡◌, ◌<◌, ◌≤◌, ◌^◌, ◌-◌, codes, length, slice_get, take, Some, IfOk, map, option_map};
+ghost use Rattle.std.specs.Prelude.{◌≡◌, ◌<◌, ◌≤◌, ◌^◌, ◌-◌, codes, length, slice_get, take, None, Some, IfOk, map, option_map, string_bytes};
 ghost use Rattle.serde_json.specs.View.{view};
 ghost use Rattle.dap_bodies.specs.Bodies.{plain_shown_frame, plain_shown_scope, plain_shown_variable};
 ghost use Rattle.dap_server.specs.Messages.{plain_reply};
-ghost use Rattle.dap_debug.specs.Arguments.{text_at};
-ghost use Rattle.dap_debug.specs.Shown.{plain_frame, plain_scope, plain_variable};
+ghost use Rattle.dap_bodies.specs.Arguments.{text_at};
+ghost use Rattle.debuggee.specs.Shown.{plain_frame, plain_variable};
 ghost use Rattle.dap_debug.specs.Standings.{standing};
-ghost use Rattle.dap_debug.specs.Inspecting.{Inspects, Shows, ShowsFrame, ShowsScope, ShowsScopes, ShowsStack, ShowsVariables, Evaluates, Explains, frame_asked, frame_count, frame_limit, frame_of_reference, frame_to_evaluate, frame_with, first_frame, index_of_reference, reference_asked, scope_limit, scopes_reply, shown_scope, shown_scopes, shown_variable};
+ghost use Rattle.dap_debug.specs.Inspecting.{Inspects, AnswersQuestion, ShowsFrame, ShowsInside, ShowsPage, ShowsScopes, ShowsStack, ShowsVariables, Evaluates, Explains, frame_asked, frame_count, frame_limit, frame_of_reference, frame_to_evaluate, frame_with, first_frame, index_of_reference, number_of_reference, page_asked, reference_asked, reference_inside, scope_limit, scopes_reply, shown_scope, shown_scopes, shown_variable, variables_reply};
 
-use crate::arguments::{text, whole};
 use crate::command::Question;
-use crate::language::{Frame, Language, Scope, Variable};
 use crate::state::{Phase, State};
-use dap_bodies::{StackFrame, evaluated, exception_info};
+use dap_bodies::{StackFrame, evaluated, exception_info, text, whole};
 use dap_server::Reply;
-use debuggee::Evaluated;
+use debuggee::{Evaluated, Frame, Language, Page, Variable};
 use serde_json::Value;
 use std::alloc::{AllocError, Global};
 
@@ -24,6 +22,18 @@ const SCOPE_LIMIT: usize = 16;
 
 /// Scopes are shown of this many frames at most, so that a reference is less than 2^31.
 const FRAME_LIMIT: usize = 67_108_864;
+
+/// The references after this one are of variables inside others, by their numbers.
+const INSIDE_BASE: u64 = 1_073_741_824;
+
+/// A variable with this number, or a later one, is shown as if nothing were inside, so that a reference is less than 2^31.
+const NUMBER_LIMIT: usize = 1_073_741_823;
+
+/// How many variables are shown at once at most.
+const PAGE_LIMIT: u64 = 1024;
+
+/// What is told where nothing has the reference that is asked for.
+const NO_VARIABLES: &str = "no variables have this reference";
 
 impl<L: Language> State<L> {
     /// Answers a question, if the program is stopped.
@@ -37,7 +47,7 @@ impl<L: Language> State<L> {
         question: Question,
         arguments: Option<&Value>,
     ) -> Result<Reply, AllocError>
-        ensures { IfOk result (λ reply. Inspects L.sees L.frame_of L.scopes_of question
+        ensures { IfOk result (λ reply. Inspects L.sees L.shows question
             (option_map (λ v. view v.now) arguments.entry) (standing self.now) (plain_reply reply)) }
     {
         match &self.phase {
@@ -57,8 +67,8 @@ impl<L: Language> State<L> {
         ensures { IfOk result (λ reply. Explains (standing self.now) (plain_reply reply)) }
     {
         match (&self.phase, &self.fault) {
-            (Phase::Stopped(_), Some(why)) => {
-                let body = exception_info(alloc, why.as_str(), "the next step can't be taken")?;
+            (Phase::Stopped(_), Some(fault)) => {
+                let body = exception_info(alloc, fault.name.as_str(), fault.text.as_str())?;
                 Ok(Reply::with_body(alloc, body))
             }
             _ => Reply::refused(alloc, "the program hasn't stopped at a fault"),
@@ -74,7 +84,7 @@ fn show<L: Language>(
     arguments: Option<&Value>,
     path: &str,
 ) -> Result<Reply, AllocError>
-    ensures { IfOk result (λ reply. Shows L.sees L.frame_of L.scopes_of question
+    ensures { IfOk result (λ reply. AnswersQuestion L.sees L.shows question
         (option_map (λ v. view v.now) arguments.entry) path.now program.now (plain_reply reply)) }
 {
     match question {
@@ -98,7 +108,7 @@ fn stack_trace<L: Language>(
     arguments: Option<&Value>,
     path: &str,
 ) -> Result<Reply, AllocError>
-    ensures { IfOk result (λ reply. ShowsStack L.sees L.frame_of path.now
+    ensures { IfOk result (λ reply. ShowsStack L.sees L.shows.frame_of path.now
         (option_map (λ v. view v.now) arguments.entry) program.now (plain_reply reply)) }
 {
     let depth = program.depth();
@@ -141,7 +151,7 @@ fn frame<L: Language>(
 ) -> Result<StackFrame, AllocError>
     requires alive { index < L.sees.depth_of program.now }
     requires fits { index < 2 ^ 64 - 1 }
-    ensures { IfOk result (λ shown. ShowsFrame L.frame_of path.now program.now index (plain_shown_frame shown)) }
+    ensures { IfOk result (λ shown. ShowsFrame L.shows.frame_of path.now program.now index (plain_shown_frame shown)) }
 {
     let Frame { name, line, column } = program.frame(alloc, index)?;
     Ok(StackFrame {
@@ -175,18 +185,18 @@ fn frame_asked(many: usize, arguments: Option<&Value>) -> Option<usize>
 fn scopes<L: Language>(alloc: Global, program: &L, frame: usize) -> Result<Reply, AllocError>
     requires alive { frame < L.sees.depth_of program.now }
     requires near { frame < frame_limit }
-    ensures { IfOk result (λ reply. ShowsScopes L.scopes_of (Some frame) program.now (plain_reply reply)) }
+    ensures { IfOk result (λ reply. ShowsScopes L.shows (Some frame) program.now (plain_reply reply)) }
 {
-    let scopes = program.scopes(alloc, frame)?;
-    reply_with_scopes(alloc, frame, scopes)
+    let names = program.scopes(alloc, frame)?;
+    reply_with_scopes(alloc, frame, names)
 }
 
-/// Returns the reply that shows these scopes of a frame.
-fn reply_with_scopes(alloc: Global, frame: usize, scopes: Vec<Scope>) -> Result<Reply, AllocError>
+/// Returns the reply that shows the scopes of a frame that have these names.
+fn reply_with_scopes(alloc: Global, frame: usize, names: Vec<String>) -> Result<Reply, AllocError>
     requires near { frame < frame_limit }
-    ensures { IfOk result (λ reply. plain_reply reply ≡ scopes_reply frame (map plain_scope scopes.items)) }
+    ensures { IfOk result (λ reply. plain_reply reply ≡ scopes_reply frame (map string_bytes names.items)) }
 {
-    let shown = first_scopes(alloc, frame, scopes)?;
+    let shown = first_scopes(alloc, frame, names)?;
     let body = dap_bodies::scopes(alloc, shown)?;
     Ok(Reply::with_body(alloc, body))
 }
@@ -195,13 +205,13 @@ fn reply_with_scopes(alloc: Global, frame: usize, scopes: Vec<Scope>) -> Result<
 fn first_scopes(
     alloc: Global,
     frame: usize,
-    scopes: Vec<Scope>,
+    names: Vec<String>,
 ) -> Result<Vec<dap_bodies::Scope>, AllocError>
     requires near { frame < frame_limit }
     ensures { IfOk result (λ shown. map plain_shown_scope shown.items ≡
-        shown_scopes frame 0 (take scope_limit (map plain_scope scopes.items))) }
+        shown_scopes frame 0 (take scope_limit (map string_bytes names.items))) }
 {
-    let mut first = scopes;
+    let mut first = names;
     first.truncate(SCOPE_LIMIT);
     all_scopes(alloc, frame, first)
 }
@@ -210,16 +220,16 @@ fn first_scopes(
 fn all_scopes(
     alloc: Global,
     frame: usize,
-    scopes: Vec<Scope>,
+    names: Vec<String>,
 ) -> Result<Vec<dap_bodies::Scope>, AllocError>
     requires near { frame < frame_limit }
-    requires few { length scopes.items ≤ scope_limit }
+    requires few { length names.items ≤ scope_limit }
     ensures { IfOk result (λ shown. map plain_shown_scope shown.items ≡
-        shown_scopes frame 0 (map plain_scope scopes.items)) }
+        shown_scopes frame 0 (map string_bytes names.items)) }
 {
     let mut shown = Vec::new(alloc);
     let mut index = 0;
-    for one in scopes {
+    for one in names {
         shown.push(scope(frame, index, one))?;
         index += 1;
     }
@@ -227,39 +237,115 @@ fn all_scopes(
 }
 
 /// Shows a scope.
-fn scope(frame: usize, index: usize, scope: Scope) -> dap_bodies::Scope
+fn scope(frame: usize, index: usize, name: String) -> dap_bodies::Scope
     requires near { frame < frame_limit }
     requires few { index < scope_limit }
-    ensures { plain_shown_scope result ≡ shown_scope frame index (plain_scope scope) }
+    ensures { plain_shown_scope result ≡ shown_scope frame index (string_bytes name) }
 {
     dap_bodies::Scope {
-        name: scope.name,
+        name,
         reference: frame as u64 * SCOPE_LIMIT as u64 + index as u64 + 1,
     }
 }
 
-/// Shows the variables of the scope that is asked for.
+/// Shows variables of the scope, or inside the variable, that is asked for.
 fn variables<L: Language>(
     alloc: Global,
     program: &L,
     arguments: Option<&Value>,
 ) -> Result<Reply, AllocError>
-    ensures { IfOk result (λ reply. ShowsVariables L.scopes_of
+    ensures { IfOk result (λ reply. ShowsVariables L.shows
+        (number_of_reference (reference_asked (option_map (λ v. view v.now) arguments.entry)))
         (frame_of_reference (L.sees.depth_of program.now)
         (reference_asked (option_map (λ v. view v.now) arguments.entry)))
-        (index_of_reference (reference_asked (option_map (λ v. view v.now) arguments.entry))) program.now
-        (plain_reply reply)) }
+        (index_of_reference (reference_asked (option_map (λ v. view v.now) arguments.entry)))
+        (page_asked (option_map (λ v. view v.now) arguments.entry)) program.now (plain_reply reply)) }
 {
     let reference = whole(arguments, "variablesReference").unwrap_or(0);
-    match frame_of_reference(program.depth(), reference) {
-        Some(frame) => {
-            let scopes = program.scopes(alloc, frame)?;
-            match scope_at(scopes, index_of_reference(reference)) {
-                Some(scope) => shown_variables(alloc, scope),
-                None => Reply::refused(alloc, "no variables have this reference"),
+    let page = page_asked(arguments);
+    match number_of_reference(reference) {
+        Some(number) => variables_inside(alloc, program, number, page),
+        None => match frame_of_reference(program.depth(), reference) {
+            Some(frame) => {
+                variables_of_frame(alloc, program, frame, index_of_reference(reference), page)
             }
-        }
-        None => Reply::refused(alloc, "no variables have this reference"),
+            None => Reply::refused(alloc, NO_VARIABLES),
+        },
+    }
+}
+
+/// Returns which variables are asked for.
+fn page_asked(arguments: Option<&Value>) -> Page
+    ensures { result ≡ page_asked (option_map (λ v. view v.now) arguments.entry) }
+{
+    let count = match whole(arguments, "count").unwrap_or(0) {
+        0 => PAGE_LIMIT,
+        count => count.min(PAGE_LIMIT),
+    };
+    Page {
+        start: whole(arguments, "start").unwrap_or(0) as usize,
+        count: count as usize,
+    }
+}
+
+/// Shows variables inside the one with this number.
+fn variables_inside<L: Language>(
+    alloc: Global,
+    program: &L,
+    number: usize,
+    page: Page,
+) -> Result<Reply, AllocError>
+    ensures { IfOk result (λ reply. ShowsInside (L.shows.inside_of program.now number) page (plain_reply reply)) }
+{
+    match program.inside(alloc, number, page)? {
+        Some(variables) => reply_with_variables(alloc, variables),
+        None => Reply::refused(alloc, NO_VARIABLES),
+    }
+}
+
+/// Shows variables of the scope with this index of a frame.
+fn variables_of_frame<L: Language>(
+    alloc: Global,
+    program: &L,
+    frame: usize,
+    index: usize,
+    page: Page,
+) -> Result<Reply, AllocError>
+    requires { frame < L.sees.depth_of program.now }
+    ensures { IfOk result (λ reply. ShowsVariables L.shows None (Some frame) index page program.now
+        (plain_reply reply)) }
+{
+    let names = program.scopes(alloc, frame)?;
+    match scope_at(names, index) {
+        Some(_) => variables_of_scope(alloc, program, frame, index, page),
+        None => Reply::refused(alloc, NO_VARIABLES),
+    }
+}
+
+/// Shows variables of a scope of a frame.
+fn variables_of_scope<L: Language>(
+    alloc: Global,
+    program: &L,
+    frame: usize,
+    index: usize,
+    page: Page,
+) -> Result<Reply, AllocError>
+    requires { frame < L.sees.depth_of program.now }
+    ensures { IfOk result (λ reply. ShowsPage (L.shows.variables_of program.now frame index) page
+        (plain_reply reply)) }
+{
+    let variables = program.variables(alloc, frame, index, page)?;
+    reply_with_variables(alloc, variables)
+}
+
+/// Returns the number of the variable whose inside has a reference, if it is one of these.
+fn number_of_reference(reference: u64) -> Option<usize>
+    ensures { result ≡ number_of_reference reference }
+{
+    if INSIDE_BASE < reference {
+        Some((reference - INSIDE_BASE - 1) as usize)
+    } else {
+        None
     }
 }
 
@@ -281,23 +367,23 @@ fn index_of_reference(reference: u64) -> usize
     (reference.saturating_sub(1) % SCOPE_LIMIT as u64) as usize
 }
 
-/// Returns the scope with this index, if there is one.
-fn scope_at(scopes: Vec<Scope>, index: usize) -> Option<Scope>
-    ensures { option_map plain_scope result ≡ slice_get (map plain_scope scopes.items) index }
+/// Returns the name of the scope with this index, if there is one.
+fn scope_at(names: Vec<String>, index: usize) -> Option<String>
+    ensures { option_map string_bytes result ≡ slice_get (map string_bytes names.items) index }
 {
-    let mut scopes = scopes;
-    if index < scopes.len() {
-        Some(scopes.swap_remove(index))
+    let mut names = names;
+    if index < names.len() {
+        Some(names.swap_remove(index))
     } else {
         None
     }
 }
 
-/// Shows the variables of a scope.
-fn shown_variables(alloc: Global, scope: Scope) -> Result<Reply, AllocError>
-    ensures { IfOk result (λ reply. ShowsScope (Some (plain_scope scope)) (plain_reply reply)) }
+/// Returns the reply that shows these variables.
+fn reply_with_variables(alloc: Global, variables: Vec<Variable>) -> Result<Reply, AllocError>
+    ensures { IfOk result (λ reply. plain_reply reply ≡ variables_reply (map plain_variable variables.items)) }
 {
-    let shown = all_variables(alloc, scope.variables)?;
+    let shown = all_variables(alloc, variables)?;
     let body = dap_bodies::variables(alloc, shown)?;
     Ok(Reply::with_body(alloc, body))
 }
@@ -324,7 +410,23 @@ fn shown_variable(variable: Variable) -> dap_bodies::Variable
     dap_bodies::Variable {
         name: variable.name,
         value: variable.value,
-        reference: 0,
+        reference: reference_inside(variable.inside),
+    }
+}
+
+/// Returns the reference of what is inside a variable with this number; 0 where there is none.
+fn reference_inside(number: Option<usize>) -> u64
+    ensures { result ≡ reference_inside number }
+{
+    match number {
+        None => 0,
+        Some(number) => {
+            if number < NUMBER_LIMIT {
+                INSIDE_BASE + 1 + number as u64
+            } else {
+                0
+            }
+        }
     }
 }
 

@@ -3,16 +3,15 @@
 ghost use Rattle.std.specs.Prelude.{◌≡◌, IfOk, Ok, Some, codes, option_map};
 ghost use Rattle.serde_json.specs.View.{view};
 ghost use Rattle.dap_server.specs.Messages.{plain_reply};
-ghost use Rattle.dap_debug.specs.Arguments.{text_at};
+ghost use Rattle.dap_bodies.specs.Arguments.{text_at};
 ghost use Rattle.dap_debug.specs.Loading.{Loads, LoadsGiven, unread_text};
 ghost use Rattle.dap_debug.specs.Standings.{standing};
 
-use crate::arguments::{text, truth};
-use crate::language::Language;
 use crate::state::{Phase, State};
 use byte_streams::{ReadFault, Reading, read_all};
-use dap_bodies::initialized;
+use dap_bodies::{initialized, text, truth};
 use dap_server::Reply;
+use debuggee::Language;
 use serde_json::Value;
 use std::alloc::{AllocError, Global};
 use std::fs;
@@ -45,7 +44,7 @@ impl<L: Language> State<L> {
         alloc: Global,
         arguments: Option<&Value>,
     ) -> Result<Reply, AllocError>
-        ensures { IfOk result (λ reply. Loads L.reads_as (option_map (λ v. view v.now) arguments.entry)
+        ensures { IfOk result (λ reply. Loads L.shows.reads_as (option_map (λ v. view v.now) arguments.entry)
             (standing self.old) (plain_reply reply) (standing self.new)) }
     {
         if let Phase::Running(_, _) = self.phase {
@@ -72,7 +71,7 @@ impl<L: Language> State<L> {
         bytes: Vec<u8>,
     ) -> Result<Reply, AllocError>
         requires { text_at (codes "program") (option_map (λ v. view v.now) arguments) ≡ Some path.now }
-        ensures { IfOk result (λ reply. LoadsGiven L.reads_as (option_map (λ v. view v.now) arguments.entry)
+        ensures { IfOk result (λ reply. LoadsGiven L.shows.reads_as (option_map (λ v. view v.now) arguments.entry)
             (Ok bytes.items) (standing self.old) (plain_reply reply) (standing self.new)) }
     {
         let Ok(source) = String::from_utf8(bytes) else {

@@ -1,35 +1,37 @@
 //! What holds of each session.
 
-ghost use Rattle.dap_debug.specs.Laws.{WorkIsBalanced, RepliesAreBalanced, TextsAreKept, FramesAreFound, ScopesAreFound};
+ghost use Rattle.dap_debug.specs.Laws.{WorkIsBalanced, RepliesAreBalanced, TextsAreKept, FramesAreFound, ScopesAreFound, VariablesAreFound};
 ghost use Rattle.dap_debug.specs.Replies.{known_of};
 ghost use Rattle.dap_debug.specs.Sums.{EachEndsOnce};
-ghost use Rattle.dap_debug.specs.WorkedDebugger.{CommandsAreNamed, ModesFollow, TextsAreTold, HaltsAreTold, RulesAreRead, ShownAreNumbered, NumbersAreFound, MessagesAreRead};
-ghost use Rattle.dap_debug.specs.WorkedRequests.{BreakpointIsSet, ExpressionsAreEvaluated, FramesAreAsked, LineIsAsked, ProgramIsLoaded};
+ghost use Rattle.dap_debug.specs.WorkedDebugger.{CommandsAreNamed, ModesFollow, TextsAreTold, HaltsAreTold, EntryIsTold, PauseIsTold, EndIsTold, CapabilitiesAre, RulesAreRead, ShownAreNumbered, NumbersAreFound, MessagesAreRead};
+ghost use Rattle.dap_debug.specs.WorkedRequests.{BreakpointIsSet, CommandsAreChecked, ExpressionsAreEvaluated, FramesAreAsked, LineIsAsked, MistakeIsTold, PagesAreAsked, ProgramIsLoaded};
 
-use crate::language::Language;
 use dap_server::Polled;
+use debuggee::Language;
 
 /// Each run ends once: a request that lets the program go on, or ends one that doesn't run, owes one event that tells that
 /// the program has stopped or is gone, and what was owed is told, but for what is still owed while the program runs. And
 /// each byte that is printed or said is told, in order. It does nothing: its contract is the laws.
 pub fn debug_laws<L: Language>()
     ensures work { WorkIsBalanced L.takes L.sees }
-    ensures replies { RepliesAreBalanced (known_of L.takes L.sees L.reads_as L.first_place L.frame_of L.scopes_of) }
+    ensures replies { RepliesAreBalanced (known_of L.takes L.sees L.shows) }
     ensures texts { TextsAreKept }
 {}
 
 /// The same of a whole conversation: the ends that its events tell are those that its requests ask for, but for one that is
 /// still to be told while the program runs. It does nothing: its contract is the law.
-pub fn conversation_laws<L: Language, I: Polled>()
-    ensures { EachEndsOnce (known_of L.takes L.sees L.reads_as L.first_place L.frame_of L.scopes_of) I.gives
+pub fn conversation_laws<L: Language, I: Polled<O>, O>()
+    ensures { EachEndsOnce (known_of L.takes L.sees L.shows) I.gives
         I.polls }
 {}
 
-/// What is shown is found again: the identifier of a frame leads to that frame, and the reference of a scope to that scope.
+/// What is shown is found again: the identifier of a frame leads to that frame, the reference of a scope to that scope, and that of
+/// what is inside a variable to its number.
 /// It does nothing: its contract is the laws.
 pub fn shown_laws()
     ensures frames { FramesAreFound }
     ensures scopes { ScopesAreFound }
+    ensures variables { VariablesAreFound }
 {}
 
 /// Examples of commands, modes, what is told of a run, hit conditions, messages, identifiers and references, computed. It
@@ -39,6 +41,10 @@ pub fn worked_debugger()
     ensures modes { ModesFollow }
     ensures texts { TextsAreTold }
     ensures halts { HaltsAreTold }
+    ensures entry { EntryIsTold }
+    ensures pause { PauseIsTold }
+    ensures end { EndIsTold }
+    ensures capabilities { CapabilitiesAre }
     ensures rules { RulesAreRead }
     ensures messages { MessagesAreRead }
     ensures numbered { ShownAreNumbered }
@@ -53,4 +59,7 @@ pub fn worked_requests()
     ensures program { ProgramIsLoaded }
     ensures breakpoint { BreakpointIsSet }
     ensures line { LineIsAsked }
+    ensures mistake { MistakeIsTold }
+    ensures pages { PagesAreAsked }
+    ensures checked { CommandsAreChecked }
 {}

@@ -1,4 +1,4 @@
-//! A debug adapter for any language: what a language gives is [`Language`], and all else is here.
+//! A debug adapter for any language: what a language gives is `Language` of `debuggee`, and all else is here.
 //!
 //! [`serve_language`] serves a client, here on the process's own streams:
 //!
@@ -9,8 +9,13 @@
 //!
 //! fn main(rt: HostRuntime) -> ExitCode {
 //!     let mut output = Writing::new(&rt, rt.stdout());
-//!     let ended = serve_language::<Mine, _, _, _>(&rt, rt.alloc(), rt.stdin(), &mut output);
-//!     ExitCode::from(if ended.is_ok() { 0 } else { 1 })
+//!     match serve_language::<Mine, _, _, _>(&rt, rt.alloc(), rt.stdin(), &mut output) {
+//!         Ok(_) => ExitCode::SUCCESS,
+//!         Err(fault) => {
+//!             let _ = eprintln!(rt; "{fault:?}");
+//!             ExitCode::FAILURE
+//!         }
+//!     }
 //! }
 //! ```
 //!
@@ -27,11 +32,9 @@
 //! promised of the states between two stops, or of what is printed.
 #![tactic(auto)]
 
-mod arguments;
 mod breakpoints;
 mod command;
 mod inspecting;
-mod language;
 mod launching;
 mod laws;
 mod running;
@@ -40,6 +43,5 @@ mod session;
 mod state;
 mod telling;
 
-pub use language::{Frame, Language, Location, Scope, Variable};
 pub use laws::{conversation_laws, debug_laws, shown_laws, worked_debugger, worked_requests};
 pub use serving::{DebugFault, serve_language, serve_language_inbox};

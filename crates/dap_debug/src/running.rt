@@ -1,18 +1,17 @@
 //! Starting a program, and letting it go on.
 
-ghost use Rattle.std.specs.Prelude.{◌≡◌, ◌++◌, [], None, IfOk, map, option_map, string_bytes};
+ghost use Rattle.std.specs.Prelude.{◌≡◌, ◌++◌, [], None, IfOk, map, option_map};
 ghost use Rattle.dap_server.specs.Messages.{plain_event, plain_reply};
-ghost use Rattle.debuggee.specs.Plain.{plain_breakpoint, plain_halt};
+ghost use Rattle.debuggee.specs.Plain.{plain_breakpoint, plain_fault, plain_halt};
 ghost use Rattle.dap_debug.specs.Standings.{standing};
 ghost use Rattle.dap_debug.specs.Running.{Arrival, ArrivesAndGoesOn, EntersFrom, GoesOn, fault_of, mode_of, phase_after, resumed, success, Pauses, Resumes, Slice, Starts, Terminates, WorksOn};
 
 use crate::command::Resume;
-use crate::language::Language;
 use crate::state::{Phase, State};
 use crate::telling::tell;
-use dap_bodies::{exited, stopped, terminated};
+use dap_bodies::{stopped, terminated};
 use dap_server::{Event, Reply};
-use debuggee::{Breakpoint, Halt, Mode, arrive, run};
+use debuggee::{Breakpoint, Fault, Halt, Language, Mode, arrive, run};
 use serde_json::{Value, json};
 use std::alloc::{AllocError, Global};
 use std::mem;
@@ -21,7 +20,7 @@ use std::mem;
 #[derive(Drop)]
 struct Ran<L> {
     phase: Phase<L>,
-    fault: Option<String>,
+    fault: Option<Fault>,
     events: Vec<Event>,
 }
 
@@ -167,19 +166,24 @@ impl<L: Language> State<L> {
     ///
     /// # Errors
     ///
-    /// An allocation failed. The program is gone.
+    /// An allocation failed. The program has ended.
     pub fn terminate(&mut self, alloc: Global) -> Result<Reply, AllocError>
         ensures { IfOk result (λ reply. Terminates (standing self.old) (plain_reply reply) (standing self.new)) }
     {
-        let mut reply = Reply::done(alloc);
         match mem::replace(&mut self.phase, Phase::NoProgram) {
-            Phase::NoProgram => {}
-            Phase::Configuring(_, _) | Phase::Running(_, _) | Phase::Stopped(_) => {
-                reply.push(exited(alloc, 0)?)?;
-                reply.push(terminated(alloc)?)?;
+            Phase::NoProgram => Ok(Reply::done(alloc)),
+            Phase::Ended(program) => {
+                self.phase = Phase::Ended(program);
+                Ok(Reply::done(alloc))
             }
+            Phase::Configuring(program, _) | Phase::Running(program, _) | Phase::Stopped(program) =>
+                {
+                    self.phase = Phase::Ended(program);
+                    let mut reply = Reply::done(alloc);
+                    reply.push(terminated(alloc)?)?;
+                    Ok(reply)
+                }
         }
-        Ok(reply)
     }
 }
 
@@ -190,7 +194,7 @@ fn arrive_first<L: Language>(
     breakpoints: &mut Vec<Breakpoint>,
 ) -> Result<Ran<L>, AllocError>
     ensures { IfOk result (λ ran. Arrival L.sees program (map plain_breakpoint breakpoints.old.items)
-        (map plain_event ran.events.items) ran.phase (option_map string_bytes ran.fault)
+        (map plain_event ran.events.items) ran.phase (option_map plain_fault ran.fault)
         (map plain_breakpoint breakpoints.new.items)) }
 {
     let mut told = Vec::new(alloc);
@@ -231,7 +235,7 @@ fn run_slice<L: Language>(
     breakpoints: &mut Vec<Breakpoint>,
 ) -> Result<Ran<L>, AllocError>
     ensures { IfOk result (λ ran. Slice L.takes L.sees program mode (map plain_breakpoint breakpoints.old.items)
-        (map plain_event ran.events.items) ran.phase (option_map string_bytes ran.fault)
+        (map plain_event ran.events.items) ran.phase (option_map plain_fault ran.fault)
         (map plain_breakpoint breakpoints.new.items)) }
 {
     let mut program = program;
@@ -251,17 +255,17 @@ fn phase_after<L: Language>(halt: &Option<Halt>, program: L, mode: Mode) -> Phas
 {
     match halt {
         None => Phase::Running(program, mode),
-        Some(Halt::AtEnd(_)) => Phase::NoProgram,
+        Some(Halt::AtEnd(_)) => Phase::Ended(program),
         Some(Halt::AtBreakpoint | Halt::AtStep | Halt::AtFault(_)) => Phase::Stopped(program),
     }
 }
 
 /// Returns why a run can't go on, if it halted at a fault.
-fn fault_of(halt: Option<Halt>) -> Option<String>
-    ensures { option_map string_bytes result ≡ fault_of (option_map plain_halt halt) }
+fn fault_of(halt: Option<Halt>) -> Option<Fault>
+    ensures { option_map plain_fault result ≡ fault_of (option_map plain_halt halt) }
 {
     match halt {
-        Some(Halt::AtFault(why)) => Some(why),
+        Some(Halt::AtFault(fault)) => Some(fault),
         _ => None,
     }
 }

@@ -4,11 +4,11 @@ ghost use Rattle.dap_server.specs.ServingInbox.{OutputFailures};
 ghost use Rattle.dap_debug.specs.Replies.{known_of};
 ghost use Rattle.dap_debug.specs.Serving.{Debugged, DebuggedByReader};
 
-use crate::language::Language;
 use crate::session::Session;
 use byte_streams::Sink;
 use dap_reader::{Arrivals, StartFault, start_reader};
 use dap_server::{Ending, Polled, ServeFault, serve_worker};
+use debuggee::Language;
 use std::alloc::Global;
 use std::io::Read;
 use std::rt::{Clock, Files};
@@ -16,7 +16,7 @@ use std::sync::Wait;
 use std::thread::Threads;
 
 /// Why serving a language failed.
-#[derive(Clone, Copy)]
+#[derive(Clone, Copy, Debug)]
 pub enum DebugFault {
     /// The thread that reads isn't started, and nothing is written.
     Start(StartFault),
@@ -41,7 +41,7 @@ where
     R: Threads + Wait + Files + Clock + Copy + Send + Drop + 'static,
     I: Read + Send + Drop + 'static,
     O: Sink,
-    ensures { DebuggedByReader (known_of L.takes L.sees L.reads_as L.first_place L.frame_of L.scopes_of)
+    ensures { DebuggedByReader (known_of L.takes L.sees L.shows)
         (I.remaining input) (O.output output.old) (O.output output.new) result }
 {
     let mut inbox = match start_reader(rt, alloc, input) {
@@ -68,9 +68,10 @@ pub fn serve_language_inbox<L, R, I, O>(
 where
     L: Language,
     R: Wait + Files + Clock,
-    I: Polled,
+    I: Polled<O>,
     O: Sink,
-    ensures served { Debugged (known_of L.takes L.sees L.reads_as L.first_place L.frame_of L.scopes_of)
+    requires { (i : I) (o : O) → I.may_wait i o }
+    ensures served { Debugged (known_of L.takes L.sees L.shows)
         I.gives I.polls inbox.old inbox.new (O.output output.old).written (O.output output.new).written result }
     ensures failures { OutputFailures result (O.output output.old).failures (O.output output.new).failures }
 {

@@ -4,13 +4,13 @@ ghost use Rattle.std.specs.Prelude.{◌≡◌, IfOk, option_map};
 ghost use Rattle.serde_json.specs.View.{view};
 ghost use Rattle.dap_server.specs.Messages.{plain_reply};
 ghost use Rattle.dap_debug.specs.Standings.{standing, unused};
-ghost use Rattle.dap_debug.specs.Replies.{RepliesTo, capabilities, known_of};
+ghost use Rattle.dap_debug.specs.Replies.{Answers, capabilities, known_of};
 
-use crate::command::{Command, command_of};
-use crate::language::Language;
+use crate::command::{Command, checked, command_of, refusal_text};
 use crate::state::{Phase, State};
 use dap_bodies::threads;
 use dap_server::{Event, Reply, Responder, Worker};
+use debuggee::Language;
 use serde_json::{Value, json};
 use std::alloc::{AllocError, Global};
 use std::rt::{Clock, Files};
@@ -32,7 +32,7 @@ impl<R: Wait + Files + Clock, L: Language> Responder for Session<'_, R, L> {
     ghost use Rattle.dap_debug.specs.Replies.{RepliesTo, known_of};
 
     ghost replies = { λ before command arguments reply after. RepliesTo
-        (known_of L.takes L.sees L.reads_as L.first_place L.frame_of L.scopes_of) (command_of command)
+        (known_of L.takes L.sees L.shows) (command_of command)
         arguments (standing before.state) reply (standing after.state) };
 
     fn respond(
@@ -41,7 +41,7 @@ impl<R: Wait + Files + Clock, L: Language> Responder for Session<'_, R, L> {
         command: &str,
         arguments: Option<&Value>,
     ) -> Result<Reply, AllocError> {
-        self.reply_to(alloc, command_of(command), arguments)
+        self.reply_to(alloc, checked(command_of(command), arguments), arguments)
     }
 }
 
@@ -74,15 +74,14 @@ impl<'a, R: Wait + Files + Clock, L: Language> Session<'a, R, L> {
         }
     }
 
-    /// Returns what is replied to a command.
+    /// Returns what is replied to a command that isn't refused for its arguments.
     fn reply_to(
         &mut self,
         alloc: Global,
         command: Command,
         arguments: Option<&Value>,
     ) -> Result<Reply, AllocError>
-        ensures { IfOk result (λ reply. RepliesTo
-            (known_of L.takes L.sees L.reads_as L.first_place L.frame_of L.scopes_of) command
+        ensures { IfOk result (λ reply. Answers (known_of L.takes L.sees L.shows) command
             (option_map (λ v. view v.now) arguments.entry) (standing self.old.state) (plain_reply reply)
             (standing self.new.state)) }
     {
@@ -98,7 +97,7 @@ impl<'a, R: Wait + Files + Clock, L: Language> Session<'a, R, L> {
             Command::Inspect(question) => self.state.inspect(alloc, question, arguments),
             Command::ExceptionInfo => self.state.explain(alloc),
             Command::Disconnect => Ok(Reply::done(alloc)),
-            Command::Unsupported => Reply::refused(alloc, "unsupported"),
+            Command::Refused(why) => Reply::refused(alloc, refusal_text(why)),
         }
     }
 }

@@ -3,18 +3,20 @@
 ghost use Rattle.std.specs.Prelude.{◌≡◌, option_map};
 ghost use Rattle.dap_debug.specs.Standings.{program_in, standing, unused};
 
-use debuggee::{Breakpoint, Mode};
+use debuggee::{Breakpoint, Fault, Mode};
 use std::alloc::Global;
 
 /// How far the program has come.
 #[derive(Drop)]
 pub enum Phase<L> {
-    /// None was launched, or it has ended.
+    /// None was launched.
     NoProgram,
     /// It is loaded, and waits to be started. Whether it is to stop where it begins.
     Configuring(L, bool),
     Running(L, Mode),
     Stopped(L),
+    /// It is kept, so that breakpoints asked for are answered.
+    Ended(L),
 }
 
 impl<L> Phase<L> {
@@ -24,8 +26,10 @@ impl<L> Phase<L> {
     {
         match self {
             Phase::NoProgram => None,
-            Phase::Configuring(program, _) | Phase::Running(program, _) | Phase::Stopped(program) =>
-                { Some(program) }
+            Phase::Configuring(program, _)
+            | Phase::Running(program, _)
+            | Phase::Stopped(program)
+            | Phase::Ended(program) => Some(program),
         }
     }
 }
@@ -36,7 +40,7 @@ pub struct State<L> {
     pub phase: Phase<L>,
     pub path: String,
     /// Why the step that was tried last can't be taken, if it can't.
-    pub fault: Option<String>,
+    pub fault: Option<Fault>,
     pub breakpoints: Vec<Breakpoint>,
 }
 

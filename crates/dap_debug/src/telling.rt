@@ -112,8 +112,8 @@ fn tell_end(alloc: Global, halt: &Option<Halt>, events: &mut Vec<Event>) -> Resu
         None => {}
         Some(Halt::AtBreakpoint) => events.push(stopped(alloc, "breakpoint", None)?)?,
         Some(Halt::AtStep) => events.push(stopped(alloc, "step", None)?)?,
-        Some(Halt::AtFault(why)) => {
-            events.push(stopped(alloc, "exception", Some(why.as_str()))?)?;
+        Some(Halt::AtFault(fault)) => {
+            events.push(stopped(alloc, "exception", Some(fault.text.as_str()))?)?;
         }
         Some(Halt::AtEnd(status)) => {
             events.push(exited(alloc, *status)?)?;

@@ -1,46 +1,90 @@
--- Marks of places: where there is none, no breakpoint is.
-use Rattle.std.proofs.Common.{◌≡◌, ◌≢◌, ◌⊎◌, ◌||◌, subst, inl, inr, ℕ, ◌+◌, ◌%◌, ◌<◌, Bool, true, false, ◌&&◌, nat_eq, List, [], ◌∷◌, ◌++◌, ◌∙◌, refl, sym, ap, map, take, length, get_or, slice_set, Option, None, Some}
-use Rattle.std.specs.Prelude.{if◌then◌else◌, is_none}
-use Rattle.std.specs.List.{list_any}
+-- Marks of places: a program arrives only at breakpoints that share a mark with its place.
+use Rattle.std.proofs.Common.{◌≡◌, ◌≢◌, ◌⊎◌, ◌≤◌, ◌<◌, subst, inl, inr, ℕ, ◌+◌, ◌-◌, ◌%◌, zero, suc, Bool, true, false, ◌&&◌, nat_eq, List, [], ◌∷◌, ◌∙◌, refl, sym, ap, map, length, get_or, slice_set, None, Some, arith}
+use Rattle.std.specs.Prelude.{if◌then◌else◌}
+use Rattle.std.proofs.Math.ListN.{get_or-map}
 use Rattle.std.proofs.lemmas.Bool.Decides.{eqb_tells}
-use Rattle.std.proofs.lemmas.List.{take_more, get_or-set_other}
+use Rattle.std.proofs.lemmas.List.{length-map, get_or-set_other}
 use Rattle.std.proofs.lemmas.Grind.{get_or-set_at}
-use Rattle.debuggee.specs.declared.mode.Mode.{Mode}
-use Rattle.debuggee.specs.Plain.{PlainBreakpoint, AtBreakpoint}
-use Rattle.debuggee.specs.Due.{Sight, accepts, arrives, counted, due, holds, is_at, log_of, logs, next_arrival, said, stops}
-use Rattle.debuggee.specs.Marks.{AreMarked, halt_by_mode, is_marked, mark_count}
+use Rattle.debuggee.specs.Plain.{PlainBreakpoint, PlainOutput}
+use Rattle.debuggee.specs.Due.{Sight, arrives, counted, holds, is_at, next_arrival}
+use Rattle.debuggee.specs.Marks.{AreMarked, AreChained, IsNext, mark_at, mark_count, places_of}
+use Rattle.debuggee.proofs.Counting.{Through, through_other}
 
--- ---- one mark more
+abbrev nowhere : PlainBreakpoint
+nowhere = record { place = 0; condition = None; rule = None; arrivals = 0; message = None }
 
--- a mark that is set stays
-stays : (marks : List Bool) (i j : ℕ) → i < length marks → get_or marks j false ≡ true
-    → get_or (slice_set marks i true) j false ≡ true
-stays marks i j within set = by_index (eqb_tells j i)
-  where
-    by_index : ((nat_eq j i ≡ true) × (j ≡ i)) ⊎ ((nat_eq j i ≡ false) × (j ≢ i))
-        → get_or (slice_set marks i true) j false ≡ true
-    by_index (inl same) = get_or-set_at marks i j true false same.1 within
-    by_index (inr other) = get_or-set_other marks i j true false other.1 ∙ set
+-- ---- marks are made from the last breakpoint on
 
-all_stay : (marks : List Bool) (i : ℕ) → i < length marks → (bs : List PlainBreakpoint) → AreMarked marks bs
-    → AreMarked (slice_set marks i true) bs
-all_stay marks i within [] set = set
-all_stay marks i within (b ∷ bs) set =
-    (stays marks i (b.place % mark_count) within set.0, all_stay marks i within bs set.1)
+-- those of the breakpoints from an index on
+pub record ChainedFrom (places first next : List ℕ) (i : ℕ) : Type 0 where
+  pub heads : (mark : ℕ) → mark < mark_count → IsNext places mark i (get_or first mark 0)
+  pub others : (j : ℕ) → i ≤ j → j < length places → IsNext places (mark_at places j) (j + 1) (get_or next j 0)
 
-appended : (marks : List Bool) (bs : List PlainBreakpoint) (b : PlainBreakpoint) → AreMarked marks bs
-    → is_marked marks (Some b.place) ≡ true → AreMarked marks (bs ++ b ∷ [])
-appended marks [] b set here = (here, tt)
-appended marks (first ∷ bs) b set here = (set.0, appended marks bs b set.1 here)
+module _ (places : List ℕ) where
+  pub nothing_more : (mark i : ℕ) → length places ≡ i → IsNext places mark i i
+  nothing_more mark i end = record {
+    reaches = omega arith;
+    within = omega (arith, end);
+    between = λ j low high. absurd (omega (arith, low, high));
+    there = λ lt. absurd (omega (arith, lt, end));
+  }
 
-pub one_more : (marks : List Bool) (bs : List PlainBreakpoint) (n : ℕ) (b : PlainBreakpoint)
-    → b.place % mark_count < length marks → n < length bs → b ≡ get_or bs n b → AreMarked marks (take n bs)
-    → AreMarked (slice_set marks (b.place % mark_count) true) (take (n + 1) bs)
-one_more marks bs n b within lt is set =
-    let new = slice_set marks (b.place % mark_count) true in
-    subst (λ l. AreMarked new l) (ap (λ x. take n bs ++ x ∷ []) is ∙ sym (take_more bs n b lt))
-    (appended new (take n bs) b (all_stay marks (b.place % mark_count) within (take n bs) set)
-    (get_or-set_at marks (b.place % mark_count) (b.place % mark_count) true false refl within))
+  here_next : (mark i : ℕ) → i < length places → mark ≡ mark_at places i → IsNext places mark i i
+  here_next mark i inside same = record {
+    reaches = omega arith;
+    within = omega (arith, inside);
+    between = λ j low high. absurd (omega (arith, low, high));
+    there = λ lt. sym same;
+  }
+
+  one_before : (mark i to : ℕ) → mark ≢ mark_at places i → IsNext places mark (i + 1) to → IsNext places mark i to
+  one_before mark i to other next = record {
+    reaches = omega (arith, next.reaches);
+    within = next.within;
+    between = λ j low high. by_index j low high (eqb_tells j i);
+    there = next.there;
+  }
+    where
+      by_index : (j : ℕ) → i ≤ j → j < to → ((nat_eq j i ≡ true) × (j ≡ i)) ⊎ ((nat_eq j i ≡ false) × (j ≢ i))
+          → mark_at places j ≢ mark
+      by_index j low high (inl same) = λ is. other (sym (sym (ap (mark_at places) same.1) ∙ is))
+      by_index j low high (inr apart) = next.between j (omega (arith, low, apart.1)) high
+
+  pub one_back : (first next : List ℕ) (i : ℕ) → i < length places → length first ≡ mark_count
+      → length next ≡ length places → mark_at places i < mark_count → ChainedFrom places first next (i + 1)
+      → ChainedFrom places (slice_set first (mark_at places i) i)
+      (slice_set next i (get_or first (mark_at places i) 0)) i
+  one_back first next i inside firsts nexts less later =
+      record {
+        heads = λ mark lt. by_mark mark lt (eqb_tells mark (mark_at places i));
+        others = λ j low lt. by_index j low lt (eqb_tells j i);
+      }
+    where
+      by_mark : (mark : ℕ) → mark < mark_count
+          → ((nat_eq mark (mark_at places i) ≡ true) × (mark ≡ mark_at places i))
+          ⊎ ((nat_eq mark (mark_at places i) ≡ false) × (mark ≢ mark_at places i))
+          → IsNext places mark i (get_or (slice_set first (mark_at places i) i) mark 0)
+      by_mark mark lt (inl same) =
+          subst (IsNext places mark i)
+          (sym (get_or-set_at first (mark_at places i) mark i 0 same.1 (omega (arith, firsts, less))))
+          (here_next mark i inside same.1)
+      by_mark mark lt (inr apart) =
+          subst (IsNext places mark i) (sym (get_or-set_other first (mark_at places i) mark i 0 apart.1))
+          (one_before mark i (get_or first mark 0) apart.1 (later.heads mark lt))
+
+      by_index : (j : ℕ) → i ≤ j → j < length places
+          → ((nat_eq j i ≡ true) × (j ≡ i)) ⊎ ((nat_eq j i ≡ false) × (j ≢ i))
+          → IsNext places (mark_at places j) (j + 1)
+          (get_or (slice_set next i (get_or first (mark_at places i) 0)) j 0)
+      by_index j low lt (inl same) =
+          subst (IsNext places (mark_at places j) (j + 1))
+          (sym (get_or-set_at next i j (get_or first (mark_at places i) 0) 0 same.1 (omega (arith, nexts, inside))))
+          (subst (λ n. IsNext places (mark_at places n) (n + 1) (get_or first (mark_at places i) 0)) (sym same.1)
+          (later.heads (mark_at places i) less))
+      by_index j low lt (inr apart) =
+          subst (IsNext places (mark_at places j) (j + 1))
+          (sym (get_or-set_other next i j (get_or first (mark_at places i) 0) 0 apart.1))
+          (later.others j (omega (arith, low, apart.1)) lt)
 
 -- ---- arrivals change no place
 
@@ -50,58 +94,79 @@ module _ {S : Type 0} (see : Sight S) (s : S) where
   same_place true b = refl
   same_place false b = refl
 
-  pub marked_still : (marks : List Bool) (bs : List PlainBreakpoint) → AreMarked marks bs
-      → AreMarked marks (map (counted see s) bs)
-  marked_still marks [] set = set
-  marked_still marks (b ∷ bs) set =
-      (ap (λ p. is_marked marks (Some p)) (same_place (arrives see s b) b) ∙ set.0, marked_still marks bs set.1)
+  same_places : (bs : List PlainBreakpoint) → places_of (map (counted see s) bs) ≡ places_of bs
+  same_places [] = refl
+  same_places (b ∷ bs) =
+      ap (λ p. p ∷ places_of (map (counted see s) bs)) (same_place (arrives see s b) b)
+      ∙ ap (λ l. b.place ∷ l) (same_places bs)
 
-  -- ---- where there is no mark
+  pub marked_still : (first next : List ℕ) (bs : List PlainBreakpoint) → AreMarked first next bs
+      → AreMarked first next (map (counted see s) bs)
+  marked_still first next bs set = subst (AreChained first next) (sym (same_places bs)) set
 
-  module _ (marks : List Bool) (unmarked : is_marked marks (see.place_of s) ≡ false) where
-    elsewhere : (here : Option ℕ) (place : ℕ) → is_marked marks here ≡ false → is_marked marks (Some place) ≡ true
-        → is_at here place ≡ false
-    elsewhere None place none set = refl
-    elsewhere (Some here) place none set = by_place (eqb_tells here place)
+  -- ---- a program is only where the mark is its place's
+
+  -- where it isn't to stop it arrives at none
+  pub through_nowhere : see.place_of s ≡ None → (old : List PlainBreakpoint) (n : ℕ) (stop : Bool)
+      (now : List PlainBreakpoint) (before after : List PlainOutput) → n ≤ length old
+      → Through see s old 0 stop now before after → Through see s old n stop now before after
+  through_nowhere none old zero stop now before after within so = so
+  through_nowhere none old (suc n) stop now before after within so =
+      let end : n + 1 ≡ suc n = omega arith in
+      subst (λ i. Through see s old i stop now before after) end
+      (through_other see s old n (omega (arith, within)) stop now nowhere before after
+      (through_nowhere none old n stop now before after (omega (arith, within)) so)
+      (ap (λ p. is_at p (get_or old n nowhere).place && holds see s (get_or old n nowhere).condition) none))
+
+  -- it has arrived at those before an index, which has the mark of the place, or is the end
+  pub record Reaches (here : ℕ) (old : List PlainBreakpoint) (i : ℕ) (stop : Bool) (now : List PlainBreakpoint)
+      (before after : List PlainOutput) : Type 0 where
+    pub through : Through see s old i stop now before after
+    pub within : i ≤ length old
+    pub there : i < length old → mark_at (places_of old) i ≡ here % mark_count
+
+  module _ (here : ℕ) (at : see.place_of s ≡ Some here) (old : List PlainBreakpoint) where
+    elsewhere : (i : ℕ) → mark_at (places_of old) i ≢ here % mark_count
+        → arrives see s (get_or old i nowhere) ≡ false
+    elsewhere i other = by_place (eqb_tells here (get_or old i nowhere).place)
       where
-        by_place : ((nat_eq here place ≡ true) × (here ≡ place)) ⊎ ((nat_eq here place ≡ false) × (here ≢ place))
-            → nat_eq here place ≡ false
-        by_place (inl same) =
-            let so : is_marked marks (Some here) ≡ is_marked marks (Some place)
-            = ap (λ p. is_marked marks (Some p)) same.1 in cc
-        by_place (inr other) = other.0
+        place : get_or (places_of old) i 0 ≡ (get_or old i nowhere).place
+        place = get_or-map (λ b. b.place) old i nowhere
 
-    never : (b : PlainBreakpoint) → is_marked marks (Some b.place) ≡ true → arrives see s b ≡ false
-    never b set = ap (λ at. at && holds see s b.condition) (elsewhere (see.place_of s) b.place unmarked set)
+        by_place : ((nat_eq here (get_or old i nowhere).place ≡ true) × (here ≡ (get_or old i nowhere).place))
+            ⊎ ((nat_eq here (get_or old i nowhere).place ≡ false) × (here ≢ (get_or old i nowhere).place))
+            → arrives see s (get_or old i nowhere) ≡ false
+        by_place (inl same) = absurd (other (ap (λ p. p % mark_count) (place ∙ sym same.1)))
+        by_place (inr apart) =
+            let b = get_or old i nowhere in
+            ap (λ p. is_at p b.place && holds see s b.condition) at ∙ ap (λ v. v && holds see s b.condition) apart.0
 
-    false_last : (v : Bool) → (v && false) ≡ false
-    false_last true = refl
-    false_last false = refl
+    through_rest : (k i : ℕ) (stop : Bool) (now : List PlainBreakpoint) (before after : List PlainOutput)
+        → i + k ≤ length old
+        → ((j : ℕ) → i ≤ j → j < i + k → mark_at (places_of old) j ≢ here % mark_count)
+        → Through see s old i stop now before after → Through see s old (i + k) stop now before after
+    through_rest zero i stop now before after within none so =
+        let end : i ≡ i + 0 = omega arith in subst (λ n. Through see s old n stop now before after) end so
+    through_rest (suc k) i stop now before after within none so =
+        let inside : i < length old = omega (arith, within) in
+        let end : (i + 1) + k ≡ i + suc k = omega arith in
+        subst (λ n. Through see s old n stop now before after) end
+        (through_rest k (i + 1) stop now before after (omega (arith, within))
+        (λ j low high. none j (omega (arith, low)) (omega (arith, high)))
+        (through_other see s old i inside stop now nowhere before after so
+        (elsewhere i (none i (omega arith) (omega arith)))))
 
-    none_stops : (bs : List PlainBreakpoint) → AreMarked marks bs → list_any (stops see s) bs ≡ false
-    none_stops [] set = refl
-    none_stops (b ∷ bs) set =
-        let one : stops see s b ≡ false
-        = ap (λ here. is_none b.message && (here && accepts b.rule (next_arrival b))) (never b set.0)
-        ∙ false_last (is_none b.message) in
-        ap (λ stop. stop || list_any (stops see s) bs) one ∙ none_stops bs set.1
-
-    pub none_counted : (bs : List PlainBreakpoint) → AreMarked marks bs → bs ≡ map (counted see s) bs
-    none_counted [] set = refl
-    none_counted (b ∷ bs) set =
-        let one : b ≡ counted see s b
-        = sym (ap (λ (here : Bool). if here then record b { arrivals = next_arrival b } else b) (never b set.0)) in
-        ap (λ x. x ∷ bs) one ∙ ap (λ l. counted see s b ∷ l) (none_counted bs set.1)
-
-    pub none_logs : (bs : List PlainBreakpoint) → AreMarked marks bs → logs see s bs ≡ []
-    none_logs [] set = refl
-    none_logs (b ∷ bs) set =
-        let one : log_of see s b ≡ []
-        = ap (λ (here : Bool). if here && accepts b.rule (next_arrival b) then said see s b.message else [])
-        (never b set.0) in
-        ap (λ l. l ++ logs see s bs) one ∙ none_logs bs set.1
-
-    pub due_by_mode : (mode : Mode) (bs : List PlainBreakpoint) → AreMarked marks bs
-        → halt_by_mode see mode s ≡ due see mode bs s
-    due_by_mode mode bs set =
-        sym (ap (λ (stop : Bool). if stop then Some AtBreakpoint else halt_by_mode see mode s) (none_stops bs set))
+    pub reach_next : (i to : ℕ) (stop : Bool) (now : List PlainBreakpoint) (before after : List PlainOutput)
+        → IsNext (places_of old) (here % mark_count) i to → Through see s old i stop now before after
+        → Reaches here old to stop now before after
+    reach_next i to stop now before after next so =
+        let end : i + (to - i) ≡ to = omega (arith, next.reaches) in
+        let long = length-map old (λ (b : PlainBreakpoint). b.place) in
+        let within : to ≤ length old = omega (arith, next.within, long) in
+        record {
+          through = subst (λ n. Through see s old n stop now before after) end
+              (through_rest (to - i) i stop now before after (omega (arith, end, within))
+              (λ j low high. next.between j low (omega (arith, high, end))) so);
+          within = within;
+          there = λ lt. next.there (omega (arith, lt, long));
+        }

@@ -10,3 +10,5 @@ pub mod Marks
 pub mod WorkedRuns
 -- runs, one after another
 pub mod Laws
+-- frames, scopes and variables as data without addresses
+pub mod Shown

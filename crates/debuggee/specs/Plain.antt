@@ -6,6 +6,7 @@ use Rattle.debuggee.specs.declared.breakpoint.Part.TheVariants as part
 use Rattle.debuggee.specs.declared.breakpoint.Rule.{Rule}
 use Rattle.debuggee.specs.declared.debuggee.Evaluated.{Evaluated}
 use Rattle.debuggee.specs.declared.debuggee.Evaluated.TheVariants as evaluated
+use Rattle.debuggee.specs.declared.debuggee.Fault.{Fault}
 use Rattle.debuggee.specs.declared.debuggee.Step.{Step}
 use Rattle.debuggee.specs.declared.debuggee.Step.TheVariants as step
 use Rattle.debuggee.specs.declared.halt.Halt.{Halt}
@@ -13,18 +14,26 @@ use Rattle.debuggee.specs.declared.halt.Halt.TheVariants as halt
 use Rattle.debuggee.specs.declared.halt.Output.{Output}
 use Rattle.debuggee.specs.declared.halt.Output.TheVariants as output
 
+-- why a step can't be taken: what all faults of its kind are called, and what the user is told
+pub record PlainFault : Type 0 where
+  pub name : List ℕ
+  pub text : List ℕ
+
+abbrev pub plain_fault : Fault → PlainFault
+plain_fault fault = record { name = string_bytes fault.name; text = string_bytes fault.text }
+
 -- what a step does: a text that it prints, the status of the end, why it can't be taken
 pub data PlainStep : Type 0 where
   Goes : PlainStep
   Prints : List ℕ → PlainStep
   Ends : ℕ → PlainStep
-  Fails : List ℕ → PlainStep
+  Fails : PlainFault → PlainStep
 
 abbrev pub plain_step : Step → PlainStep
 plain_step step.Goes = Goes
 plain_step (step.Prints text) = Prints (string_bytes text)
 plain_step (step.Ends status) = Ends status
-plain_step (step.Fails why) = Fails (string_bytes why)
+plain_step (step.Fails why) = Fails (plain_fault why)
 
 -- a value's text, and whether a condition with this value holds; or why there is none
 pub data PlainEvaluated : Type 0 where
@@ -66,13 +75,13 @@ pub data PlainHalt : Type 0 where
   AtBreakpoint : PlainHalt
   AtStep : PlainHalt
   AtEnd : ℕ → PlainHalt
-  AtFault : List ℕ → PlainHalt
+  AtFault : PlainFault → PlainHalt
 
 abbrev pub plain_halt : Halt → PlainHalt
 plain_halt halt.AtBreakpoint = AtBreakpoint
 plain_halt halt.AtStep = AtStep
 plain_halt (halt.AtEnd status) = AtEnd status
-plain_halt (halt.AtFault why) = AtFault (string_bytes why)
+plain_halt (halt.AtFault why) = AtFault (plain_fault why)
 
 -- what is told: what the program prints, and what messages say
 pub data PlainOutput : Type 0 where

@@ -5,7 +5,7 @@ use Rattle.std.specs.Str.{bytes_eq}
 use Rattle.debuggee.specs.declared.breakpoint.Rule.{Rule}
 use Rattle.debuggee.specs.declared.breakpoint.Rule.TheVariants.{From, Exactly, Every}
 use Rattle.debuggee.specs.declared.mode.Mode.TheVariants.{Continue, In, Over, Out}
-use Rattle.debuggee.specs.Plain.{PlainStep, Goes, Prints, Ends, Fails, Value, NoValue, Text, Expression, PlainBreakpoint, AtBreakpoint, AtStep, AtEnd, AtFault, Printed, Logged}
+use Rattle.debuggee.specs.Plain.{PlainFault, PlainStep, Goes, Prints, Ends, Fails, Value, NoValue, Text, Expression, PlainBreakpoint, AtBreakpoint, AtStep, AtEnd, AtFault, Printed, Logged}
 use Rattle.debuggee.specs.Due.{Sight, counted, accepts, stops, due, logs}
 use Rattle.debuggee.specs.Runs.{Meaning, Runs}
 
@@ -14,6 +14,9 @@ use Rattle.debuggee.specs.Runs.{Meaning, Runs}
 abbrev pub digit : ℕ → List ℕ
 digit n = (48 + n) ∷ []
 
+abbrev pub stuck : PlainFault
+stuck = record { name = codes "Stuck"; text = codes "it is stuck" }
+
 -- States 0 and 2 to 4 print their number; 1 prints nothing. 5 is the end, with status 7. No step can be taken from a
 -- later one.
 abbrev pub step_of : ℕ → PlainStep
@@ -21,7 +24,7 @@ step_of n =
     if nat_eq n 1 then Goes
     else if nat_le n 4 then Prints (digit n)
     else if nat_eq n 5 then Ends 7
-    else Fails (codes "stuck")
+    else Fails stuck
 
 -- the next state has the next number
 abbrev pub takes : Meaning ℕ
@@ -123,5 +126,5 @@ RunStops =
 abbrev pub RunsEnd : Type 0
 RunsEnd =
     Runs takes see Continue 4 [] (Some (AtEnd 7)) 5 [] [] (Printed (codes "4") ∷ [])
-    × Runs takes see In 6 [] (Some (AtFault (codes "stuck"))) 6 [] [] []
+    × Runs takes see In 6 [] (Some (AtFault stuck)) 6 [] [] []
     × Runs takes see (Out 1) 0 [] None 2 [] [] (Printed (codes "0") ∷ [])

@@ -4,13 +4,13 @@ ghost use Rattle.std.specs.Prelude.{◌≡◌, IfOk, map, option_map, string_byt
 ghost use Rattle.std.specs.List.{flat_map};
 ghost use Rattle.debuggee.specs.Plain.{plain_breakpoint, plain_halt, plain_output, plain_part};
 ghost use Rattle.debuggee.specs.Due.{accepts, arrives, is_asked, part_text};
-ghost use Rattle.debuggee.specs.Marks.{AreMarked, halt_by_mode};
+ghost use Rattle.debuggee.specs.Marks.{AreMarked, halt_of};
 ghost use Rattle.debuggee.specs.Runs.{Arrives, ArrivesAt, ArrivesAll};
 
 use crate::breakpoint::{Breakpoint, Part};
 use crate::debuggee::{Debuggee, Evaluated};
 use crate::halt::{Halt, Output};
-use crate::marks::{MARKS, is_marked};
+use crate::marks::{MARKS, Marks, looks_of};
 use crate::mode::Mode;
 use std::alloc::{AllocError, Global};
 
@@ -31,57 +31,40 @@ pub fn arrive<D: Debuggee>(
         (option_map plain_halt halt) (map plain_breakpoint breakpoints.new.items) (map plain_output told.old.items)
         (map plain_output told.new.items)) }
 {
-    arrive_at_place(alloc, debuggee, debuggee.place(), breakpoints, mode, told)
+    let place = debuggee.place();
+    let stops = arrive_all(alloc, debuggee, place, breakpoints, told)?;
+    Ok(halt_of(debuggee, place, stops, mode))
 }
 
-/// Does the same as `arrive`, and looks at breakpoints only where the place has a mark. Adds how many it looks at.
+/// Does the same as `arrive`, and looks only at breakpoints that share a mark with the place. Adds as how many looks that
+/// counts.
 pub(crate) fn arrive_by_marks<D: Debuggee>(
     alloc: Global,
     debuggee: &D,
     breakpoints: &mut Vec<Breakpoint>,
-    marks: &[bool; MARKS],
+    marks: &Marks,
     mode: Mode,
     told: &mut Vec<Output>,
     looks: &mut usize,
 ) -> Result<Option<Halt>, AllocError>
-    requires { AreMarked marks.now (map plain_breakpoint breakpoints.old.items) }
+    requires { AreMarked marks.now.first marks.now.next.items (map plain_breakpoint breakpoints.old.items) }
     ensures { IfOk result (λ halt. Arrives D.sees mode debuggee.now (map plain_breakpoint breakpoints.old.items)
         (option_map plain_halt halt) (map plain_breakpoint breakpoints.new.items) (map plain_output told.old.items)
         (map plain_output told.new.items)) }
 {
     let place = debuggee.place();
-    if is_marked(place, marks) {
-        *looks = looks.saturating_add(breakpoints.len());
-        return arrive_at_place(alloc, debuggee, place, breakpoints, mode, told);
-    }
-    Ok(halt_by_mode(debuggee, place, mode))
+    let stops = arrive_marked(alloc, debuggee, place, breakpoints, marks, told, looks)?;
+    Ok(halt_of(debuggee, place, stops, mode))
 }
 
-/// Does the same as `arrive`, where the program is at this place.
-fn arrive_at_place<D: Debuggee>(
-    alloc: Global,
-    debuggee: &D,
-    place: Option<usize>,
-    breakpoints: &mut Vec<Breakpoint>,
-    mode: Mode,
-    told: &mut Vec<Output>,
-) -> Result<Option<Halt>, AllocError>
+/// Returns why the program is to stop, if it is: because a breakpoint stops it, or the mode asks for it.
+fn halt_of<D: Debuggee>(debuggee: &D, place: Option<usize>, stops: bool, mode: Mode) -> Option<Halt>
     requires { place ≡ D.sees.place_of debuggee.now }
-    ensures { IfOk result (λ halt. Arrives D.sees mode debuggee.now (map plain_breakpoint breakpoints.old.items)
-        (option_map plain_halt halt) (map plain_breakpoint breakpoints.new.items) (map plain_output told.old.items)
-        (map plain_output told.new.items)) }
+    ensures { option_map plain_halt result ≡ halt_of D.sees mode stops debuggee.now }
 {
-    if arrive_all(alloc, debuggee, place, breakpoints, told)? {
-        return Ok(Some(Halt::AtBreakpoint));
+    if stops {
+        return Some(Halt::AtBreakpoint);
     }
-    Ok(halt_by_mode(debuggee, place, mode))
-}
-
-/// Returns why the program is to stop where no breakpoint stops it, if it is.
-fn halt_by_mode<D: Debuggee>(debuggee: &D, place: Option<usize>, mode: Mode) -> Option<Halt>
-    requires { place ≡ D.sees.place_of debuggee.now }
-    ensures { option_map plain_halt result ≡ halt_by_mode D.sees mode debuggee.now }
-{
     if is_asked(debuggee, place, mode) {
         return Some(Halt::AtStep);
     }
@@ -93,7 +76,7 @@ fn is_asked<D: Debuggee>(debuggee: &D, place: Option<usize>, mode: Mode) -> bool
     requires { place ≡ D.sees.place_of debuggee.now }
     ensures { result ≡ is_asked D.sees mode debuggee.now }
 {
-    mode.asks(debuggee.depth()) && place.is_some()
+    place.is_some() && !matches!(mode, Mode::Continue) && mode.asks(debuggee.depth())
 }
 
 /// Counts the arrivals at all breakpoints, and returns whether one stops the program.
@@ -111,7 +94,38 @@ fn arrive_all<D: Debuggee>(
     let mut stops = false;
     for breakpoint in breakpoints.iter_mut() {
         let here = arrive_at(alloc, debuggee, place, breakpoint, told)?;
-        stops = stops || here;
+        stops |= here;
+    }
+    Ok(stops)
+}
+
+/// Does the same, where the marks are those of the breakpoints, and looks only at those that share a mark with the place.
+fn arrive_marked<D: Debuggee>(
+    alloc: Global,
+    debuggee: &D,
+    place: Option<usize>,
+    breakpoints: &mut Vec<Breakpoint>,
+    marks: &Marks,
+    told: &mut Vec<Output>,
+    looks: &mut usize,
+) -> Result<bool, AllocError>
+    requires at { place ≡ D.sees.place_of debuggee.now }
+    requires marked { AreMarked marks.now.first marks.now.next.items (map plain_breakpoint breakpoints.old.items) }
+    ensures { IfOk result (λ stops. ArrivesAll D.sees debuggee.now (map plain_breakpoint breakpoints.old.items) stops
+        (map plain_breakpoint breakpoints.new.items) (map plain_output told.old.items) (map plain_output told.new.items)) }
+{
+    let here = match place {
+        Some(here) => here,
+        None => return Ok(false),
+    };
+    let mut stops = false;
+    let mut index = marks.first[here % MARKS];
+    while index < breakpoints.len() {
+        let breakpoint = &mut breakpoints[index];
+        *looks = looks.saturating_add(looks_of(breakpoint));
+        let stops_here = arrive_at(alloc, debuggee, place, breakpoint, told)?;
+        stops |= stops_here;
+        index = marks.next[index];
     }
     Ok(stops)
 }
@@ -168,10 +182,7 @@ fn arrives<D: Debuggee>(
     match place {
         Some(here) if here == breakpoint.place => match &breakpoint.condition {
             None => Ok(true),
-            Some(condition) => match debuggee.evaluate(alloc, 0, condition.as_str())? {
-                Evaluated::Value(_, holds) => Ok(holds),
-                Evaluated::NoValue(_) => Ok(true),
-            },
+            Some(condition) => debuggee.holds(alloc, condition.as_str()),
         },
         _ => Ok(false),
     }

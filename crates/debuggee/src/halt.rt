@@ -1,5 +1,7 @@
 //! What comes of a run.
 
+use crate::debuggee::Fault;
+
 /// Why a run halts.
 #[derive(Drop)]
 pub enum Halt {
@@ -10,7 +12,7 @@ pub enum Halt {
     /// The program has ended, with this status.
     AtEnd(u64),
     /// A step can't be taken, and why.
-    AtFault(String),
+    AtFault(Fault),
 }
 
 /// What is told of a run.

@@ -13,6 +13,7 @@ mod arriving;
 mod breakpoint;
 mod debuggee;
 mod halt;
+mod language;
 mod laws;
 mod marks;
 mod mode;
@@ -20,8 +21,9 @@ mod running;
 
 pub use arriving::arrive;
 pub use breakpoint::{Breakpoint, Part, Rule};
-pub use debuggee::{Debuggee, Evaluated, Step};
+pub use debuggee::{Debuggee, Evaluated, Fault, Step};
 pub use halt::{Halt, Output};
+pub use language::{Frame, Language, Location, Page, Variable};
 pub use laws::{run_laws, worked_debuggee};
 pub use mode::Mode;
 pub use running::run;

@@ -9,7 +9,7 @@ use crate::arriving::arrive_by_marks;
 use crate::breakpoint::Breakpoint;
 use crate::debuggee::{Debuggee, Step};
 use crate::halt::{Halt, Output};
-use crate::marks::{MARKS, marks_of};
+use crate::marks::{Marks, marks_of};
 use crate::mode::Mode;
 use std::alloc::{AllocError, Global};
 
@@ -34,7 +34,7 @@ pub fn run<D: Debuggee>(
         (option_map plain_halt halt) debuggee.new (map plain_breakpoint breakpoints.new.items)
         (map plain_output told.old.items) (map plain_output told.new.items)) }
 {
-    let marks = marks_of(breakpoints);
+    let marks = marks_of(alloc, breakpoints)?;
     let mut looks = 0;
     match pass_or_halt(alloc, debuggee, breakpoints, &marks, mode, told, &mut looks)? {
         Some(halt) => Ok(Some(halt)),
@@ -42,18 +42,18 @@ pub fn run<D: Debuggee>(
     }
 }
 
-/// Runs a program up to the last step of a slice. Adds how many breakpoints it looks at.
+/// Runs a program up to the last step of a slice. Adds as how many looks it counts.
 fn pass_or_halt<D: Debuggee>(
     alloc: Global,
     debuggee: &mut D,
     breakpoints: &mut Vec<Breakpoint>,
-    marks: &[bool; MARKS],
+    marks: &Marks,
     mode: Mode,
     told: &mut Vec<Output>,
     looks: &mut usize,
 ) -> Result<Option<Halt>, AllocError>
-    requires { AreMarked marks.now (map plain_breakpoint breakpoints.old.items) }
-    ensures { IfOk result (λ halt. PassesOrHalts D.takes D.sees mode marks.now debuggee.old
+    requires { AreMarked marks.now.first marks.now.next.items (map plain_breakpoint breakpoints.old.items) }
+    ensures { IfOk result (λ halt. PassesOrHalts D.takes D.sees mode marks.now.first marks.now.next.items debuggee.old
         (map plain_breakpoint breakpoints.old.items) (option_map plain_halt halt) debuggee.new
         (map plain_breakpoint breakpoints.new.items) (map plain_output told.old.items)
         (map plain_output told.new.items)) }
@@ -70,17 +70,17 @@ fn pass_or_halt<D: Debuggee>(
     Ok(None)
 }
 
-/// Takes a step, and returns why the run halts after it, if it does. Adds how many breakpoints it looks at.
+/// Takes a step, and returns why the run halts after it, if it does. Adds as how many looks it counts.
 fn advance<D: Debuggee>(
     alloc: Global,
     debuggee: &mut D,
     breakpoints: &mut Vec<Breakpoint>,
-    marks: &[bool; MARKS],
+    marks: &Marks,
     mode: Mode,
     told: &mut Vec<Output>,
     looks: &mut usize,
 ) -> Result<Option<Halt>, AllocError>
-    requires { AreMarked marks.now (map plain_breakpoint breakpoints.old.items) }
+    requires { AreMarked marks.now.first marks.now.next.items (map plain_breakpoint breakpoints.old.items) }
     ensures { IfOk result (λ halt. Added (Advances D.takes D.sees mode debuggee.old
         (map plain_breakpoint breakpoints.old.items) (option_map plain_halt halt) debuggee.new
         (map plain_breakpoint breakpoints.new.items)) (map plain_output told.old.items) (map plain_output told.new.items)) }

@@ -14,7 +14,10 @@ fn main(rt: HostRuntime) -> ExitCode {
     let mut output = Writing::new(&rt, rt.stdout());
     match serve_language::<Machine, _, _, _>(&rt, rt.alloc(), rt.stdin(), &mut output) {
         Ok(_) => ExitCode::SUCCESS,
-        Err(fault) => ExitCode::from(status(fault)),
+        Err(fault) => {
+            let _ = eprintln!(rt; "stack_adapter: {fault:?}");
+            ExitCode::from(status(fault))
+        }
     }
 }
 

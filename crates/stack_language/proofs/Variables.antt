@@ -4,8 +4,8 @@ use Rattle.std.specs.Prelude.{map}
 use Rattle.std.proofs.lemmas.List.{map-append}
 use Rattle.std.proofs.lemmas.List.FromFn.{map-range_with_len_more}
 use Rattle.std.specs.List.{range_with_len}
-use Rattle.dap_debug.specs.Shown.{PlainVariable, plain_variable}
-use Rattle.dap_debug.specs.declared.language.Variable.{Variable}
+use Rattle.debuggee.specs.Shown.{PlainVariable, plain_variable}
+use Rattle.debuggee.specs.declared.language.Variable.{Variable}
 
 pub one_more : (all new : List Variable) (one : Variable) (f : ℕ → PlainVariable) (n : ℕ) → new ≡ all ++ one ∷ []
     → map plain_variable all ≡ map f (range_with_len 0 n) → plain_variable one ≡ f n

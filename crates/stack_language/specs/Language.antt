@@ -141,6 +141,12 @@ done_at (Some instruction) s = done instruction s
 abbrev pub next_of : List Instruction → PlainState → Done
 next_of program s = done_at (slice_get program s.line) s
 
+abbrev pub name_of : Fault → List ℕ
+name_of Overflow = codes "Overflow"
+name_of DivisionByZero = codes "DivisionByZero"
+name_of TooFew = codes "TooFew"
+name_of TooMany = codes "TooMany"
+
 abbrev pub reason : Fault → List ℕ
 reason Overflow = codes "overflow"
 reason DivisionByZero = codes "division by zero"
@@ -152,7 +158,7 @@ abbrev pub step_of : Outcome → PlainStep
 step_of Went = Goes
 step_of (Printed number) = Prints (signed_decimal number ++ codes "\n")
 step_of Ended = Ends 0
-step_of (Failed fault) = Fails (reason fault)
+step_of (Failed fault) = Fails (record { name = name_of fault; text = reason fault })
 
 -- The steps of a program, which stays the same.
 abbrev pub takes : Machine → PlainStep → Machine → Type 0

@@ -10,3 +10,5 @@ pub mod WorkedText
 pub mod WorkedSteps
 -- worked examples of what is seen and shown
 pub mod WorkedShown
+-- laws of the language
+pub mod Laws

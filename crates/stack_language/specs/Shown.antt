@@ -1,12 +1,12 @@
 -- Defines lines and frames, what a debugger sees of a state, and what a client is shown.
-use Rattle.std.specs.Prelude.{◌≡◌, ◌≤◌, ◌<◌, ◌+◌, ◌-◌, ◌^◌, ℕ, min, map, ℤ, pos, Bool, true, false, not, nat_eq, List, [], ◌∷◌, ◌++◌, length, codes, decimal, slice_get, unwrap_or, Option, None, Some, Result, Ok, Err, if◌then◌else◌}
+use Rattle.std.specs.Prelude.{◌≡◌, ◌≤◌, ◌<◌, ◌+◌, ◌-◌, ◌^◌, ℕ, min, map, ℤ, pos, Bool, true, false, not, nat_eq, nat_le, List, [], ◌∷◌, ◌++◌, length, codes, decimal, slice_get, unwrap_or, Option, None, Some, Result, Ok, Err, if◌then◌else◌}
 use Rattle.std.specs.Fmt.{signed_decimal}
 use Rattle.std.specs.List.{range_with_len}
 use Rattle.std.specs.Option.{option_map_or}
 use Rattle.std.specs.Ordering.{int_eq}
 use Rattle.std.specs.Str.Lines.{lines}
-use Rattle.dap_debug.specs.Shown.{PlainFrame, PlainVariable, PlainScope}
-use Rattle.dap_debug.specs.declared.language.Location.{Location}
+use Rattle.debuggee.specs.Shown.{PlainFrame, PlainVariable, Shows, nothing_shown}
+use Rattle.debuggee.specs.declared.language.Location.{Location}
 use Rattle.debuggee.specs.Due.{Sight}
 use Rattle.debuggee.specs.Plain.{PlainEvaluated, Value, NoValue}
 use Rattle.stack_language.specs.declared.machine.Machine.{Machine}
@@ -50,14 +50,28 @@ line_of_frame m frame =
     if nat_eq frame 0 then m.state.line
     else unwrap_or (slice_get m.state.returns.items (call_count m - frame)) 0 - 1
 
+-- the line that an instruction calls
+abbrev pub called : Option Instruction → Option ℕ
+called (Some (instruction.Call line)) = Some line
+called _ = None
+
+-- The line that was called when a frame was made: the call stands where the frame before it does. No call made the
+-- oldest.
+abbrev pub line_called : Machine → ℕ → Option ℕ
+line_called m frame =
+    if nat_le (call_count m) frame then None else called (slice_get m.program.items (line_of_frame m (frame + 1)))
+
 -- ---- expressions
 
 -- a condition holds unless its value is 0
 abbrev pub evaluated : ℤ → PlainEvaluated
 evaluated value = Value (signed_decimal value) (not (int_eq value (pos 0)))
 
+abbrev pub no_variable : List ℕ
+no_variable = codes "no variable has this name"
+
 abbrev pub value_at : Machine → Option ℕ → PlainEvaluated
-value_at m None = NoValue (codes "no variable has this name")
+value_at m None = NoValue no_variable
 value_at m (Some variable) = evaluated (value_of variable (plain_state m.state))
 
 -- ---- what a debugger sees
@@ -91,22 +105,43 @@ first_place m line None = IsFirstFrom m (line - 1) None
 first_place m line (Some location) =
     IsFirstFrom m (line - 1) (Some location.place) × (location.line ≡ shown_line location.place)
 
--- the oldest frame is called `main`
+-- a condition that is no name of a variable is a mistake
+abbrev pub mistake_of : Machine → ℕ → List ℕ → List ℕ → Type 0
+mistake_of m place condition mistake = (variable_named condition ≡ None) × (mistake ≡ no_variable)
+
+-- a frame is called after the line that was called, and the oldest `main`
+abbrev pub name_of_call : Option ℕ → List ℕ
+name_of_call None = codes "main"
+name_of_call (Some line) = codes "line " ++ decimal (shown_line line)
+
+abbrev pub name_of_frame : Machine → ℕ → List ℕ
+name_of_frame m index = name_of_call (line_called m index)
+
 abbrev pub frame_of : Machine → ℕ → PlainFrame → Type 0
 frame_of m index frame =
     frame ≡ record {
-      name = if nat_eq index (call_count m) then codes "main" else codes "call";
+      name = name_of_frame m index;
       line = shown_line (line_of_frame m index);
       column = 1;
     }
 
 abbrev pub variable_of : PlainState → ℕ → PlainVariable
-variable_of s variable = record { name = (first_letter + variable) ∷ []; value = signed_decimal (value_of variable s) }
+variable_of s variable =
+    record { name = (first_letter + variable) ∷ []; value = signed_decimal (value_of variable s); inside = None }
 
 -- each frame has one scope, with all variables
-abbrev pub scopes_of : Machine → ℕ → List PlainScope → Type 0
-scopes_of m frame scopes =
-    scopes ≡ record {
-      name = codes "variables";
-      variables = map (variable_of (plain_state m.state)) (range_with_len 0 variable_count);
-    } ∷ []
+abbrev pub scopes_of : Machine → ℕ → List (List ℕ) → Type 0
+scopes_of m frame names = names ≡ codes "variables" ∷ []
+
+abbrev pub variables_of : Machine → ℕ → ℕ → List PlainVariable → Type 0
+variables_of m frame scope all = all ≡ map (variable_of (plain_state m.state)) (range_with_len 0 variable_count)
+
+abbrev pub shows : Shows Machine
+shows = record nothing_shown {
+  reads_as = reads_as;
+  first_place = first_place;
+  mistake_of = mistake_of;
+  frame_of = frame_of;
+  scopes_of = scopes_of;
+  variables_of = variables_of;
+}

@@ -2,9 +2,10 @@
 -- definitions.
 use Rattle.std.specs.Prelude.{◌≡◌, ℕ, pos, negsuc, true, false, List, [], ◌∷◌, length, map, replicate, codes, None, Some}
 use Rattle.debuggee.specs.Plain.{Value, NoValue}
-use Rattle.dap_debug.specs.Shown.{PlainFrame, PlainScope, PlainVariable}
+use Rattle.debuggee.specs.Shown.{PlainFrame, PlainVariable}
 use Rattle.stack_language.specs.declared.machine.Machine.{Machine}
-use Rattle.stack_language.specs.Shown.{evaluated, first_place, frame_of, has_instruction, sees, variable_of, scopes_of}
+use Rattle.stack_language.specs.declared.program.Instruction.TheVariants.{Call}
+use Rattle.stack_language.specs.Shown.{evaluated, first_place, frame_of, has_instruction, mistake_of, sees, variable_of, scopes_of, variables_of}
 use Rattle.stack_language.specs.Text.{variable_named}
 use Rattle.stack_language.specs.WorkedSteps.{program, state}
 
@@ -29,7 +30,7 @@ ExpressionsAreSeen =
     × (sees.value_of m 1 (codes "b") ≡ Value (codes "-7") true)
 
 abbrev pub variable : List ℕ → List ℕ → PlainVariable
-variable name value = record { name = name; value = value }
+variable name value = record { name = name; value = value; inside = None }
 
 abbrev pub VariablesAreShown : Type 0
 VariablesAreShown =
@@ -39,9 +40,14 @@ VariablesAreShown =
 -- a frame has one scope, with all variables
 abbrev pub ScopesAreShown : Type 0
 ScopesAreShown =
-    (m : Machine) (scopes : List PlainScope) → scopes_of m 0 scopes
-    → (map (λ scope. scope.name) scopes ≡ codes "variables" ∷ [])
-    × (map (λ scope. length scope.variables) scopes ≡ 26 ∷ [])
+    (m : Machine) (names : List (List ℕ)) (all : List PlainVariable) → scopes_of m 0 names → variables_of m 0 0 all
+    → (names ≡ codes "variables" ∷ []) × (length all ≡ 26)
+
+-- `B` is a mistake as a condition, and `b` is none
+abbrev pub MistakesAreFound : Type 0
+MistakesAreFound =
+    (m : Machine) → mistake_of m 0 (codes "B") (codes "no variable has this name")
+    × ((mistake : List ℕ) → ¬ mistake_of m 0 (codes "b") mistake)
 
 -- a program stops at each line but an empty one
 abbrev pub LinesAreSeen : Type 0
@@ -68,9 +74,10 @@ PlacesAreFound =
 abbrev pub frame : List ℕ → ℕ → PlainFrame
 frame name line = record { name = name; line = line; column = 1 }
 
--- Line 4 comes next. The call that is alive longest returns to line 2, so it is at line 1; the newest is at line 8.
+-- Line 4 comes next. The call that is alive longest returns to line 2, so it is at line 1, where line 4 is called; the
+-- newest is at line 0, where line 2 is called.
 abbrev pub FramesAreShown : Type 0
 FramesAreShown =
-    (m : Machine) → m.state.line ≡ 4 → m.state.returns.items ≡ 2 ∷ 9 ∷ []
-    → frame_of m 0 (frame (codes "call") 5) × frame_of m 1 (frame (codes "call") 9)
+    (m : Machine) → m.program.items ≡ Call 2 ∷ Call 4 ∷ [] → m.state.line ≡ 4 → m.state.returns.items ≡ 2 ∷ 1 ∷ []
+    → frame_of m 0 (frame (codes "line 3") 5) × frame_of m 1 (frame (codes "line 5") 1)
     × frame_of m 2 (frame (codes "main") 2) × (sees.depth_of m ≡ 3)

@@ -1,7 +1,7 @@
 -- States worked examples: what each instruction does, which fail, and the steps of a program. Each was computed from
 -- the definitions.
 use Rattle.std.specs.Prelude.{◌≡◌, ℕ, ◌-◌, ◌^◌, ℤ, pos, negsuc, List, [], ◌∷◌, map, replicate, codes}
-use Rattle.debuggee.specs.Plain.{Goes, Prints, Ends, Fails}
+use Rattle.debuggee.specs.Plain.{PlainStep, Goes, Prints, Ends, Fails}
 use Rattle.stack_language.specs.declared.program.Instruction.{Instruction}
 use Rattle.stack_language.specs.declared.program.Instruction.TheVariants.{Nothing, Push, Load, Store, Calculate, Print, Jump, JumpZero, Call, Return}
 use Rattle.stack_language.specs.declared.program.Operator.TheVariants.{Add, Sub, Mul, Div}
@@ -103,8 +103,13 @@ StepsFollow =
     ∷ to (Printed (pos 40)) (state 5 [] (2 ∷ []) []) ∷ to Went (state 2 [] [] []) ∷ to Ended (state 2 [] [] [])
     ∷ to Ended (state 6 [] [] []) ∷ [])
 
+abbrev pub failing : List ℕ → List ℕ → PlainStep
+failing name text = Fails (record { name = name; text = text })
+
 abbrev pub StepsTell : Type 0
 StepsTell =
     map step_of (Went ∷ Printed (negsuc 6) ∷ Ended ∷ map Failed (Overflow ∷ DivisionByZero ∷ TooFew ∷ TooMany ∷ []))
-    ≡ Goes ∷ Prints (codes "-7\n") ∷ Ends 0 ∷ Fails (codes "overflow") ∷ Fails (codes "division by zero")
-    ∷ Fails (codes "a number is missing on the stack") ∷ Fails (codes "there are too many numbers or calls") ∷ []
+    ≡ Goes ∷ Prints (codes "-7\n") ∷ Ends 0 ∷ failing (codes "Overflow") (codes "overflow")
+    ∷ failing (codes "DivisionByZero") (codes "division by zero")
+    ∷ failing (codes "TooFew") (codes "a number is missing on the stack")
+    ∷ failing (codes "TooMany") (codes "there are too many numbers or calls") ∷ []

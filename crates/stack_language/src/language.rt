@@ -1,19 +1,21 @@
 //! What a debugger is to know of the stack language.
 
-ghost use Rattle.std.specs.Prelude.{◌≡◌, ◌<◌, IfOk, map};
+ghost use Rattle.std.specs.Prelude.{◌≡◌, ◌<◌, IfOk, map, string_bytes};
 ghost use Rattle.std.specs.List.{range_with_len};
 ghost use Rattle.debuggee.specs.Plain.{plain_step};
-ghost use Rattle.dap_debug.specs.Shown.{plain_variable};
-ghost use Rattle.stack_language.specs.Language.{plain_state, reason, step_of};
-ghost use Rattle.stack_language.specs.Shown.{variable_of, shown_line};
+ghost use Rattle.debuggee.specs.Shown.{plain_variable};
+ghost use Rattle.stack_language.specs.Language.{name_of, plain_state, reason, step_of};
+ghost use Rattle.stack_language.specs.Shown.{name_of_frame, no_variable, variable_of, shown_line};
 
 use crate::machine::Machine;
 use crate::parsing::{Parsed, parse, variable};
 use crate::program::VARIABLES;
 use crate::state::{Fault, Outcome, State};
-use dap_debug::{Frame, Language, Location, Scope, Variable};
-use debuggee::{Debuggee, Evaluated, Step};
+use debuggee::{Debuggee, Evaluated, Frame, Language, Location, Page, Step, Variable};
 use std::alloc::{AllocError, Global};
+
+/// What is told of an expression that isn't the name of a variable.
+const NO_VARIABLE: &str = "no variable has this name";
 
 impl Debuggee for Machine {
     ghost use Rattle.stack_language.specs.Language.{takes};
@@ -51,21 +53,22 @@ impl Debuggee for Machine {
                 let value = self.state().value(variable);
                 Ok(Evaluated::Value(format!(in alloc; "{value}")?, value != 0))
             }
-            None => Ok(Evaluated::NoValue(String::from_str(alloc, "no variable has this name")?)),
+            None => Ok(Evaluated::NoValue(String::from_str(alloc, NO_VARIABLE)?)),
+        }
+    }
+
+    fn holds(&self, _alloc: Global, condition: &str) -> Result<bool, AllocError> {
+        match variable(condition) {
+            Some(variable) => Ok(self.state().value(variable) != 0),
+            None => Ok(true),
         }
     }
 }
 
 impl Language for Machine {
-    ghost use Rattle.stack_language.specs.Shown.{first_place, frame_of, reads_as, scopes_of};
+    ghost use Rattle.stack_language.specs.Shown.{shows};
 
-    ghost reads_as = { reads_as };
-
-    ghost first_place = { first_place };
-
-    ghost frame_of = { frame_of };
-
-    ghost scopes_of = { scopes_of };
+    ghost shows = { shows };
 
     fn load(alloc: Global, text: &str) -> Result<Result<Machine, String>, AllocError> {
         match parse(alloc, text)? {
@@ -80,23 +83,52 @@ impl Language for Machine {
         Some(Location { place, line })
     }
 
+    fn mistake_in(
+        &self,
+        alloc: Global,
+        _place: usize,
+        condition: &str,
+    ) -> Result<Option<String>, AllocError> {
+        match variable(condition) {
+            Some(_) => Ok(None),
+            None => Ok(Some(String::from_str(alloc, NO_VARIABLE)?)),
+        }
+    }
+
     fn frame(&self, alloc: Global, index: usize) -> Result<Frame, AllocError> {
-        let is_oldest = index == self.state().returns.len();
-        let name = if is_oldest { "main" } else { "call" };
         Ok(Frame {
-            name: String::from_str(alloc, name)?,
+            name: name_of_frame(alloc, self, index)?,
             line: shown_line(self.line_of_frame(index)),
             column: 1,
         })
     }
 
-    fn scopes(&self, alloc: Global, _frame: usize) -> Result<Vec<Scope>, AllocError> {
-        let mut scopes = Vec::new(alloc);
-        scopes.push(Scope {
-            name: String::from_str(alloc, "variables")?,
-            variables: variables(alloc, self.state())?,
-        })?;
-        Ok(scopes)
+    fn scopes(&self, alloc: Global, _frame: usize) -> Result<Vec<String>, AllocError> {
+        let mut names = Vec::new(alloc);
+        names.push(String::from_str(alloc, "variables")?)?;
+        Ok(names)
+    }
+
+    fn variables(
+        &self,
+        alloc: Global,
+        _frame: usize,
+        _scope: usize,
+        page: Page,
+    ) -> Result<Vec<Variable>, AllocError> {
+        let all = variables(alloc, self.state())?;
+        let shown = page.of(all)?;
+        Ok(shown)
+    }
+}
+
+/// Returns the name of a frame: the line that was called, and `main` for the oldest.
+fn name_of_frame(alloc: Global, machine: &Machine, index: usize) -> Result<String, AllocError>
+    ensures { IfOk result (λ name. string_bytes name ≡ name_of_frame machine.now index) }
+{
+    match machine.line_called(index) {
+        Some(line) => format!(in alloc; "line {}", shown_line(line)),
+        None => String::from_str(alloc, "main"),
     }
 }
 
@@ -128,6 +160,7 @@ fn named(alloc: Global, state: &State, index: usize) -> Result<Variable, AllocEr
     Ok(Variable {
         name: format!(in alloc; "{letter}")?,
         value: format!(in alloc; "{}", state.value(index))?,
+        inside: None,
     })
 }
 
@@ -139,7 +172,22 @@ fn step_of(alloc: Global, outcome: Outcome) -> Result<Step, AllocError>
         Outcome::Went => Ok(Step::Goes),
         Outcome::Printed(number) => Ok(Step::Prints(format!(in alloc; "{number}\n")?)),
         Outcome::Ended => Ok(Step::Ends(0)),
-        Outcome::Failed(fault) => Ok(Step::Fails(String::from_str(alloc, reason(fault))?)),
+        Outcome::Failed(fault) => Ok(Step::Fails(debuggee::Fault {
+            name: String::from_str(alloc, name_of(fault))?,
+            text: String::from_str(alloc, reason(fault))?,
+        })),
+    }
+}
+
+/// Returns what a fault is called.
+fn name_of(fault: Fault) -> &'static str
+    ensures { result.now ≡ name_of fault }
+{
+    match fault {
+        Fault::Overflow => "Overflow",
+        Fault::DivisionByZero => "DivisionByZero",
+        Fault::TooFew => "TooFew",
+        Fault::TooMany => "TooMany",
     }
 }
 

@@ -1,8 +1,16 @@
-//! Worked examples of the language.
+//! Laws and worked examples of the language.
 
+ghost use Rattle.stack_language.specs.Laws.{StepsAreOne, StopsAreShown};
 ghost use Rattle.stack_language.specs.WorkedSteps.{LinesFollow, NumbersAreCalculated, NumbersAreMissing, NumbersMove, QuotientsAreRounded, ResultsOverflow, RoomIsLimited, StepsFollow, StepsTell, ZeroJumps};
 ghost use Rattle.stack_language.specs.WorkedText.{InstructionsAreRead, LinesAreRead, NamesMeanAlone, NamesMeanWithOperand, OperandsAreRead};
-ghost use Rattle.stack_language.specs.WorkedShown.{ExpressionsAreSeen, FramesAreShown, LinesAreSeen, NamesMean, PlacesAreFound, PlacesAreSeen, ScopesAreShown, ValuesHold, VariablesAreShown};
+ghost use Rattle.stack_language.specs.WorkedShown.{ExpressionsAreSeen, FramesAreShown, LinesAreSeen, MistakesAreFound, NamesMean, PlacesAreFound, PlacesAreSeen, ScopesAreShown, ValuesHold, VariablesAreShown};
+
+/// A state has one step, so `takes` allows no other; and at a breakpoint the newest frame is shown at the line at which the
+/// breakpoint was set. It does nothing: its contract is the laws.
+pub fn language_laws()
+    ensures one { StepsAreOne }
+    ensures shown { StopsAreShown }
+{}
 
 /// What each instruction does, which fail, and the steps of a program, computed from the definitions. A wrong definition
 /// doesn't meet them. It does nothing: its contract is the examples.
@@ -27,6 +35,7 @@ pub fn worked_views()
     ensures expressions { ExpressionsAreSeen }
     ensures variables { VariablesAreShown }
     ensures scopes { ScopesAreShown }
+    ensures mistakes { MistakesAreFound }
     ensures lines { LinesAreSeen }
     ensures seen { PlacesAreSeen }
     ensures places { PlacesAreFound }

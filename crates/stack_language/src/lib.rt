@@ -17,5 +17,5 @@ mod parsing;
 mod program;
 mod state;
 
-pub use laws::{worked_steps, worked_texts, worked_views};
+pub use laws::{language_laws, worked_steps, worked_texts, worked_views};
 pub use machine::Machine;

@@ -2,7 +2,7 @@
 
 ghost use Rattle.std.specs.Prelude.{◌≡◌, IfOk};
 ghost use Rattle.stack_language.specs.Language.{IsInitial, Steps, plain_state};
-ghost use Rattle.stack_language.specs.Shown.{IsFirstFrom, has_instruction, line_of_frame};
+ghost use Rattle.stack_language.specs.Shown.{IsFirstFrom, has_instruction, line_called, line_of_frame};
 
 use crate::program::Instruction;
 use crate::state::{Outcome, State};
@@ -71,6 +71,22 @@ impl Machine {
         let index = self.state.returns.len().saturating_sub(frame);
         let line = self.state.returns.get(index).copied().unwrap_or(0);
         line.saturating_sub(1)
+    }
+
+    /// Returns the line that was called when a frame was made, of which the newest is 0; `None` for the oldest.
+    pub fn line_called(&self, frame: usize) -> Option<usize>
+        ensures { result ≡ line_called self.now frame }
+    {
+        if self.state.returns.len() <= frame {
+            return None;
+        }
+        match self
+            .program
+            .get(self.line_of_frame(frame.saturating_add(1)))
+        {
+            Some(Instruction::Call(line)) => Some(*line),
+            _ => None,
+        }
     }
 
     /// Returns the first line at or after one that has an instruction.

@@ -1,7 +1,7 @@
 use Rattle.std.proofs.Common.{◌≡◌, ◌++◌, map}
 use Rattle.dap_bodies.specs.Bodies.{plain_shown_variable}
 use Rattle.dap_debug.specs.Inspecting.{shown_variable}
-use Rattle.dap_debug.specs.Shown.{plain_variable}
+use Rattle.debuggee.specs.Shown.{plain_variable}
 use Rattle.dap_debug.proofs.inspecting.all_variables.Given as goal
 
 abbrev pub invariant-loop-variable : goal.invariant-loop-variable

@@ -4,5 +4,5 @@ use Rattle.dap_debug.proofs.laws.conversation_laws.Goals as goal
 
 pub returns : goal.returns
 returns g c = λ a b inbox left rest texts course.
-    each_ends_once (known_of g.L.Debuggee.takes g.L.Debuggee.sees g.L.Language.reads_as g.L.Language.first_place
-    g.L.Language.frame_of g.L.Language.scopes_of) g.I.Inbox.gives g.I.Polled.polls a inbox b rest left texts course
+    each_ends_once (known_of g.L.Debuggee.takes g.L.Debuggee.sees g.L.Language.shows) g.I.Inbox.gives g.I.Polled.polls
+    a inbox b rest left texts course

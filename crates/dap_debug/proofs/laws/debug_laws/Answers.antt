@@ -8,8 +8,7 @@ returns-clause-work g c = work_balanced g.L.Debuggee.takes g.L.Debuggee.sees
 
 pub returns-clause-replies : goal.returns-clause-replies
 returns-clause-replies g c =
-    replies_balanced (known_of g.L.Debuggee.takes g.L.Debuggee.sees g.L.Language.reads_as g.L.Language.first_place
-    g.L.Language.frame_of g.L.Language.scopes_of)
+    replies_balanced (known_of g.L.Debuggee.takes g.L.Debuggee.sees g.L.Language.shows)
 
 pub returns-clause-texts : goal.returns-clause-texts
 returns-clause-texts g c = λ told. (all_bytes_kept told, alternate told)

@@ -1,7 +1,9 @@
 use Rattle.std.proofs.Common.{◌≢◌, refl, inr, ◌∷◌, [], codes, arith}
+use Rattle.std.specs.Prelude.{None}
 use Rattle.std.specs.Fmt.{digits}
 use Rattle.json.specs.Print.{escape_byte}
 use Rattle.std.proofs.lemmas.List.Elements.{All-cons, All-nil}
+use Rattle.dap_bodies.specs.Events.{stopped}
 use Rattle.dap_debug.specs.Breakpoints.{Lacks}
 use Rattle.dap_debug.proofs.Texts.{zero_in_front}
 use Rattle.dap_debug.proofs.laws.worked_debugger.Goals as goal
@@ -20,6 +22,22 @@ pub returns-clause-halts : goal.returns-clause-halts
 unfolding digits escape_byte
 returns-clause-halts c = refl
 
+pub returns-clause-entry : goal.returns-clause-entry
+unfolding digits escape_byte
+returns-clause-entry c = (stopped (codes "entry") None, refl, (refl, refl))
+
+pub returns-clause-pause : goal.returns-clause-pause
+unfolding digits escape_byte
+returns-clause-pause c = (stopped (codes "pause") None, refl, (refl, refl))
+
+pub returns-clause-end : goal.returns-clause-end
+unfolding digits escape_byte
+returns-clause-end c = refl
+
+pub returns-clause-capabilities : goal.returns-clause-capabilities
+unfolding digits escape_byte
+returns-clause-capabilities c = refl
+
 pub returns-clause-rules : goal.returns-clause-rules
 unfolding digits
 returns-clause-rules c = (
@@ -31,10 +49,10 @@ returns-clause-rules c = (
 )
 
 pub returns-clause-numbered : goal.returns-clause-numbered
-returns-clause-numbered c = (refl, refl, refl)
+returns-clause-numbered c = (refl, refl, refl, refl)
 
 pub returns-clause-found : goal.returns-clause-found
-returns-clause-found c = (refl, refl, refl)
+returns-clause-found c = (refl, refl, refl, refl)
 
 pub returns-clause-messages : goal.returns-clause-messages
 returns-clause-messages c =

@@ -1,4 +1,4 @@
-use Rattle.std.proofs.Common.{◌≢◌, refl, inl, [], ◌∷◌, codes, arith}
+use Rattle.std.proofs.Common.{◌≢◌, refl, ap, get_or, inl, inr, [], ◌∷◌, codes, arith}
 use Rattle.std.specs.Prelude.{None, Some}
 use Rattle.std.specs.Fmt.{digits}
 use Rattle.std.proofs.lemmas.List.Elements.{All-cons, All-nil}
@@ -41,8 +41,21 @@ returns-clause-breakpoint c =
       condition = refl;
       rule = (refl, (omega arith, omega arith));
       message = (not_nil 110 (123 ∷ 107 ∷ 125 ∷ []), parts);
+      short = omega arith;
       none_yet = refl;
     }
 
 pub returns-clause-line : goal.returns-clause-line
 returns-clause-line c = (None, refl, (codes "no", refl))
+
+pub returns-clause-mistake : goal.returns-clause-mistake
+returns-clause-mistake c = (Some _, refl, (codes "no j", refl, inr (inr (other, refl))))
+  where
+    other : codes "j" ≢ codes "k"
+    other is = absurd (omega (arith, ap (λ t. get_or t 0 0) is))
+
+pub returns-clause-pages : goal.returns-clause-pages
+returns-clause-pages c = (refl, refl, refl)
+
+pub returns-clause-checked : goal.returns-clause-checked
+returns-clause-checked c = (refl, refl, refl, refl)

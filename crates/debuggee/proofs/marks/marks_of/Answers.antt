@@ -1,34 +1,52 @@
-use Rattle.std.proofs.Common.{◌≡◌, ◌∙◌, ◌<◌, ◌≤◌, rules, sym, subst, ap, map, length, get_or, arith}
+use Rattle.std.proofs.Common.{◌≡◌, ◌<◌, ◌+◌, ◌-◌, ◌%◌, ◌∙◌, rules, refl, sym, subst, ap, map, length, get_or, slice_set, arith}
 use Rattle.std.proofs.Math.ListN.{get_or-map}
-use Rattle.std.proofs.lemmas.List.{length-map, take_all}
-use Rattle.debuggee.specs.Plain.{plain_breakpoint}
-use Rattle.debuggee.specs.Marks.{AreMarked}
-use Rattle.debuggee.proofs.Marking.{one_more}
+use Rattle.std.proofs.lemmas.List.{length-map, length-set, get_or_default, get_or-replicate}
+use Rattle.debuggee.specs.Plain.{PlainBreakpoint, plain_breakpoint}
+use Rattle.debuggee.specs.Marks.{IsNext, mark_at, mark_count, places_of}
+use Rattle.debuggee.proofs.Marking.{ChainedFrom, nothing_more, one_back}
 use Rattle.debuggee.proofs.marks.marks_of.Goals as goal
 
-pub loop-breakpoint-preserved : goal.loop-breakpoint-preserved
-loop-breakpoint-preserved c =
+pub loop-index-init : goal.loop-index-init
+loop-index-init c =
     let items = c.args.breakpoints.now in
-    let bs = map plain_breakpoint items in
-    let n = c.loop-breakpoint.breakpoint-index in
-    let item = c.breakpoint-item.result in
-    let b = plain_breakpoint item in
-    let marks = c.loop-breakpoint.marks in
-    let long = c.loop-breakpoint.invariant.long in
-    let there : n < length items = search rules in
-    let is : b ≡ get_or bs n b
-    = ap plain_breakpoint c.breakpoint-item.is ∙ sym (get_or-map plain_breakpoint items n item) in
+    let places = places_of (map plain_breakpoint items) in
+    let long : length places ≡ length items
+    = length-map (map plain_breakpoint items) (λ (b : PlainBreakpoint). b.place) ∙ length-map items plain_breakpoint in
     record {
-      long = search rules;
-      marked = one_more marks bs n b (omega (arith, long)) (omega (arith, length-map items plain_breakpoint, there)) is
-          c.loop-breakpoint.invariant.marked;
+      within = omega arith;
+      firsts = refl;
+      nexts = search rules;
+      chained = record {
+        heads = λ mark lt. subst (IsNext places mark (length items))
+            (sym (get_or-replicate mark_count mark (length items) 0 lt)) (nothing_more places mark (length items) long);
+        others = λ j low lt. absurd (omega (arith, low, lt, long));
+      };
     }
 
-pub returns : goal.returns
-returns c =
+pub loop-index-preserved : goal.loop-index-preserved
+loop-index-preserved c =
     let items = c.args.breakpoints.now in
-    let bs = map plain_breakpoint items in
-    let n = c.loop-breakpoint.breakpoint-index in
-    let whole : length items ≤ n = search rules in
-    subst (λ l. AreMarked c.loop-breakpoint.marks l)
-    (take_all n bs (omega (arith, length-map items plain_breakpoint, whole))) c.loop-breakpoint.invariant.marked
+    let plain = map plain_breakpoint items in
+    let places = places_of plain in
+    let first = c.loop-index.first in
+    let next = c.loop-index.next.items in
+    let i = c.loop-index.index - 1 in
+    let one = c.index-breakpoints-index.result in
+    let long : length places ≡ length items
+    = length-map plain (λ (b : PlainBreakpoint). b.place) ∙ length-map items plain_breakpoint in
+    let before : i + 1 ≡ c.loop-index.index = search rules in
+    let inside : i < length places = omega (arith, before, c.loop-index.invariant.within, long) in
+    let place : get_or places i 0 ≡ (get_or items i one).place
+    = get_or_default places i 0 one.place inside
+    ∙ get_or-map (λ (b : PlainBreakpoint). b.place) plain i (plain_breakpoint one)
+    ∙ ap (λ (b : PlainBreakpoint). b.place) (get_or-map plain_breakpoint items i one) in
+    let mark : mark_at places i ≡ (get_or items i one).place % mark_count = ap (λ p. p % mark_count) place in
+    let back = one_back places first next i inside c.loop-index.invariant.firsts
+    (c.loop-index.invariant.nexts ∙ sym long) (omega arith)
+    (subst (ChainedFrom places first next) (sym before) c.loop-index.invariant.chained) in
+    record {
+      within = omega (arith, before, c.loop-index.invariant.within);
+      firsts = length-set first _ _ ∙ c.loop-index.invariant.firsts;
+      nexts = length-set next _ _ ∙ c.loop-index.invariant.nexts;
+      chained = subst (λ m. ChainedFrom places (slice_set first m i) (slice_set next i (get_or first m 0)) i) mark back;
+    }

@@ -30,6 +30,7 @@ loop-preserved g c =
       told = told ++ step.0;
       passes = Then c.loop.debuggee c.advance.new.debuggee mid new told step.0 c.loop.invariant.passes step.1;
       added = step.2 ∙ ap (λ l. l ++ step.0) c.loop.invariant.added ∙ append_assoc before told step.0;
-      marked = subst (λ bs. AreMarked c.args.marks.now bs) (sym step.1.3)
-          (marked_still g.D.Debuggee.sees c.advance.new.debuggee c.args.marks.now mid c.loop.invariant.marked);
+      marked = subst (AreMarked c.args.marks.now.first c.args.marks.now.next.items) (sym step.1.3)
+          (marked_still g.D.Debuggee.sees c.advance.new.debuggee c.args.marks.now.first c.args.marks.now.next.items mid
+          c.loop.invariant.marked);
     }

@@ -10,5 +10,5 @@ invariant-loop g l = record {
   passes : Passes g.D.Debuggee.takes g.D.Debuggee.sees l.mode l.initial.debuggee
       (map plain_breakpoint l.initial.breakpoints.items) l.debuggee (map plain_breakpoint l.breakpoints.items) told;
   added : map plain_output l.told.items ≡ map plain_output l.initial.told.items ++ told;
-  marked : AreMarked l.marks (map plain_breakpoint l.breakpoints.items);
+  marked : AreMarked l.marks.first l.marks.next.items (map plain_breakpoint l.breakpoints.items);
 }

@@ -1,7 +1,7 @@
 use Rattle.std.proofs.Common.{◌≡◌}
 use Rattle.std.specs.Prelude.{map}
 use Rattle.std.specs.List.{range_with_len}
-use Rattle.dap_debug.specs.Shown.{plain_variable}
+use Rattle.debuggee.specs.Shown.{plain_variable}
 use Rattle.stack_language.specs.Language.{plain_state}
 use Rattle.stack_language.specs.Shown.{variable_of}
 use Rattle.stack_language.proofs.language.variables.Given as goal

@@ -1,5 +1,5 @@
 use Rattle.std.specs.Fmt.{digits}
-use Rattle.std.proofs.Common.{◌≡◌, ◌≤◌, ◌<◌, ℕ, ◌∙◌, ap, arith, false, length, refl}
+use Rattle.std.proofs.Common.{◌≡◌, ◌≤◌, ◌<◌, ℕ, Option, Some, None, ◌∙◌, ap, arith, false, length, refl}
 use Rattle.stack_language.proofs.Lines.{none_at_all}
 use Rattle.stack_language.specs.Shown.{has_instruction}
 use Rattle.stack_language.proofs.laws.worked_views.Goals as goal
@@ -20,7 +20,13 @@ unfolding digits
 returns-clause-variables c = refl
 
 pub returns-clause-scopes : goal.returns-clause-scopes
-returns-clause-scopes c m scopes are = rw are (refl, refl)
+returns-clause-scopes c m names all named are = (named, ap length are)
+
+pub returns-clause-mistakes : goal.returns-clause-mistakes
+returns-clause-mistakes c m = ((refl, refl), λ mistake is. absurd (some_is_none is.0))
+  where
+    some_is_none : ◌≡◌ {A = Option ℕ} (Some 1) None → ⊥
+    some_is_none is = absurd cc
 
 pub returns-clause-lines : goal.returns-clause-lines
 returns-clause-lines c m program = rw program refl
@@ -45,4 +51,5 @@ returns-clause-places c m program = (
     long = rw program refl
 
 pub returns-clause-frames : goal.returns-clause-frames
-returns-clause-frames c m line returns = rw (line, returns) (refl, refl, refl, refl)
+unfolding digits
+returns-clause-frames c m program line returns = rw (program, line, returns) (refl, refl, refl, refl)

@@ -2,7 +2,7 @@
 
 ghost use Rattle.std.specs.Prelude.{◌≡◌, option_map, unwrap_or};
 ghost use Rattle.serde_json.specs.View.{view, items_view};
-ghost use Rattle.dap_debug.specs.Arguments.{list_at, member_at, text_at, truth_at, whole_at};
+ghost use Rattle.dap_bodies.specs.Arguments.{list_at, member_at, text_at, truth_at, whole_at};
 
 use serde_json::Value;
 
