@@ -1,8 +1,8 @@
 //! `pl0`: runs, traces, checks, lists and draws PL/0 programs. What it does is said in `pl0_tool`.
 #![tactic(auto)]
 
-use byte_streams::{Reading, Writing};
-use pl0_tool::{SystemFiles, WatchedOutput, run};
+use byte_streams::{Reading, SystemFiles, Writing};
+use pl0_tool::{WatchedOutput, run};
 use std::env;
 use std::process::ExitCode;
 

@@ -1,13 +1,5 @@
 //! The table of a program's names.
 
-ghost use Rattle.std.specs.Prelude.{◌≡◌, ◌++◌, ◌≤◌, ℕ, IfOk, OnOk, length, map};
-ghost use Rattle.std.specs.List.{concat};
-ghost use Rattle.pl0_tree.specs.Plain.{plain_block, plain_constant, plain_name};
-ghost use Rattle.pl0_tree.specs.Scope.{Path};
-ghost use Rattle.pl0_unit.specs.Code.{CodedBlock};
-ghost use Rattle.pl0_lessons.specs.NameTable.{IsNameTable, block_rows, constant_row, listing_of, place_row, row, variable_rows};
-ghost use Rattle.pl0_lessons.specs.Standing.{BeginsAt};
-
 use crate::columns::{put_left_column, put_right_column};
 use crate::standing::behind_block;
 use pl0_tree::{Block, Constant, Name};
@@ -32,9 +24,7 @@ const ADDRESS_WIDTH: usize = 7;
 /// # Errors
 ///
 /// `AllocError`, where an allocation failed.
-pub fn name_table(alloc: Global, unit: &Unit) -> Result<Vec<u8>, AllocError>
-    ensures { IfOk result (λ page. ∥ IsNameTable unit.now page.items ∥₁) }
-{
+pub fn name_table(alloc: Global, unit: &Unit) -> Result<Vec<u8>, AllocError> {
     let mut page = Vec::from_slice(alloc, HEAD.as_bytes())?;
     put_block(alloc, &mut page, unit, &unit.tree.program, 0, 0)?;
     Ok(page)
@@ -49,18 +39,20 @@ fn put_block(
     block: &Block,
     level: usize,
     begins: usize,
-) -> Result<(), AllocError>
-    requires { ∥ BeginsAt (listing_of unit.now) (plain_block block.now) level begins ∥₁ }
-    ensures { OnOk result ((entry : Path → ℕ) (q : Path) (to : ℕ) → length q ≡ level →
-        CodedBlock (listing_of unit.now) entry q (plain_block block.now) begins to →
-        page.new.items ≡ page.old.items ++ block_rows entry q (plain_block block.now)) }
-{
+) -> Result<(), AllocError> {
     put_constants(alloc, page, &block.constants)?;
     put_variables(alloc, page, &block.variables, level)?;
-    let mut next = begins + 1;
+    let mut next = begins.saturating_add(1);
     for procedure in &block.procedures {
         put_place(alloc, page, "procedure", level, next, &procedure.name)?;
-        put_block(alloc, page, unit, &procedure.block, level + 1, next)?;
+        put_block(
+            alloc,
+            page,
+            unit,
+            &procedure.block,
+            level.saturating_add(1),
+            next,
+        )?;
         next = behind_block(unit, next);
     }
     Ok(())
@@ -71,10 +63,7 @@ fn put_constants(
     alloc: Global,
     page: &mut Vec<u8>,
     constants: &[Constant],
-) -> Result<(), AllocError>
-    ensures { OnOk result (page.new.items ≡ page.old.items
-        ++ concat (map constant_row (map plain_constant constants.now))) }
-{
+) -> Result<(), AllocError> {
     for constant in constants {
         put_constant(alloc, page, constant)?;
     }
@@ -82,9 +71,7 @@ fn put_constants(
 }
 
 /// Appends the row of a constant.
-fn put_constant(alloc: Global, page: &mut Vec<u8>, constant: &Constant) -> Result<(), AllocError>
-    ensures { OnOk result (page.new.items ≡ page.old.items ++ constant_row (plain_constant constant.now)) }
-{
+fn put_constant(alloc: Global, page: &mut Vec<u8>, constant: &Constant) -> Result<(), AllocError> {
     let name = constant.name.text.as_str();
     let value = constant.value;
     let text = format!(in alloc; "{name} = {value}")?;
@@ -97,12 +84,16 @@ fn put_variables(
     page: &mut Vec<u8>,
     variables: &[Name],
     level: usize,
-) -> Result<(), AllocError>
-    ensures { OnOk result (page.new.items ≡ page.old.items
-        ++ variable_rows level 0 (map plain_name variables.now)) }
-{
+) -> Result<(), AllocError> {
     for (index, name) in variables.iter().enumerate() {
-        put_place(alloc, page, "variable", level, FRAME_HEAD + index, name)?;
+        put_place(
+            alloc,
+            page,
+            "variable",
+            level,
+            FRAME_HEAD.saturating_add(index),
+            name,
+        )?;
     }
     Ok(())
 }
@@ -115,10 +106,7 @@ fn put_place(
     level: usize,
     address: usize,
     name: &Name,
-) -> Result<(), AllocError>
-    ensures { OnOk result (page.new.items ≡ page.old.items
-        ++ place_row kind.now level address (plain_name name.now)) }
-{
+) -> Result<(), AllocError> {
     let level = format!(in alloc; "{level}")?;
     let address = format!(in alloc; "{address}")?;
     let name = name.text.as_str();
@@ -132,10 +120,7 @@ fn put_row(
     level: &str,
     address: &str,
     name: &str,
-) -> Result<(), AllocError>
-    ensures { OnOk result (page.new.items ≡ page.old.items
-        ++ row kind.now level.now address.now name.now) }
-{
+) -> Result<(), AllocError> {
     put_left_column(page, KIND_WIDTH, kind.as_bytes())?;
     put_right_column(page, LEVEL_WIDTH, level.as_bytes())?;
     put_right_column(page, ADDRESS_WIDTH, address.as_bytes())?;

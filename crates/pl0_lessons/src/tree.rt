@@ -3,17 +3,6 @@
 //! The code of a program is dealt out to the nodes of its tree: each function takes the code that stands from its node
 //! on, and returns what is left of it.
 
-ghost use Rattle.std.specs.Prelude.{◌≡◌, ◌++◌, ◌≤◌, ℕ, IfOk, OnOk, drop, false, length, map};
-ghost use Rattle.std.specs.List.{concat};
-ghost use Rattle.pl0_tree.specs.Plain.{joined, plain_block, plain_condition, plain_constant, plain_expression, plain_name, plain_statement};
-ghost use Rattle.pl0_tree.specs.Scope.{Path};
-ghost use Rattle.pl0_tree.specs.Tree.{Assign, Empty};
-ghost use Rattle.pl0_unit.specs.Code.{CodedBlock};
-ghost use Rattle.pl0_lessons.specs.NameTable.{listing_of};
-ghost use Rattle.pl0_lessons.specs.ProgramTree.{IsProgramTree, block_lines, constant_line, deeper, line, name_line, operator_sign, place_text, relation_sign, variable_lines};
-ghost use Rattle.pl0_lessons.specs.Dealt.{DrawsCondition, DrawsExpression, DrawsStatement, DrawsTest, DrawsUse};
-ghost use Rattle.pl0_lessons.specs.Standing.{BeginsAt};
-
 use crate::columns::put_spaces;
 use crate::standing::behind_block;
 use pl0_tree::{Block, Condition, Constant, Expression, Name, Operator, Relation, Statement};
@@ -32,9 +21,7 @@ const FURTHEST: usize = 128;
 /// # Errors
 ///
 /// `AllocError`, where an allocation failed.
-pub fn program_tree(alloc: Global, unit: &Unit) -> Result<Vec<u8>, AllocError>
-    ensures { IfOk result (λ page. ∥ IsProgramTree unit.now page.items ∥₁) }
-{
+pub fn program_tree(alloc: Global, unit: &Unit) -> Result<Vec<u8>, AllocError> {
     let mut page = Vec::new(alloc);
     put_block(alloc, &mut page, 0, unit, &unit.tree.program, 0, 0)?;
     Ok(page)
@@ -49,15 +36,10 @@ fn put_block(
     block: &Block,
     level: usize,
     begins: usize,
-) -> Result<(), AllocError>
-    requires { ∥ BeginsAt (listing_of unit.now) (plain_block block.now) level begins ∥₁ }
-    ensures { OnOk result ((entry : Path → ℕ) (q : Path) (to : ℕ) → length q ≡ level →
-        CodedBlock (listing_of unit.now) entry q (plain_block block.now) begins to → page.new.items
-        ≡ page.old.items ++ block_lines (plain_block unit.now.tree.program) entry indent q (plain_block block.now)) }
-{
+) -> Result<(), AllocError> {
     put_constants(alloc, page, indent, &block.constants)?;
     put_variables(alloc, page, indent, &block.variables, level)?;
-    let mut next = begins + 1;
+    let mut next = begins.saturating_add(1);
     for procedure in &block.procedures {
         put_place(
             alloc,
@@ -74,7 +56,7 @@ fn put_block(
             deeper(indent),
             unit,
             &procedure.block,
-            level + 1,
+            level.saturating_add(1),
             next,
         )?;
         next = behind_block(unit, next);
@@ -85,9 +67,7 @@ fn put_block(
 }
 
 /// Returns the code of a program from an address on.
-fn code_from(unit: &Unit, address: usize) -> &[Instruction]
-    ensures { result.now ≡ drop address unit.now.code.items }
-{
+fn code_from(unit: &Unit, address: usize) -> &[Instruction] {
     let code: &[Instruction] = &unit.code;
     &code[address.min(code.len())..]
 }
@@ -98,10 +78,7 @@ fn put_constants(
     page: &mut Vec<u8>,
     indent: usize,
     constants: &[Constant],
-) -> Result<(), AllocError>
-    ensures { OnOk result (page.new.items ≡ page.old.items
-        ++ concat (map (constant_line indent) (map plain_constant constants.now))) }
-{
+) -> Result<(), AllocError> {
     for constant in constants {
         put_constant(alloc, page, indent, constant)?;
     }
@@ -115,12 +92,17 @@ fn put_variables(
     indent: usize,
     variables: &[Name],
     level: usize,
-) -> Result<(), AllocError>
-    ensures { OnOk result (page.new.items ≡ page.old.items
-        ++ variable_lines indent level 0 (map plain_name variables.now)) }
-{
+) -> Result<(), AllocError> {
     for (index, name) in variables.iter().enumerate() {
-        put_place(alloc, page, indent, "var ", level, FRAME_HEAD + index, name)?;
+        put_place(
+            alloc,
+            page,
+            indent,
+            "var ",
+            level,
+            FRAME_HEAD.saturating_add(index),
+            name,
+        )?;
     }
     Ok(())
 }
@@ -131,9 +113,7 @@ fn put_constant(
     page: &mut Vec<u8>,
     indent: usize,
     constant: &Constant,
-) -> Result<(), AllocError>
-    ensures { OnOk result (page.new.items ≡ page.old.items ++ constant_line indent (plain_constant constant.now)) }
-{
+) -> Result<(), AllocError> {
     let value = constant.value;
     let text = format!(in alloc; "= {value}")?;
     put_name(alloc, page, indent, "const ", &constant.name, text.as_str())
@@ -148,10 +128,7 @@ fn put_place(
     level: usize,
     address: usize,
     name: &Name,
-) -> Result<(), AllocError>
-    ensures { OnOk result (page.new.items ≡ page.old.items
-        ++ name_line indent kind.now (plain_name name.now) (place_text level address)) }
-{
+) -> Result<(), AllocError> {
     let text = format!(in alloc; "level {level}, address {address}")?;
     put_name(alloc, page, indent, kind, name, text.as_str())
 }
@@ -164,10 +141,7 @@ fn put_statement<'a>(
     indent: usize,
     statement: &Statement,
     code: &'a [Instruction],
-) -> Result<&'a [Instruction], AllocError>
-    ensures { IfOk result (λ left. DrawsStatement false (plain_statement statement.now) indent code.now left.now
-        page.old.items page.new.items) }
-{
+) -> Result<&'a [Instruction], AllocError> {
     match statement {
         Statement::Empty => put_empty(page, indent, code),
         Statement::Assign { target, value } => put_assignment(
@@ -209,10 +183,7 @@ fn put_sequence<'a>(
     indent: usize,
     all: &[Statement],
     code: &'a [Instruction],
-) -> Result<&'a [Instruction], AllocError>
-    ensures { IfOk result (λ left. DrawsStatement false (joined all.now) indent code.now left.now
-        page.old.items page.new.items) }
-{
+) -> Result<&'a [Instruction], AllocError> {
     if all.is_empty() {
         put_line(page, indent, "empty")?;
         return Ok(code);
@@ -230,10 +201,7 @@ fn put_empty<'a>(
     page: &mut Vec<u8>,
     indent: usize,
     code: &'a [Instruction],
-) -> Result<&'a [Instruction], AllocError>
-    ensures { IfOk result (λ left. DrawsStatement false Empty indent code.now left.now
-        page.old.items page.new.items) }
-{
+) -> Result<&'a [Instruction], AllocError> {
     put_line(page, indent, "empty")?;
     Ok(code)
 }
@@ -246,10 +214,7 @@ fn put_assignment<'a>(
     target: &Name,
     value: &Expression,
     code: &'a [Instruction],
-) -> Result<&'a [Instruction], AllocError>
-    ensures { IfOk result (λ left. DrawsStatement false (Assign (plain_name target.now) (plain_expression value.now))
-        indent code.now left.now page.old.items page.new.items) }
-{
+) -> Result<&'a [Instruction], AllocError> {
     let mut below = Vec::new(alloc);
     let left = put_expression(alloc, &mut below, deeper(indent), value, code)?;
     let left = put_use(alloc, page, indent, ":= ", target, left)?;
@@ -265,10 +230,7 @@ fn put_test<'a>(
     word: &str,
     condition: &Condition,
     code: &'a [Instruction],
-) -> Result<&'a [Instruction], AllocError>
-    ensures { IfOk result (λ left. DrawsTest word.now (plain_condition condition.now) indent code.now left.now
-        page.old.items page.new.items) }
-{
+) -> Result<&'a [Instruction], AllocError> {
     put_line(page, indent, word)?;
     let left = put_condition(alloc, page, deeper(indent), condition, code)?;
     Ok(behind_first(left))
@@ -281,10 +243,7 @@ fn put_condition<'a>(
     indent: usize,
     condition: &Condition,
     code: &'a [Instruction],
-) -> Result<&'a [Instruction], AllocError>
-    ensures { IfOk result (λ left. DrawsCondition (plain_condition condition.now) indent code.now left.now
-        page.old.items page.new.items) }
-{
+) -> Result<&'a [Instruction], AllocError> {
     match condition {
         Condition::Odd(value) => {
             put_line(page, indent, "odd")?;
@@ -307,10 +266,7 @@ fn put_expression<'a>(
     indent: usize,
     expression: &Expression,
     code: &'a [Instruction],
-) -> Result<&'a [Instruction], AllocError>
-    ensures { IfOk result (λ left. DrawsExpression (plain_expression expression.now) indent code.now left.now
-        page.old.items page.new.items) }
-{
+) -> Result<&'a [Instruction], AllocError> {
     match expression {
         Expression::Name(name) => put_use(alloc, page, indent, "", name, code),
         Expression::Number(number) => {
@@ -340,10 +296,7 @@ fn put_use<'a>(
     what: &str,
     name: &Name,
     code: &'a [Instruction],
-) -> Result<&'a [Instruction], AllocError>
-    ensures { IfOk result (λ left. DrawsUse what.now (plain_name name.now) indent code.now left.now
-        page.old.items page.new.items) }
-{
+) -> Result<&'a [Instruction], AllocError> {
     if let Some(instruction) = code.first() {
         let text = instruction.to_string(alloc)?;
         put_name(alloc, page, indent, what, name, text.as_str())?;
@@ -359,19 +312,14 @@ fn put_name(
     what: &str,
     name: &Name,
     found: &str,
-) -> Result<(), AllocError>
-    ensures { OnOk result (page.new.items ≡ page.old.items
-        ++ name_line indent what.now (plain_name name.now) found.now) }
-{
+) -> Result<(), AllocError> {
     let name = name.text.as_str();
     let text = format!(in alloc; "{what}{name}  {found}")?;
     put_line(page, indent, text.as_str())
 }
 
 /// Appends a line that begins so far in.
-fn put_line(page: &mut Vec<u8>, indent: usize, text: &str) -> Result<(), AllocError>
-    ensures { OnOk result (page.new.items ≡ page.old.items ++ line indent text.now) }
-{
+fn put_line(page: &mut Vec<u8>, indent: usize, text: &str) -> Result<(), AllocError> {
     put_spaces(page, indent)?;
     page.extend_from_slice(text.as_bytes())?;
     page.push(b'\n')?;
@@ -379,9 +327,7 @@ fn put_line(page: &mut Vec<u8>, indent: usize, text: &str) -> Result<(), AllocEr
 }
 
 /// Returns the code behind its first instruction.
-fn behind_first(code: &[Instruction]) -> &[Instruction]
-    ensures { result.now ≡ drop 1 code.now }
-{
+fn behind_first(code: &[Instruction]) -> &[Instruction] {
     match code.split_first() {
         Some((_, left)) => left,
         None => code,
@@ -389,16 +335,12 @@ fn behind_first(code: &[Instruction]) -> &[Instruction]
 }
 
 /// Returns how far in the nodes below one stand.
-fn deeper(indent: usize) -> usize
-    ensures { result ≡ deeper indent }
-{
+fn deeper(indent: usize) -> usize {
     indent.saturating_add(INNER).min(FURTHEST)
 }
 
 /// Returns the sign of an operator.
-fn operator_sign(operator: Operator) -> &'static str
-    ensures { result.now ≡ operator_sign operator }
-{
+fn operator_sign(operator: Operator) -> &'static str {
     match operator {
         Operator::Add => "+",
         Operator::Subtract => "-",
@@ -408,9 +350,7 @@ fn operator_sign(operator: Operator) -> &'static str
 }
 
 /// Returns the sign of a comparison.
-fn relation_sign(relation: Relation) -> &'static str
-    ensures { result.now ≡ relation_sign relation }
-{
+fn relation_sign(relation: Relation) -> &'static str {
     match relation {
         Relation::Equal => "=",
         Relation::Unequal => "#",

@@ -1,6 +1,6 @@
 //! Keywords that are meant by other words.
 
-use crate::found::{Token, next_token};
+use crate::found::Token;
 use crate::scene::KEYWORDS;
 
 /// The keywords for which a word that nearly reads so is taken.
@@ -11,38 +11,41 @@ const BEFORE_BLANKS: &str = "const var call procedure begin if while";
 
 /// Returns the keyword that a word is but for its case; `None` if it is none.
 pub(crate) fn keyword_in_lower_case(word: Token<'_>) -> Option<Token<'static>> {
-    let mut rest = KEYWORDS.as_bytes();
-    while let Some((keyword, after)) = next_token(rest) {
-        if word.bytes.eq_ignore_ascii_case(keyword.bytes) && word.bytes != keyword.bytes {
-            return Some(keyword);
+    for text in KEYWORDS.split_whitespace() {
+        let keyword = text.as_bytes();
+        if word.bytes.eq_ignore_ascii_case(keyword) && word.bytes != keyword {
+            return Some(Token { bytes: keyword });
         }
-        rest = after;
     }
     None
 }
 
 /// Returns the keyword from which a word differs by one letter more, less or exchanged, or by two that changed places.
 pub(crate) fn keyword_nearby(word: Token<'_>) -> Option<Token<'static>> {
-    let mut rest = LONGER.as_bytes();
-    while let Some((keyword, after)) = next_token(rest) {
-        if word.bytes != keyword.bytes && is_near(word.bytes, keyword.bytes) {
-            return Some(keyword);
+    for text in LONGER.split_whitespace() {
+        let keyword = text.as_bytes();
+        if word.bytes != keyword && is_near(word.bytes, keyword) {
+            return Some(Token { bytes: keyword });
         }
-        rest = after;
     }
     None
 }
 
 /// Returns the keyword with which a longer word begins.
 pub(crate) fn keyword_in_front(word: Token<'_>) -> Option<Token<'static>> {
-    let mut rest = BEFORE_BLANKS.as_bytes();
-    while let Some((keyword, after)) = next_token(rest) {
-        if word.bytes.starts_with(keyword.bytes) && word.bytes != keyword.bytes {
-            return Some(keyword);
+    for text in BEFORE_BLANKS.split_whitespace() {
+        let keyword = text.as_bytes();
+        if word.bytes.starts_with(keyword) && word.bytes != keyword {
+            return Some(Token { bytes: keyword });
         }
-        rest = after;
     }
     None
+}
+
+/// Whether two words are the same but for their case, or, where both have three letters or more, but for one letter.
+pub(crate) fn resembles(word: Token<'_>, other: Token<'_>) -> bool {
+    let long = word.bytes.len() > 2 && other.bytes.len() > 2;
+    word.bytes.eq_ignore_ascii_case(other.bytes) || long && is_near(word.bytes, other.bytes)
 }
 
 /// Whether two words are the same but for one letter more, less or exchanged, or for two that changed places.

@@ -3,7 +3,6 @@
 ghost use Rattle.std.specs.Prelude.{◌≡◌, ◌-◌, ◌<◌, [], ◌∷◌, length, drop, codes, MatchOption};
 ghost use Rattle.std.specs.Str.{bytes_eq};
 ghost use Rattle.pl0_mistakes.specs.Found.{from_line, from_place, before_place, front_token, cut};
-ghost use Rattle.pl0_mistakes.specs.Sentences.{one_of};
 
 use pl0_tree::{Place, digits_len, is_space, word_len};
 
@@ -22,27 +21,21 @@ impl<'a> Token<'a> {
     }
 
     /// Whether it is one of these tokens.
-    pub(crate) fn is_one_of(self, tokens: &str) -> bool
-        ensures { result ≡ one_of self.entry.bytes.now (cut tokens.now) }
-    {
-        let mut rest = tokens.as_bytes();
-        while let Some((token, after)) = next_token(rest) {
-            if self.bytes == token.bytes {
+    pub(crate) fn is_one_of(self, tokens: &str) -> bool {
+        for token in tokens.split_whitespace() {
+            if self.is(token) {
                 return true;
             }
-            rest = after;
         }
         false
     }
 
     /// Whether it is one of these words, but for capitals.
     pub(crate) fn is_word_of(self, words: &str) -> bool {
-        let mut rest = words.as_bytes();
-        while let Some((word, after)) = next_token(rest) {
-            if word.bytes.eq_ignore_ascii_case(self.bytes) {
+        for word in words.split_whitespace() {
+            if word.as_bytes().eq_ignore_ascii_case(self.bytes) {
                 return true;
             }
-            rest = after;
         }
         false
     }

@@ -14,24 +14,14 @@ pub struct Hint<'a> {
     ghost in_line: { in_line (front.now ++ (word.now ++ back.now)) ≡ true },
 }
 
-/// Returns a hint that is this text.
-pub(crate) fn text(front: &'static str) -> Option<Hint<'static>>
-    requires { in_line front.now ≡ true }
-{
-    around(front, Token { bytes: &[] }, "")
-}
-
-/// Returns a hint that is a token between two texts; `None` where the token is more than a line.
+/// Returns a hint that is a token between two texts; `None` where these are more than a line.
 pub(crate) fn around<'a>(
     front: &'static str,
     token: Token<'a>,
     back: &'static str,
-) -> Option<Hint<'a>>
-    requires front { in_line front.now ≡ true }
-    requires back { in_line back.now ≡ true }
-{
+) -> Option<Hint<'a>> {
     let word = token.bytes;
-    if is_in_line(word) {
+    if is_in_line(front.as_bytes()) && is_in_line(word) && is_in_line(back.as_bytes()) {
         Some(Hint { front, word, back })
     } else {
         None

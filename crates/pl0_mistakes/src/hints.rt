@@ -1,388 +1,265 @@
-//! What is said beside a token that can't stand where it does, or where a text ends.
+//! What is said beside a mistake: rows, of which the first that fits counts. `rows.rt` says how one is read.
 
-use crate::cases::{keyword_in_lower_case, keyword_nearby};
-use crate::foreign::{
-    assigning_hint, call_hint, comment_hint, comparing_hint, constant_hint, form_hint,
-    separator_hint, statement_word_hint, word_hint,
-};
-use crate::hint::{Hint, around, text};
-use crate::names::procedure_with;
-use crate::scene::{Scene, is_comparison, is_declaring, is_keyword, is_name};
-use crate::situation::{
-    at_opening, begins_early, begins_operand, begins_statement, ends_expression, ends_statement,
-    in_condition, is_in_expression, is_new, is_operator, is_procedure, is_sign, is_target,
-    lacks_comma, lacks_semicolon, may_end, wants_operand,
-};
+/// What is said beside a token that can't stand where it does.
+pub(crate) const UNEXPECTED: [&str; 9] = [
+    REMARKS, SIGNS, FORMS, MISSING, WORDS, PLACED, WANTED, CONDITIONS, RESTS,
+];
 
-/// Returns what is said beside a token that can't stand where it does, the first that fits; `None` where nothing is known.
-pub(crate) fn hint_for(scene: Scene<'_>) -> Option<Hint<'_>> {
-    comment_hint(scene)
-        .or_else(|| period_hint(scene))
-        .or_else(|| comparing_hint(scene))
-        .or_else(|| assigning_hint(scene))
-        .or_else(|| name_sign_hint(scene))
-        .or_else(|| declared_hint(scene))
-        .or_else(|| case_hint(scene))
-        .or_else(|| form_hint(scene))
-        .or_else(|| separator_hint(scene))
-        .or_else(|| missing_hint(scene))
-        .or_else(|| word_hint(scene))
-        .or_else(|| missing_word_hint(scene))
-        .or_else(|| statement_word_hint(scene))
-        .or_else(|| call_hint(scene))
-        .or_else(|| placed_hint(scene))
-        .or_else(|| keyword_hint(scene))
-        .or_else(|| declaring_hint(scene))
-        .or_else(|| statement_hint(scene))
-        .or_else(|| value_hint(scene))
-        .or_else(|| comma_hint(scene))
-        .or_else(|| condition_hint(scene))
-        .or_else(|| rest_hint(scene))
-}
+/// Remarks and signs that stand twice, and what stands behind the program.
+const REMARKS: &str = "
+last: + here: + next: ; . end when: touching expression say: the new value is written in full, as in `x := x + 1`
+last: - here: - next: ; . end when: touching expression say: the new value is written in full, as in `x := x - 1`
+last: / here: / when: operand-next say: a single `/` divides, and drops the fraction
+last: * here: * say: a power is written as a product
+here: # next: include define import when: opening say: PL/0 has no `{next}`
+starts: (* // /* say: PL/0 has no comments
+starts: -- when: opening unless: update say: PL/0 has no comments
+last: - here: - when: touching unless: operand-next say: PL/0 has no comments
+here: # when: opening say: PL/0 has no comments
+last: ( here: * say: PL/0 has no comments
+last: / here: / * say: PL/0 has no comments
+last: . second: NUMBER here: NUMBER say: the program ends at the `.` before it, and all numbers are whole
+last: . say: the program ends at the `.` before it
+here: . next: NUMBER last: NUMBER say: all numbers are whole
+here: . next: NUMBER when: wanted say: all numbers are whole
+";
 
-/// Returns what is said where the text ends before the program does.
-pub(crate) fn end_hint(scene: Scene<'_>) -> Option<Hint<'_>> {
-    let past = scene.past;
-    let ends_part = ends_statement(scene) || past.last.is(";");
-    if past.begins > 0 && ends_part {
-        text("perhaps an `end` is missing")
-    } else if past.begins > 0 || !ends_part {
-        None
-    } else if past.last.is(";") && past.procedures == 0 {
-        text("the program ends with a statement and a `.`, as in `call p.`")
-    } else if past.last.is(";") {
-        None
-    } else if past.procedures > 0 {
-        text("a procedure ends with a `;`")
-    } else {
-        text("a `.` ends the program")
-    }
-}
+/// Signs that compare and assign, as they are written in other languages, and signs in a name.
+const SIGNS: &str = "
+starts: != say: write `#` for not equal
+last: < here: > say: write `#` for not equal
+last: / here: = when: condition say: write `#` for not equal
+last: = here: ! when: condition say: write `#` for not equal
+last: = starts: /= when: condition say: write `#` for not equal
+starts: !< when: condition say: write `>=`
+starts: !> when: condition say: write `<=`
+last: = here: = say: write a single `=`
+last: = here: < when: condition say: write `<=`
+last: = here: > when: condition say: write `>=`
+last: < > here: = say: `<=` and `>=` are single signs
+here: ! last: if while ( when: condition say: `!` writes, and PL/0 has no `not`
+when: update say: the new value is written in full, as in `x := x + 1`
+when: no-blank say: perhaps a blank is missing behind `{keyword in last}`
+when: no-blank-behind-begin say: perhaps a blank is missing behind `begin`
+here: = ended: const when: target new say: constants are declared as in `const a = 1, b = 2;`
+here: = when: target say: `:=` assigns, and `=` compares
+starts: <- when: target say: `:=` assigns, and `=` compares
+here: := when: condition may-end say: `:=` assigns, and `=` compares
+last: WRITING when: target new letter-behind say: `!` writes a number
+last: NAME when: declaring touching letter-behind say: a name has only letters and digits
+last: NAME when: target new touching letter-behind say: a name has only letters and digits
+last: NAME here: . when: expression touching letter-behind say: a name has only letters and digits
+here: = := in: var say: a variable is declared without a value
+last: NAME here: := in: const say: a constant is declared with `=`
+here: COMPARISON odd when: condition parenthesis say: no comparison stands in parentheses
+last: NAME here: ( in: procedure call say: procedures have no parameters
+say: perhaps `{last in lower case}` is meant: keywords are in lower case
+say: perhaps `{here in lower case}` is meant: keywords are in lower case
+";
 
-/// Returns what is said of a name that isn't declared: which procedure has one of this name.
-pub(crate) fn unknown_hint(scene: Scene<'_>) -> Option<Hint<'_>> {
-    let procedure = procedure_with(scene.front, scene.found)?;
-    around(
-        "it is declared in procedure `",
-        procedure,
-        "`, and known there alone",
-    )
-}
+/// Types, numbers, ends and separators, as they are written in other languages.
+const FORMS: &str = "
+last: TYPE in: var say: variables have no types
+here: TYPE in: var say: variables have no types
+last: TYPE in: const say: constants have no types
+here: TYPE in: const say: constants have no types
+last: 0 when: touching base say: a number is written in decimal
+last: NUMBER when: exponent say: all numbers are whole, and written with digits alone
+last: end here: if while procedure next: ; . end say: an `end` stands alone, without `{here}`
+last: end next: ; . end when: procedure-here unless: begin say: an `end` stands alone, without `{here}`
+here: , . when: begin ended begins-next say: perhaps a `;` is meant
+here: . next: end when: begin say: perhaps this `.` is one too many
+";
 
-/// What stands behind the program, and numbers with a fraction.
-fn period_hint(scene: Scene<'_>) -> Option<Hint<'_>> {
-    let past = scene.past;
-    let in_number = past.last.is_number() || wants_operand(scene);
-    if past.last.is(".") && past.second_last.is_number() && scene.found.is_number() {
-        text("the program ends at the `.` before it, and all numbers are whole")
-    } else if past.last.is(".") {
-        text("the program ends at the `.` before it")
-    } else if scene.found.is(".") && scene.next.is_number() && in_number {
-        text("all numbers are whole")
-    } else {
-        None
-    }
-}
+/// What is missing before the token.
+const MISSING: &str = "
+here: ; next: NOTHING . when: ended say: a `.` ends the program
+here: ; next: DECLARING when: ended say: declarations stand before the statement of a block
+last: end here: ; when: ended say: no `begin` is open any more
+here: ; when: ended say: several statements stand between `begin` and `end`
+here: . when: begin ended say: perhaps an `end` is missing before it: the `begin` in line {line} is open
+here: . when: begin opening say: perhaps an `end` is missing before it: the `begin` in line {line} is open
+when: lacks-comma say: perhaps a `,` is missing before it
+when: lacks-semicolon say: perhaps a `;` is missing before it
+when: begins ended say: several statements stand between `begin` and `end`
+";
 
-/// What is said of a sign in a name, without a blank on either side.
-fn name_sign_hint(scene: Scene<'_>) -> Option<Hint<'_>> {
-    let last = scene.past.last;
-    let named = is_declaring(scene.past.opener) || is_target(scene) && is_new(scene, last);
-    if named && is_name(last) && scene.front.ends_with(last.bytes) && is_before_letter(scene) {
-        text("a name has only letters and digits")
-    } else {
-        None
-    }
-}
+/// Words that are no keywords, and calls.
+const WORDS: &str = "
+last: od when: condition say: perhaps `odd` is meant
+last: FUNCTION here: NUMBER NAME when: expression new say: PL/0 has no `{last}`
+here: REMAINDER DIVISION in: const say: a constant is a number, and isn't computed
+here: REMAINDER say: the remainder of `x` by `y` is `x - x / y * y`
+here: DIVISION say: `/` divides, and drops the fraction
+here: REPEATING when: new-here unless: opening say: PL/0 has no keyword `{here}`: only `while` repeats
+here: ELSE say: PL/0 has no keyword `{here}`: write an `if` with the opposite condition
+here: LOGICAL say: PL/0 has no keyword `{here}`: a condition has one comparison, or `odd`
+here: BETWEEN say: PL/0 has no keyword `{here}`
+last: REPEATING when: new say: PL/0 has no keyword `{last}`: only `while` repeats
+last: ELSE when: new say: PL/0 has no keyword `{last}`: write an `if` with the opposite condition
+last: LOGICAL when: new say: PL/0 has no keyword `{last}`: a condition has one comparison, or `odd`
+last: program module unit when: new say: PL/0 has no keyword `{last}`: a program begins with its declarations
+last: return when: new say: PL/0 has no keyword `{last}`: a procedure ends behind its statement, and has no value
+last: BEGINNING when: new say: PL/0 has no keyword `{last}`
+in: if when: begins-early say: perhaps `then` is missing before it
+in: while when: begins-early say: perhaps `do` is missing before it
+not: := = ( when: target called say: perhaps `call` is missing before `{last}`
+last: READING when: new say: a program reads no input
+last: WRITING when: target new say: `!` writes a number
+last: CHANGING when: target new say: the new value is written in full, as in `x := x + 1`
+last: CONSTANT when: target new say: constants are declared by `const`
+last: TYPE next: ( when: target new say: a procedure is declared as in `procedure p;`
+last: TYPE when: target new say: variables are declared by `var`, without a type
+last: PROCEDURE when: target new say: a procedure is declared as in `procedure p;`
+here: ( when: target called say: perhaps `call {last}` is meant: procedures have no parameters
+here: ( when: target new say: a procedure is called by `call`, without parameters
+";
 
-/// Whether a `-` or a `.` stands at the place, right before a letter.
-fn is_before_letter(scene: Scene<'_>) -> bool {
-    match scene.onward {
-        [b'-' | b'.', letter, ..] => letter.is_ascii_alphabetic(),
-        _ => false,
-    }
-}
+/// Where in PL/0 the token stands, keywords that nearly read so, and declarations.
+const PLACED: &str = "
+here: const say: constants are declared first in a block
+last: = here: + - in: const say: a constant is a number without a sign
+last: + - * / here: + - say: a sign stands only where an expression begins, as in `(-1)`
+here: # in: := ! say: `#` compares, and PL/0 has no comments
+starts: << >> in: := ! say: only `+`, `-`, `*` and `/` compute
+here: COMPARISON in: := ! say: only `if` and `while` compare
+here: procedure when: procedure begin opening say: perhaps an `end` is missing before it: the `begin` in line {line} is open
+here: procedure when: procedure begin ended say: perhaps an `end` is missing before it: the `begin` in line {line} is open
+here: procedure unless: declaring say: procedures are declared before the statement of a block
+here: var when: begin unless: declaring say: variables are declared before the statement of a block
+here: var unless: declaring say: variables are declared once in a block, before its procedures
+last: NAME when: new say: perhaps `{keyword like last}` is meant
+here: NAME when: new-here say: perhaps `{keyword like here}` is meant
+here: KEYWORD next: , ; = := when: naming say: a keyword is no name
+here: NUMBER when: naming say: a name begins with a letter
+when: naming say: a name has to stand here
+last: = in: const say: a number has to stand here
+last: NAME in: const say: `=` has to stand here
+here: OPERATOR in: const say: a constant is a number, and isn't computed
+in: const var say: `,` or `;` has to stand here
+in: procedure say: `;` has to stand here
+";
 
-/// What isn't declared so, and what a procedure or a comparison hasn't.
-fn declared_hint(scene: Scene<'_>) -> Option<Hint<'_>> {
-    let opener = scene.past.opener;
-    if scene.found.is_one_of("= :=") && opener.is("var") {
-        text("a variable is declared without a value")
-    } else if scene.found.is(":=") && opener.is("const") && is_name(scene.past.last) {
-        text("a constant is declared with `=`")
-    } else if in_condition(scene)
-        && scene.past.parentheses > 0
-        && (is_comparison(scene.found) || scene.found.is("odd"))
-    {
-        text("no comparison stands in parentheses")
-    } else if scene.found.is("(")
-        && opener.is_one_of("procedure call")
-        && is_name(scene.past.last)
-    {
-        text("procedures have no parameters")
-    } else {
-        None
-    }
-}
-
-/// The keyword that is meant by a word in another case, the word before the place or the one there.
-fn case_hint(scene: Scene<'_>) -> Option<Hint<'_>> {
-    let keyword = keyword_in_lower_case(scene.past.last).or(keyword_in_lower_case(scene.found))?;
-    around(
-        "perhaps `",
-        keyword,
-        "` is meant: keywords are in lower case",
-    )
-}
-
-/// What is missing before the token, and what a `.` and a `;` mean.
-fn missing_hint(scene: Scene<'_>) -> Option<Hint<'_>> {
-    let ended = ends_statement(scene);
-    if scene.found.is(";") && ended {
-        semicolon_hint(scene)
-    } else if scene.found.is(".") && scene.past.begins > 0 && (ended || at_opening(scene)) {
-        text("perhaps an `end` is missing before it")
-    } else if lacks_comma(scene) {
-        text("perhaps a `,` is missing before it")
-    } else if lacks_semicolon(scene) {
-        text("perhaps a `;` is missing before it")
-    } else if begins_statement(scene) && ended {
-        text("several statements stand between `begin` and `end`")
-    } else {
-        None
-    }
-}
-
-/// What is said of a `;` behind a statement that no `begin` encloses.
-fn semicolon_hint(scene: Scene<'_>) -> Option<Hint<'_>> {
-    if scene.next.bytes.is_empty() || scene.next.is(".") {
-        text("a `.` ends the program")
-    } else if is_declaring(scene.next) {
-        text("declarations stand before the statement of a block")
-    } else if scene.past.last.is("end") {
-        text("no `begin` is open any more")
-    } else {
-        text("several statements stand between `begin` and `end`")
-    }
-}
-
-/// The keyword that is missing before a statement, or before a name.
-fn missing_word_hint(scene: Scene<'_>) -> Option<Hint<'_>> {
-    let past = scene.past;
-    if begins_early(scene) && past.opener.is("if") {
-        text("perhaps `then` is missing before it")
-    } else if begins_early(scene) && past.opener.is("while") {
-        text("perhaps `do` is missing before it")
-    } else if is_target(scene) && is_procedure(scene) && !scene.found.is_one_of(":= = (") {
-        around("perhaps `call` is missing before `", past.last, "`")
-    } else {
-        None
-    }
-}
-
-/// The keyword that is meant by a word that nearly reads so.
-fn keyword_hint(scene: Scene<'_>) -> Option<Hint<'_>> {
-    let last = scene.past.last;
-    let keyword = if is_name(last) && is_new(scene, last) {
-        keyword_nearby(last)
-    } else if is_name(scene.found) && is_new(scene, scene.found) {
-        keyword_nearby(scene.found)
-    } else {
-        None
-    };
-    around("perhaps `", keyword?, "` is meant")
-}
-
-/// Where in PL/0 the token stands.
-fn placed_hint(scene: Scene<'_>) -> Option<Hint<'_>> {
-    let past = scene.past;
-    if scene.found.is("const") {
-        text("constants are declared first in a block")
-    } else if is_sign(scene.found) && past.opener.is("const") && past.last.is("=") {
-        text("a constant is a number without a sign")
-    } else if is_sign(scene.found) && past.last.is_one_of("+ - * /") {
-        text("a sign stands only where an expression begins")
-    } else if scene.found.is("#") && past.opener.is_one_of(":= !") {
-        text("`#` compares, and PL/0 has no comments")
-    } else if is_comparison(scene.found) && past.opener.is_one_of(":= !") {
-        text("only `if` and `while` compare")
-    } else if scene.found.is("procedure") {
-        procedure_hint(scene)
-    } else if scene.found.is("var") && !is_declaring(past.opener) {
-        variable_hint(scene)
-    } else {
-        None
-    }
-}
-
-/// Where procedures are declared.
-fn procedure_hint(scene: Scene<'_>) -> Option<Hint<'_>> {
-    let past = scene.past;
-    if past.procedures > 0 && past.begins > 0 && !past.last.is("begin") {
-        text("perhaps an `end` is missing before it")
-    } else if !is_declaring(past.opener) {
-        text("procedures are declared before the statement of a block")
-    } else {
-        None
-    }
-}
-
-/// Where variables are declared.
-fn variable_hint(scene: Scene<'_>) -> Option<Hint<'_>> {
-    if scene.past.begins > 0 {
-        text("variables are declared before the statement of a block")
-    } else {
-        text("variables are declared once in a block, before its procedures")
-    }
-}
-
-/// What has to stand in a declaration, and in a call.
-fn declaring_hint(scene: Scene<'_>) -> Option<Hint<'_>> {
-    let past = scene.past;
-    let named = is_declaring(past.opener) || past.opener.is("call");
-    if named && (past.last.bytes == past.opener.bytes || past.last.is(",")) {
-        name_hint(scene)
-    } else if past.opener.is("const") && past.last.is("=") {
-        text("a number has to stand here")
-    } else if past.opener.is("const") && is_name(past.last) {
-        text("`=` has to stand here")
-    } else if past.opener.is("const") && is_operator(scene.found) {
-        constant_hint()
-    } else if past.opener.is_one_of("const var") {
-        text("`,` or `;` has to stand here")
-    } else if past.opener.is("procedure") {
-        text("`;` has to stand here")
-    } else {
-        None
-    }
-}
-
-/// What is said where a name has to stand.
-fn name_hint(scene: Scene<'_>) -> Option<Hint<'_>> {
-    if is_keyword(scene.found) && scene.next.is_one_of(", ; = :=") {
-        text("a keyword is no name")
-    } else if scene.found.is_number() {
-        text("a name begins with a letter")
-    } else {
-        text("a name has to stand here")
-    }
-}
-
-/// What has to stand where a statement begins, and behind a name there.
-fn statement_hint(scene: Scene<'_>) -> Option<Hint<'_>> {
-    let past = scene.past;
-    if is_target(scene)
-        && past.ended.is("var")
-        && scene.found.is_one_of(", ;")
-        && is_new(scene, past.last)
-    {
-        text("variables are declared as in `var a, b;`")
-    } else if is_target(scene) {
-        around("after the name `", past.last, "` only `:=` can stand")
-    } else if !at_opening(scene) {
-        None
-    } else if scene.found.is("end") {
-        text("no `begin` is open")
-    } else if scene.found.is_one_of("then do") && scene.found.bytes == past.last.bytes {
-        around("perhaps this `", scene.found, "` is one too many")
-    } else if scene.found.is_one_of("then do") {
-        text("`do` belongs to a `while`, and `then` to an `if`")
-    } else if scene.found.is(";") {
-        text("perhaps this `;` is one too many")
-    } else {
-        text("a statement begins with a name, a keyword or `!`")
-    }
-}
-
-/// What has no value, and what is missing where a value stands.
-fn value_hint(scene: Scene<'_>) -> Option<Hint<'_>> {
-    let wanted = wants_operand(scene);
-    if wanted && scene.found.is("call") {
-        text("a call has no value")
-    } else if wanted && scene.found.is("odd") {
-        text("only `if` and `while` compare")
-    } else if wanted && scene.found.is_one_of("if while begin !") {
-        text("a statement has no value")
-    } else if scene.past.last.is_one_of("if while") {
-        text("a comparison has to stand here")
-    } else if wanted {
-        text("a number or a name has to stand here")
-    } else if scene.found.is(":=") && scene.past.second_last.is("!") {
-        text("`!` writes a value, and an assignment has none")
-    } else if scene.found.is(":=") && is_in_expression(scene) {
-        text("an assignment has no value")
-    } else if scene.found.is("(") && is_name(scene.past.last) && is_in_expression(scene) {
-        text("PL/0 has no functions")
-    } else {
-        None
-    }
-}
-
-/// What is said of a comma.
-fn comma_hint(scene: Scene<'_>) -> Option<Hint<'_>> {
-    if !scene.found.is(",") {
-        None
-    } else if scene.past.opener.is("!") {
-        text("each `!` writes one number")
-    } else if in_condition(scene) {
-        text("a condition has one comparison, or `odd`")
-    } else if scene.past.last.is_number() && scene.next.is_number() {
-        text("all numbers are whole")
-    } else {
-        text("`,` stands only between names that are declared")
-    }
-}
+/// What has to stand where a statement begins, behind a name there, and where a value stands; and commas.
+const WANTED: &str = "
+ended: var here: , ; when: target new say: variables are declared as in `var a, b;`
+when: target say: after the name `{last}` only `:=` can stand
+here: end when: opening unless: begin say: no `begin` is open
+here: then last: then say: perhaps this `then` is one too many
+here: do last: do say: perhaps this `do` is one too many
+here: then do when: opening say: `do` belongs to a `while`, and `then` to an `if`
+here: ; when: opening say: perhaps this `;` is one too many
+when: opening say: a statement begins with a name, a keyword or `!`
+here: call when: wanted say: a call has no value
+here: odd when: wanted say: only `if` and `while` compare
+here: if while begin ! when: wanted say: a statement has no value
+last: if while say: a comparison has to stand here
+when: wanted say: a number or a name has to stand here
+second: ! here: := say: `!` writes a value, and an assignment has none
+here: := when: expression say: an assignment has no value
+last: NAME here: ( when: expression say: PL/0 has no functions
+here: , in: ! say: each `!` writes one number
+here: , when: condition say: a condition has one comparison, or `odd`
+last: NUMBER here: , next: NUMBER say: all numbers are whole
+here: , say: `,` stands only between names that are declared
+";
 
 /// What is missing in a condition or between parentheses.
-fn condition_hint(scene: Scene<'_>) -> Option<Hint<'_>> {
-    let past = scene.past;
-    let complete = ends_expression(scene);
-    let compared = past.compared || past.opener.is("odd");
-    let ends = scene.found.is_one_of("then do") || begins_statement(scene);
-    if is_comparison(scene.found) && compared {
-        text("a condition has one comparison, or `odd`")
-    } else if ends && in_condition(scene) && !compared && complete {
-        text("a comparison is missing before it")
-    } else if past.parentheses > 0 && ends_group(scene) {
-        text("a `)` is missing before it")
-    } else if past.parentheses == 0 && scene.found.is(")") {
-        text("no `(` is open")
-    } else if begins_operand(scene) && may_end(past.last) && is_in_expression(scene) {
-        text("an operator is missing before it")
-    } else if past.opener.is("if") && compared && complete {
-        text("`then` has to stand behind the condition of an `if`")
-    } else if past.opener.is("while") && compared && complete {
-        text("`do` has to stand behind the condition of a `while`")
-    } else {
-        None
-    }
-}
-
-/// Whether the token can't stand in parentheses.
-fn ends_group(scene: Scene<'_>) -> bool {
-    scene
-        .found
-        .is_one_of("; . end then do ! call begin if while")
-}
+const CONDITIONS: &str = "
+here: COMPARISON when: compared say: a condition has one comparison, or `odd`
+here: then do when: condition complete unless: compared say: a comparison is missing before it
+when: begins condition complete unless: compared say: a comparison is missing before it
+here: ; . end then do ! call begin if while when: parenthesis say: a `)` is missing before it
+here: ) unless: parenthesis say: no `(` is open
+when: operand-here may-end expression say: an operator is missing before it
+in: if when: compared complete say: `then` has to stand behind the condition of an `if`
+in: while when: compared complete say: `do` has to stand behind the condition of a `while`
+";
 
 /// What has to stand behind a statement.
-fn rest_hint(scene: Scene<'_>) -> Option<Hint<'_>> {
-    let past = scene.past;
-    if scene.found.is_one_of("then do") {
-        text("`do` belongs to a `while`, and `then` to an `if`")
-    } else if scene.found.is("end") && past.begins == 0 && past.last.is("end") {
-        text("no `begin` is open any more")
-    } else if scene.found.is("end") && past.begins == 0 {
-        text("no `begin` is open")
-    } else if !ends_statement(scene) {
-        None
-    } else if past.begins > 0 {
-        text("`;` or `end` has to stand here")
-    } else if past.procedures > 0 && scene.found.is(".") && scene.next.bytes.is_empty() {
-        text("a procedure ends with a `;`, and the program with a statement, as in `call p.`")
-    } else if past.procedures > 0 {
-        text("a procedure ends with a `;`")
-    } else {
-        text("a `.` ends the program")
-    }
-}
+const RESTS: &str = "
+here: then do say: `do` belongs to a `while`, and `then` to an `if`
+last: end here: end unless: begin say: no `begin` is open any more
+here: end unless: begin say: no `begin` is open
+when: ended begin say: `;` or `end` has to stand here
+here: . next: NOTHING when: ended procedure say: a procedure ends with a `;`, and the program with a statement, as in `call p.`
+when: ended procedure say: a procedure ends with a `;`
+when: ended say: a `.` ends the program
+";
+
+/// What is said where the text ends before the program does.
+pub(crate) const ENDS: &str = "
+when: begin ended say: perhaps an `end` is missing: the `begin` in line {line} is open
+last: ; when: begin say: perhaps an `end` is missing: the `begin` in line {line} is open
+last: ; unless: begin procedure say: the program ends with a statement and a `.`, as in `call p.`
+when: ended procedure unless: begin say: a procedure ends with a `;`
+when: ended unless: begin say: a `.` ends the program
+";
+
+/// What is said of a name that isn't declared.
+pub(crate) const UNKNOWN: &str = "
+here: true false say: all values are numbers
+say: it is declared in procedure `{procedure of here}`, and known there alone
+say: perhaps `{name like here}` is meant
+";
+
+/// What is said beside a byte that isn't ASCII: what to write for a sign, and how to save a file. The mark that some
+/// editors write at the beginning of a file stands first; behind the signs of the book stand those that word processors
+/// and other keyboards write, and letters with accents and of other alphabets.
+pub(crate) const FOREIGN: &str = "
+last: NOTHING starts: \u{feff} say: save it as UTF-8 without a BOM
+last: NOTHING when: sixteen-bits say: save it as UTF-8 without a BOM
+starts: ≠ say: write `#` for not equal
+starts: ≤ ⩽ say: write `<=`
+starts: ≥ ⩾ say: write `>=`
+starts: ← ≔ say: write `:=`
+starts: ∧ ∨ ¬ say: a condition has one comparison, or `odd`
+starts: × · ∗ say: write `*`
+starts: ÷ say: write `/`
+starts: − – — say: write `-`
+starts: ² ³ say: a power is written as a product
+starts: “ ” „ ‘ ’ ´ « say: PL/0 has no strings
+when: no-break-space say: this is a no-break space: write a blank
+when: wide say: this sign is a wide one: write the same in ASCII
+when: letter say: the letters of a name are `a` to `z` and `A` to `Z`
+";
+
+/// What is said beside a character with which no token begins.
+pub(crate) const UNREADABLE: &str = "
+starts: ``` say: begin with the program itself
+here: { when: wanted say: an expression is enclosed by `(` and `)`
+here: [ ] say: PL/0 has no arrays
+here: { } when: condition say: several statements stand between `begin` and `end`
+here: { in: procedure say: several statements stand between `begin` and `end`
+here: } say: several statements stand between `begin` and `end`
+here: { say: PL/0 has no comments, and several statements stand between `begin` and `end`
+last: NUMBER here: _ ' when: touching say: a number has only digits
+last: NAME here: ' when: touching unless: expression say: a name has only letters and digits
+here: \" ' say: PL/0 has no strings
+here: _ $ @ ` say: a name has only letters and digits
+here: : in: if say: `then` stands behind the condition of an `if`
+here: : in: while say: `do` stands behind the condition of a `while`
+here: : in: procedure say: `;` has to stand here
+here: : in: const say: a constant is declared as in `const a = 1;`
+here: : in: var say: variables have no types
+here: : last: REPEATING when: new say: PL/0 has no keyword `{last}`: only `while` repeats
+here: : last: ELSE when: new say: PL/0 has no keyword `{last}`: write an `if` with the opposite condition
+here: : last: BEGINNING when: new say: PL/0 has no keyword `{last}`
+here: : next: = when: opening say: `:=` is one sign
+here: : when: opening say: perhaps this `:` is one too many
+here: : when: ended say: perhaps a `;` is meant
+here: : next: : say: `!` writes a number
+here: : say: `:=` is one sign
+here: ? when: opening say: a program reads no input
+here: ? say: `if` is a statement, and has no value
+here: % when: opening say: PL/0 has no comments
+here: % when: wanted say: a number or a name has to stand here
+here: % in: const say: a constant is a number, and isn't computed
+here: % say: the remainder of `x` by `y` is `x - x / y * y`
+here: & | when: condition say: a condition has one comparison, or `odd`
+here: & | say: only `+`, `-`, `*` and `/` compute
+here: ^ say: a power is written as a product
+here: \\ say: `/` divides, and drops the fraction
+starts: ~= say: write `#` for not equal
+here: ~ say: PL/0 has no `not`
+";

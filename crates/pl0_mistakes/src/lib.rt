@@ -14,22 +14,22 @@
 //!
 //! The contracts are those of [`mistake_line`], [`fault_line`] and [`warning_lines`]: they return the lines that
 //! `specs/Lines` and `specs/Warnings` define, with the sentences of `specs/Sentences`. What is said beside a token that
-//! can't stand where it does is a hint: a value (`src/hint.rt`) that `src/hints.rt`, `foreign.rt` and `characters.rt` choose
-//! by the tokens around it (`src/scene.rt`). It is defined only that a hint stays in the line.
+//! can't stand where it does is a hint. `src/hints.rt` is a table of rows, of which the first that fits counts; `src/rows.rt`
+//! reads one, by the tokens around the place (`src/scene.rt`). It is defined only that a hint stays in the line.
 #![tactic(auto)]
 
 mod cases;
-mod characters;
-mod foreign;
+mod facts;
 mod found;
 mod hint;
 mod hints;
 mod lines;
 mod names;
+mod rows;
 mod scene;
 mod sentences;
-mod situation;
 mod warnings;
+mod words;
 
 pub use lines::{fault_line, mistake_line};
 pub use warnings::warning_lines;

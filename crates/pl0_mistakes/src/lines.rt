@@ -5,7 +5,7 @@ ghost use Rattle.pl0_mistakes.specs.Lines.{IsMistakeLine, message_line, fault_li
 ghost use Rattle.pl0_mistakes.specs.Written.{bytes_of};
 
 use crate::found::token_at;
-use crate::scene::scene_at;
+use crate::scene::{begun_line, scene_at};
 use crate::sentences::{Sentence, sentence_for, write, write_fault, write_sentence};
 use itoa::Buffer;
 use pl0_meaning::RunFault;
@@ -28,7 +28,9 @@ pub fn mistake_line(
 ) -> Result<Vec<u8>, AllocError>
     ensures { IfOk result (λ line. IsMistakeLine file.now text.now kind place line.items) }
 {
-    let sentence = sentence_for(kind, token_at(text, place), scene_at(text, place));
+    let mut digits = Buffer::new();
+    let begun = digits.format(begun_line(text, place));
+    let sentence = sentence_for(kind, token_at(text, place), scene_at(text, place, begun));
     error_line(alloc, file, place, sentence)
 }
 

@@ -1,7 +1,8 @@
 //! What a name is declared as.
 
+use crate::cases::resembles;
 use crate::found::{Token, next_token};
-use crate::scene::{Past, is_name, nothing_past};
+use crate::scene::{Past, is_declaring, is_name, nothing_past};
 
 /// What a name is declared as.
 #[derive(Clone, Copy, PartialEq, Eq)]
@@ -50,6 +51,22 @@ pub(crate) fn procedure_with<'a>(front: &'a [u8], name: Token<'_>) -> Option<Tok
             procedure = Some(token);
         } else if past.opener.is_one_of("const var") && token.bytes == name.bytes {
             found = procedure;
+        }
+        past = past.followed_by(token);
+        rest = after;
+    }
+    found
+}
+
+/// Returns the last name declared in a text's front, and known at its end, that a name resembles.
+pub(crate) fn name_nearby<'a>(front: &'a [u8], name: Token<'_>) -> Option<Token<'a>> {
+    let mut found = None;
+    let mut past = nothing_past();
+    let mut rest = front;
+    while let Some((token, after)) = next_token(rest) {
+        let declared = is_declaring(past.opener) && is_name(token);
+        if declared && resembles(token, name) && kind_of(front, token).is_some() {
+            found = Some(token);
         }
         past = past.followed_by(token);
         rest = after;

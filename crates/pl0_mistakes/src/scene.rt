@@ -18,6 +18,8 @@ pub struct Scene<'a> {
     pub third: Token<'a>,
     /// Whether no token stands before it in its line.
     pub starts_line: bool,
+    /// The number of the line with the last `begin` that is open.
+    pub begun: Token<'a>,
     /// What is known of the tokens before it.
     pub past: Past<'a>,
 }
@@ -42,8 +44,8 @@ pub struct Past<'a> {
     pub compared: bool,
 }
 
-/// Returns what stands around a place of a text.
-pub(crate) fn scene_at(text: &[u8], place: Place) -> Scene<'_>
+/// Returns what stands around a place of a text, where the last `begin` that is open stands in the line `begun`.
+pub(crate) fn scene_at<'a>(text: &'a [u8], place: Place, begun: &'a str) -> Scene<'a>
     ensures { result.past.last.bytes.now ≡ token_before place text.now }
 {
     let front = before_place(text, place);
@@ -59,8 +61,30 @@ pub(crate) fn scene_at(text: &[u8], place: Place) -> Scene<'_>
         next,
         third,
         starts_line: starts_line(front),
+        begun: Token {
+            bytes: begun.as_bytes(),
+        },
         past,
     }
+}
+
+/// Returns the number of the line with the last `begin` that is open at a place of a text.
+pub(crate) fn begun_line(text: &[u8], place: Place) -> usize {
+    let front = before_place(text, place);
+    let open = past_of(front).begins;
+    let mut depth = 0;
+    let mut behind = front;
+    let mut rest = front;
+    while let Some((token, after)) = next_token(rest) {
+        depth = counted(depth, token, "begin", "end");
+        if token.is("begin") && depth == open {
+            behind = after;
+        }
+        rest = after;
+    }
+    let before = front.len().saturating_sub(behind.len());
+    let feeds = front.iter().take(before).filter(|byte| **byte == b'\n');
+    feeds.count().saturating_add(1)
 }
 
 /// Whether no token stands in the last line of bytes.

@@ -4,12 +4,12 @@ ghost use Rattle.std.specs.Prelude.{◌≡◌, ◌++◌, true, codes, Some, OnOk
 ghost use Rattle.pl0_mistakes.specs.Sentences.{IsMistakeSentence, misuses, one_of, fault_sentence};
 ghost use Rattle.pl0_mistakes.specs.Written.{bytes_of, hinted};
 
-use crate::characters::{foreign_hint, unreadable_hint};
+use crate::facts::at_opening;
 use crate::hint::Hint;
-use crate::hints::{end_hint, hint_for, unknown_hint};
+use crate::hints::{ENDS, FOREIGN, UNEXPECTED, UNKNOWN, UNREADABLE};
 use crate::names::{Kind, kind_of};
+use crate::rows::hint_for;
 use crate::scene::Scene;
-use crate::situation::at_opening;
 use pl0_meaning::RunFault;
 use pl0_tree::FaultKind;
 use std::alloc::AllocError;
@@ -31,11 +31,11 @@ pub(crate) fn sentence_for<'a>(kind: FaultKind, token: &'a [u8], scene: Scene<'a
         FaultKind::TooLong => plain("the text has more than 65,536 bytes", None),
         FaultKind::NotAscii => plain(
             "only ASCII characters can stand in a program",
-            foreign_hint(scene),
+            hint_for(&[FOREIGN], scene),
         ),
         FaultKind::BadCharacter => plain(
             "no word, number or sign begins with this character",
-            unreadable_hint(scene),
+            hint_for(&[UNREADABLE], scene),
         ),
         FaultKind::NumberTooLarge => plain("the number is larger than 9223372036854775807", None),
         FaultKind::NameTooLong => plain("the name has more than 64 characters", None),
@@ -43,7 +43,7 @@ pub(crate) fn sentence_for<'a>(kind: FaultKind, token: &'a [u8], scene: Scene<'a
         FaultKind::TooDeep => plain("nested more than 64 deep here", None),
         FaultKind::TooManyNames => plain("the block declares more than 1,024 names", None),
         FaultKind::Twice => quoted(token, "` is declared twice in this block", None),
-        FaultKind::Unknown => quoted(token, "` is not declared", unknown_hint(scene)),
+        FaultKind::Unknown => quoted(token, "` is not declared", hint_for(&[UNKNOWN], scene)),
         FaultKind::TooEarly => quoted(token, "` is used before its declaration", None),
         FaultKind::WrongKind => quoted(token, misuse(scene), None),
     }
@@ -78,9 +78,10 @@ fn unexpected<'a>(token: &'a [u8], scene: Scene<'a>) -> Sentence<'a>
     ensures { IsMistakeSentence token.entry.now scene.entry.past.last.bytes.now FaultKind.Expected (bytes_of result) }
 {
     if token.is_empty() {
-        plain("the text ends before the program does", end_hint(scene))
+        let hint = hint_for(&[ENDS], scene);
+        plain("the text ends before the program does", hint)
     } else {
-        quoted(token, "` can't stand here", hint_for(scene))
+        quoted(token, "` can't stand here", hint_for(&UNEXPECTED, scene))
     }
 }
 

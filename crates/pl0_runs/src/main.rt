@@ -2,15 +2,16 @@
 //! then what is written to standard output and standard error, and a line with the exit status.
 #![tactic(auto)]
 
-use byte_streams::{Reading, Writing};
-use pl0_tool::{SystemFiles, execute};
+use byte_streams::{Reading, SystemFiles, Writing};
+use pl0_tool::execute;
 
 /// The command lines.
-const LINES: [&[&str]; 15] = [
+const LINES: [&[&str]; 18] = [
     &["pl0", "run", "multiply.pl0"],
     &["pl0", "run", "-"],
     &["pl0", "run", "fault.pl0"],
     &["pl0", "run", "missing.pl0"],
+    &["pl0", "run", "--steps", "9", "procedures.pl0"],
     &[
         "pl0",
         "check",
@@ -19,6 +20,8 @@ const LINES: [&[&str]; 15] = [
         "mistake.pl0",
         "empty_loop.pl0",
     ],
+    &["pl0", "tokens", "two.pl0"],
+    &["pl0", "tokens", "mistake.pl0"],
     &["pl0", "list", "two.pl0"],
     &["pl0", "list", "--names", "two.pl0"],
     &["pl0", "list", "--names", "procedures.pl0"],

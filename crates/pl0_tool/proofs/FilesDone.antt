@@ -8,7 +8,7 @@ use Rattle.clap.specs.Values.{kind_of}
 use Rattle.clap.specs.declared.error.Error.{Error}
 use Rattle.clap.specs.declared.error.kind.ErrorKind.TheVariants.{OutOfMemory}
 use Rattle.byte_streams.specs.Streams.{Output, Supply}
-use Rattle.pl0_tool.specs.declared.files.FileFault.{FileFault}
+use Rattle.byte_streams.specs.declared.files.FileFault.{FileFault}
 use Rattle.pl0_tool.specs.declared.arguments.Request.{Request}
 use Rattle.pl0_tool.specs.declared.arguments.Task.{Task}
 use Rattle.pl0_tool.specs.Arguments.{Asks, command_line}

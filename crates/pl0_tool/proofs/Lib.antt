@@ -16,12 +16,6 @@ pub mod DrawnCells
 pub mod FaultLines
 -- what commands tell, from what their parts told
 pub mod CommandTells
--- the lines of a text, one by one
-pub mod LinesOfText
--- code and lines, as a listing puts them one after the other
-pub mod ListedCode
--- the table of a trace, part by part
-pub mod TableText
 -- the command line that the calls of clap make, and its options' numbers
 mod CommandLine
 -- what was done with files, one after another

@@ -6,9 +6,9 @@ use Rattle.pl0_meaning.specs.declared.RunFault.{RunFault}
 use Rattle.pl0_meaning.specs.declared.RunFault.TheVariants.{Depth, StepLimit}
 use Rattle.pl0_meaning.specs.Runs.{Outcome, Goes, Faults, Stuck, at, led_to, step_at, step, frame_step, statement_step, on_value, entered, callee, assigned, doing, opened, frame_limit, last_position, written, written_by}
 use Rattle.pl0_machine.specs.declared.outcome.StepOutcome.{StepOutcome}
-use Rattle.pl0_tool.specs.declared.running.RunEnd.TheVariants.{Ended, Faulted, FaultedUnwritten, WriteFailed}
+use Rattle.pl0_tool.specs.declared.running.RunEnd.TheVariants.{Ended, Faulted, FaultedUnwritten, StoppedAt, WriteFailed}
 use Rattle.pl0_tool.specs.declared.running.RunEnd.{RunEnd}
-use Rattle.pl0_tool.specs.Running.{HasRunSlice, RanToNumber, slice_steps}
+use Rattle.pl0_tool.specs.Running.{HasRunSlice, IsWithin, RanToNumber}
 use Rattle.std.proofs.Common.{◌⊎◌, inl, inr}
 use Rattle.pl0_meaning.specs.Laws.{WrittenJoins}
 use Rattle.pl0_tool.proofs.PendingBytes.{writes_both, writes_and_fails}
@@ -345,45 +345,52 @@ held_still joins limit start now new before out pending came r held =
 
 -- a slice of a run is over, and all was written, or the output failed in it
 pub slice_over : WrittenJoins → (limit : ℕ) (start now new : Standing) (result : Option RunEnd)
-    (before after : Output) → Came start now
-    → RanToNumber limit now None new → new.position ≡ start.position + slice_steps
+    (before after : Output) → Came start now → RanToNumber limit now None new
     → ((result ≡ None) × WritesAll (lines_between start new) before after)
     ⊎ ((result ≡ Some WriteFailed) × FailsIn (lines_between start new) before after)
-    → HasRunSlice result start new before after
-slice_over joins limit start now new result before after came r whole (inl (is, wrote)) =
+    → HasRunSlice limit result start new before after
+slice_over joins limit start now new result before after came r (inl (is, wrote)) =
     let came_here = (stretched_on joins limit start now new came r).0 in
-    let there = ap (λ (m : Standing). m.position) came_here.1 in
-    let steps : came_here.0 ≡ slice_steps = omega (arith, there, whole) in
-    subst (λ r. HasRunSlice r start new before after) (sym is)
-    (record { led = came_here.1 ∙ ap (λ k. ahead start k) steps; running = r.ran.0.running; wrote = wrote })
-slice_over joins limit start now new result before after came r whole (inr (is, failed)) =
+    subst (λ r. HasRunSlice limit r start new before after) (sym is)
+    (record {
+      steps = came_here.0;
+      led = came_here.1;
+      there = r.ran.1;
+      running = r.ran.0.running;
+      wrote = wrote;
+    })
+slice_over joins limit start now new result before after came r (inr (is, failed)) =
     let came_here = (stretched_on joins limit start now new came r).0 in
-    subst (λ r. HasRunSlice r start new before after) (sym is) (came_here.0, came_here.1, failed)
+    let there : new.position ≡ limit = r.ran.1 in
+    subst (λ r. HasRunSlice limit r start new before after) (sym is)
+    ((came_here.0, came_here.1, failed), (omega (arith, there)))
 
 -- the program ended in a slice
-pub slice_ended : (start now new : Standing) (result : Option RunEnd) (before after : Output) → Came start now
-    → Ran now new Done
+pub slice_ended : (limit : ℕ) (start now new : Standing) (result : Option RunEnd) (before after : Output)
+    → Came start now → Ran now new Done → new.position ≤ limit
     → ((result ≡ Some Ended) × WritesAll (lines_between start new) before after)
     ⊎ ((result ≡ Some WriteFailed) × FailsIn (lines_between start new) before after)
-    → HasRunSlice result start new before after
-slice_ended start now new result before after came ran (inl (is, wrote)) =
-    subst (λ r. HasRunSlice r start new before after) (sym is) (ended_so start now new before after came ran wrote)
-slice_ended start now new result before after came ran (inr (is, failed)) =
-    subst (λ r. HasRunSlice r start new before after) (sym is)
-    (failed_so start now new Done before after came ran failed)
+    → HasRunSlice limit result start new before after
+slice_ended limit start now new result before after came ran within (inl (is, wrote)) =
+    subst (λ r. HasRunSlice limit r start new before after) (sym is)
+    (ended_so start now new before after came ran wrote, within)
+slice_ended limit start now new result before after came ran within (inr (is, failed)) =
+    subst (λ r. HasRunSlice limit r start new before after) (sym is)
+    (failed_so start now new Done before after came ran failed, within)
 
 -- the next step of a slice faults
-pub slice_faulted : (start now new : Standing) (fault : RunFault) (result : Option RunEnd) (before after : Output)
-    → Came start now → Ran now new (Fault fault)
+pub slice_faulted : (limit : ℕ) (start now new : Standing) (fault : RunFault) (result : Option RunEnd)
+    (before after : Output)
+    → Came start now → Ran now new (Fault fault) → new.position ≤ limit
     → ((result ≡ Some (Faulted fault)) × WritesAll (lines_between start new) before after)
     ⊎ ((result ≡ Some (FaultedUnwritten fault)) × FailsIn (lines_between start new) before after)
-    → HasRunSlice result start new before after
-slice_faulted start now new fault result before after came ran (inl (is, wrote)) =
-    subst (λ r. HasRunSlice r start new before after) (sym is)
-    (faulted_so start now new fault before after came ran wrote)
-slice_faulted start now new fault result before after came ran (inr (is, failed)) =
-    subst (λ r. HasRunSlice r start new before after) (sym is)
-    (faulted_unwritten_so start now new fault before after came ran failed)
+    → HasRunSlice limit result start new before after
+slice_faulted limit start now new fault result before after came ran within (inl (is, wrote)) =
+    subst (λ r. HasRunSlice limit r start new before after) (sym is)
+    (faulted_so start now new fault before after came ran wrote, within)
+slice_faulted limit start now new fault result before after came ran within (inr (is, failed)) =
+    subst (λ r. HasRunSlice limit r start new before after) (sym is)
+    (faulted_unwritten_so start now new fault before after came ran failed, within)
 
 -- the lines of two parts of a run are those of the whole
 lines_join : WrittenJoins → (start mid new : Standing) (i j : ℕ) → mid ≡ ahead start i → new ≡ ahead mid j
@@ -449,11 +456,35 @@ run_join joins (FaultedUnwritten fault) start mid new i before between after to_
   is,
   failed_join joins start mid new i n before between after to_mid to_new first failed,
 )
+run_join joins StoppedAt start mid new i before between after to_mid first (steps, to_new, running, wrote) = (
+  i + steps,
+  came_both start mid new i steps to_mid to_new,
+  running,
+  written_join joins start mid new i steps before between after to_mid to_new first wrote,
+)
 run_join joins WriteFailed start mid new i before between after to_mid first (steps, to_new, failed) = (
   i + steps,
   came_both start mid new i steps to_mid to_new,
   failed_join joins start mid new i steps before between after to_mid to_new first failed,
 )
+
+-- a run ends with a slice
+pub slice_joined : WrittenJoins → (end : RunEnd) (start mid new : Standing) (i until limit : ℕ)
+    (before between after : Output)
+    → mid ≡ ahead start i → WritesAll (lines_between start mid) before between → until ≤ limit
+    → HasRunSlice until (Some end) mid new between after → HasRun end start new before after × IsWithin limit end new
+slice_joined joins StoppedAt start mid new i until limit before between after to_mid first short ran = absurd ran
+slice_joined joins Ended start mid new i until limit before between after to_mid first short (ran, within) =
+    (run_join joins Ended start mid new i before between after to_mid first ran, (omega (arith, within, short)))
+slice_joined joins (Faulted f) start mid new i until limit before between after to_mid first short (ran, within) =
+    (run_join joins (Faulted f) start mid new i before between after to_mid first ran, (omega (arith, within, short)))
+slice_joined joins (FaultedUnwritten f) start mid new i until limit before between after to_mid first short
+    (ran, within) = (
+      run_join joins (FaultedUnwritten f) start mid new i before between after to_mid first ran,
+      (omega (arith, within, short)),
+    )
+slice_joined joins WriteFailed start mid new i until limit before between after to_mid first short (ran, within) =
+    (run_join joins WriteFailed start mid new i before between after to_mid first ran, (omega (arith, within, short)))
 
 -- what is pending stays so over steps that tell no number
 pub held_on : (start now new : Standing) (told : StepOutcome) (before out : Output) (pending : List ℕ)

@@ -12,7 +12,6 @@ use Rattle.pl0_tree.specs.declared.tree.Block.{Block as DeclaredBlock, out-Block
 use Rattle.pl0_tree.specs.declared.tree.Place.{Place}
 use Rattle.pl0_tree.specs.declared.step.Step.{Step}
 use Rattle.pl0_tree.specs.declared.step.StepKind.{StepKind}
-use Rattle.pl0_tree.specs.declared.nesting.Nesting.{Nesting}
 use Rattle.pl0_tree.specs.Scope.{Path, block_at}
 use Rattle.pl0_tree.specs.Steps.{StepAt, steps, blocks, AreSteps}
 use Rattle.pl0_tree.specs.Blocks.{AreNestings}
@@ -98,17 +97,6 @@ next_kind u o n s is at =
 
 pub unit_nestings : (u : Compiled) → AreNestings (program_of u) u.nestings.items (blocks (program_of u))
 unit_nestings u = ∥∥₁_elim u.nested (nestings_prop (program_of u) u.nestings.items (blocks (program_of u))) (λ h. h)
-
-nestings_length : (main : Block) (table : List (Option Nesting)) (qs : List Path) → AreNestings main table qs
-    → length table ≡ length qs
-nestings_length main [] [] are = refl
-nestings_length main [] (q ∷ qs) are = absurd are
-nestings_length main (n ∷ table) [] are = absurd are
-nestings_length main (n ∷ table) (q ∷ qs) are = ap suc (nestings_length main table qs are.1)
-
--- the table has all blocks
-pub nesting_count : (u : Compiled) → length u.nestings.items ≡ length (blocks (program_of u))
-nesting_count u = nestings_length (program_of u) u.nestings.items (blocks (program_of u)) (unit_nestings u)
 
 -- the number of a frame's block is one of the table
 pub block_within : (u : Compiled) (o : Option Frame) (view : FrameView) → Shows (program_of u) o view

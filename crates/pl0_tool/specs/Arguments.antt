@@ -8,7 +8,7 @@ use Rattle.clap.specs.declared.builder.value_parser.ValueParser.TheVariants.{Uns
 use Rattle.clap.specs.declared.error.Error.{Error}
 use Rattle.pl0_tool.specs.declared.arguments.Request.{Request}
 use Rattle.pl0_tool.specs.declared.arguments.Task.{Task}
-use Rattle.pl0_tool.specs.declared.arguments.Task.TheVariants.{Run, Trace, Check, Tree, List as Listing}
+use Rattle.pl0_tool.specs.declared.arguments.Task.TheVariants.{Run, Trace, Check, Tree, List as Listing, Tokens}
 
 -- ---- the command line
 
@@ -57,6 +57,10 @@ most_steps = 65536
 abbrev pub usual_steps : ℕ
 usual_steps = 100
 
+-- how many steps a run may take where the command line doesn't say; each run ends before
+abbrev pub no_limit : ℕ
+no_limit = 18446744073709551615
+
 -- the program: one of its commands has to be named, and it tells its version
 abbrev pub program : App
 program = record {
@@ -66,7 +70,7 @@ program = record {
 
 -- its commands
 abbrev pub run_command : Shape
-run_command = command_with (codes "run") (one_file ∷ [])
+run_command = command_with (codes "run") (one_file ∷ number_option (codes "steps") 1 usize_max ∷ [])
 
 abbrev pub trace_command : Shape
 trace_command =
@@ -82,14 +86,17 @@ list_command = command_with (codes "list") (one_file ∷ names_flag ∷ [])
 abbrev pub tree_command : Shape
 tree_command = command_with (codes "tree") (one_file ∷ [])
 
+abbrev pub tokens_command : Shape
+tokens_command = command_with (codes "tokens") (one_file ∷ [])
+
 -- a command, below which there is none
 abbrev pub alone : Shape → App
 alone command = record { top = command; subs = [] }
 
 abbrev pub command_line : App
 command_line =
-    with_subcommand (with_subcommand (with_subcommand (with_subcommand (with_subcommand program
-    run_command) trace_command) check_command) list_command) tree_command
+    with_subcommand (with_subcommand (with_subcommand (with_subcommand (with_subcommand (with_subcommand program
+    run_command) trace_command) check_command) list_command) tree_command) tokens_command
 
 -- ---- what is asked for
 
@@ -109,15 +116,17 @@ IsFlag given is =
 
 -- the task of a command, by its name and its arguments
 abbrev pub IsTask : Text → List Row → Task → Type 0
-IsTask name rows Run = name ≡ codes "run"
+IsTask name rows (Run limit) = (name ≡ codes "run") × IsNumber no_limit (one_of (codes "steps") rows) limit
 IsTask name rows (Listing names) = (name ≡ codes "list") × IsFlag (one_of (codes "names") rows) names
 IsTask name rows (Trace from steps view) =
     (name ≡ codes "trace") × IsNumber 0 (one_of (codes "from") rows) from
     × IsNumber usual_steps (one_of (codes "steps") rows) steps × IsFlag (one_of (codes "machine") rows) view.machine
     × IsFlag (one_of (codes "instructions") rows) view.instructions
 IsTask name rows Tree = name ≡ codes "tree"
+IsTask name rows Tokens = name ≡ codes "tokens"
 IsTask name rows Check =
     (name ≢ codes "run") × (name ≢ codes "list") × (name ≢ codes "trace") × (name ≢ codes "tree")
+    × (name ≢ codes "tokens")
 
 -- clap reads the arguments, the program's name first, as a command, and this is its task and its files
 pub record Asks (arguments : List Text) (asked : Request) : Type 0 where

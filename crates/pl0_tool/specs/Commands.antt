@@ -1,29 +1,25 @@
 -- What each command writes and tells of a text.
-use Rattle.std.specs.Prelude.{◌≡◌, ◌⊎◌, ◌++◌, ℕ, Bool, true, false, List, [], codes, decimal}
+use Rattle.std.specs.Prelude.{◌≡◌, ◌⊎◌, ◌++◌, ℕ, List, [], codes, decimal}
 use Rattle.pl0_tree.specs.declared.tree.Place.{Place}
 use Rattle.pl0_tree.specs.declared.fault.FaultKind.{FaultKind}
 use Rattle.pl0_tree.specs.Faults.{IsFirstFault}
 use Rattle.pl0_unit.specs.declared.unit.Unit.{Unit as Compiled}
 use Rattle.pl0_machine.specs.Machine.{Standing}
-use Rattle.pl0_lessons.specs.NameTable.{IsNameTable}
-use Rattle.pl0_lessons.specs.ProgramTree.{IsProgramTree}
 use Rattle.pl0_mistakes.specs.Lines.{IsMistakeLine}
 use Rattle.pl0_mistakes.specs.Warnings.{warning_lines}
 use Rattle.byte_streams.specs.Streams.{Output}
 use Rattle.pl0_tool.specs.declared.arguments.Task.{Task}
-use Rattle.pl0_tool.specs.declared.arguments.Task.TheVariants.{Run, Trace, Check, Tree, List as Listing}
+use Rattle.pl0_tool.specs.declared.arguments.Task.TheVariants.{Run, Trace, Check, Tree, List as Listing, Tokens}
 use Rattle.pl0_tool.specs.declared.report.Ending.{Ending}
-use Rattle.pl0_tool.specs.declared.report.Ending.TheVariants.{Success, Fault, Mistake, Unwritten}
+use Rattle.pl0_tool.specs.declared.report.Ending.TheVariants.{Success, Fault, Mistake, Stopped, Unwritten}
 use Rattle.pl0_tool.specs.declared.report.Report.{Report}
 use Rattle.pl0_tool.specs.declared.running.RunEnd.{RunEnd}
-use Rattle.pl0_tool.specs.declared.running.RunEnd.TheVariants.{Ended, Faulted, FaultedUnwritten, WriteFailed}
+use Rattle.pl0_tool.specs.declared.running.RunEnd.TheVariants.{Ended, Faulted, FaultedUnwritten, StoppedAt, WriteFailed}
 use Rattle.pl0_tool.specs.Loading.{IsProgramOf}
-use Rattle.pl0_tool.specs.Running.{HasRun}
+use Rattle.pl0_tool.specs.Running.{HasRun, IsWithin}
 use Rattle.pl0_tool.specs.Faulting.{fault_report}
-use Rattle.pl0_tool.specs.Listing.{listing}
-use Rattle.pl0_tool.specs.Traced.{HasPart, HasTraced}
+use Rattle.pl0_tool.specs.Traced.{Grows, HasTraced}
 use Rattle.pl0_tool.specs.declared.tracing.TraceEnd.{TraceEnd}
-use Rattle.pl0_tool.specs.declared.tracing.View.{View}
 use Rattle.pl0_tool.specs.declared.tracing.TraceEnd.TheVariants.{GoesOn, Ended as TraceEnded, EndedBefore, Faulted as TraceFaulted, WriteFailed as TraceUnwritten}
 
 -- a report of these bytes, and of a command that ends so
@@ -33,24 +29,20 @@ IsReport output errors ending report =
 
 -- ---- a run
 
-abbrev pub end_ending : RunEnd → Ending
-end_ending Ended = Success
-end_ending (Faulted fault) = Fault
-end_ending (FaultedUnwritten fault) = Unwritten
-end_ending WriteFailed = Unwritten
+-- What is told, by how the run ended where a machine stands: of a step that faults, the fault and the newest frames.
+-- What is told of a run that was stopped is tested.
+abbrev pub IsRunReport : RunEnd → List ℕ → Standing → Report → Type 0
+IsRunReport Ended file m report = IsReport [] [] Success report
+IsRunReport (Faulted fault) file m report = IsReport [] (fault_report file m fault) Fault report
+IsRunReport (FaultedUnwritten fault) file m report = IsReport [] (fault_report file m fault) Unwritten report
+IsRunReport StoppedAt file m report = (report.output.items ≡ []) × (report.ending ≡ Stopped)
+IsRunReport WriteFailed file m report = IsReport [] [] Unwritten report
 
--- what is told of a run that ended where a machine stands
-abbrev pub end_errors : List ℕ → Standing → RunEnd → List ℕ
-end_errors file m Ended = []
-end_errors file m (Faulted fault) = fault_report file m fault
-end_errors file m (FaultedUnwritten fault) = fault_report file m fault
-end_errors file m WriteFailed = []
-
--- the run from a machine's position on was written, and it is told how it ended
-abbrev pub RunTells : List ℕ → Standing → Report → Output → Output → Type 0
-RunTells file start report before after =
-    (end : RunEnd) × (last : Standing) × HasRun end start last before after
-    × IsReport [] (end_errors file last end) (end_ending end) report
+-- the run from a machine's position on, up to a limit, was written, and it is told how it ended
+abbrev pub RunTells : ℕ → List ℕ → Standing → Report → Output → Output → Type 0
+RunTells limit file start report before after =
+    (end : RunEnd) × (last : Standing) × HasRun end start last before after × IsWithin limit end last
+    × IsRunReport end file last report
 
 -- ---- a trace
 
@@ -70,21 +62,16 @@ IsTraceReport (TraceFaulted fault) file m pending report = IsReport pending (fau
 IsTraceReport TraceUnwritten file m pending report = IsReport [] [] Unwritten report
 
 -- positions of the run were told: the first part of their table was written, and this is told of the rest
-abbrev pub TraceTells : View → List ℕ → Standing → ℕ → ℕ → Report → Output → Output → Type 0
-TraceTells view file start from steps report before after =
+abbrev pub TraceTells : List ℕ → Standing → ℕ → ℕ → Report → Output → Output → Type 0
+TraceTells file start from steps report before after =
     (end : TraceEnd) × (last : Standing) × (pending : List ℕ)
-    × HasTraced end view start from steps last before after pending × IsTraceReport end file last pending report
+    × HasTraced end start from steps last before after × IsTraceReport end file last pending report
 
--- ---- a listing
+-- ---- a page
 
--- a program is listed, or the table of its names
-abbrev pub ListTells : Bool → Compiled → Report → Type 0
-ListTells false unit report = IsReport (listing unit) [] Success report
-ListTells true unit report = (page : List ℕ) × ∥ IsNameTable unit page ∥₁ × IsReport page [] Success report
-
--- the tree of a program is drawn
-abbrev pub TreeTells : Compiled → Report → Type 0
-TreeTells unit report = (page : List ℕ) × ∥ IsProgramTree unit page ∥₁ × IsReport page [] Success report
+-- A page was made, and all went well. What stands on it is tested.
+abbrev pub PageTells : Report → Type 0
+PageTells report = (report.errors.items ≡ []) × (report.ending ≡ Success)
 
 -- ---- a text
 
@@ -92,24 +79,31 @@ TreeTells unit report = (page : List ℕ) × ∥ IsProgramTree unit page ∥₁ 
 abbrev pub start_of : Compiled → Standing
 start_of unit = record { unit = unit; position = 0 }
 
-abbrev pub MistakeTells : List ℕ → List ℕ → Report → Type 0
-MistakeTells file text report =
-    (kind : FaultKind) × (place : Place) × (line : List ℕ) × IsFirstFault text kind place
-    × IsMistakeLine file text kind place line × IsReport [] line Mistake report
+-- what a task makes of a text that is no program's: nothing, or its tokens
+abbrev pub IsPage : Task → List ℕ → Type 0
+IsPage Tokens page = Unit {0}
+IsPage task page = page ≡ []
+
+abbrev pub MistakeTells : Task → List ℕ → List ℕ → Report → Type 0
+MistakeTells task file text report =
+    (kind : FaultKind) × (place : Place) × IsFirstFault text kind place
+    × IsMistakeLine file text kind place report.errors.items × IsPage task report.output.items
+    × (report.ending ≡ Mistake)
 
 abbrev pub ProgramTells : Task → List ℕ → Compiled → Report → Output → Output → Type 0
-ProgramTells Run file unit report before after = RunTells file (start_of unit) report before after
+ProgramTells (Run limit) file unit report before after = RunTells limit file (start_of unit) report before after
 ProgramTells (Trace from steps view) file unit report before after =
-    TraceTells view file (start_of unit) from steps report before after
+    TraceTells file (start_of unit) from steps report before after
 ProgramTells Check file unit report before after =
     IsReport [] (warning_lines file unit.tree.text.items) Success report × (after ≡ before)
-ProgramTells (Listing names) file unit report before after = ListTells names unit report × (after ≡ before)
-ProgramTells Tree file unit report before after = TreeTells unit report × (after ≡ before)
+ProgramTells (Listing names) file unit report before after = PageTells report × (after ≡ before)
+ProgramTells Tree file unit report before after = PageTells report × (after ≡ before)
+ProgramTells Tokens file unit report before after = PageTells report × (after ≡ before)
 
 -- a text's first mistake is told; or, where it is a program's, what the task tells of that
 abbrev pub Tells : Task → List ℕ → List ℕ → Report → Output → Output → Type 0
 Tells task file text report before after =
-    (MistakeTells file text report × (after ≡ before))
+    (MistakeTells task file text report × (after ≡ before))
     ⊎ ((unit : Compiled) × IsProgramOf text unit × ProgramTells task file unit report before after)
 
 -- ---- where memory runs out
@@ -122,18 +116,18 @@ WritesRun start before after = (end : RunEnd) × (last : Standing) × HasRun end
 abbrev pub StartWrites : Compiled → Output → Output → Type 0
 StartWrites unit before after = (after ≡ before) ⊎ WritesRun (start_of unit) before after
 
--- a part of a trace of a program was written, or nothing
-abbrev pub StartTraces : View → Compiled → ℕ → ℕ → Output → Output → Type 0
-StartTraces view unit from steps before after =
-    (after ≡ before) ⊎ HasPart view (start_of unit) from steps before after
+-- a part of a trace was written, or nothing
+abbrev pub StartTraces : Output → Output → Type 0
+StartTraces before after = (after ≡ before) ⊎ Grows before after
 
 -- what a task writes of a program
 abbrev pub ProgramWrites : Task → Compiled → Output → Output → Type 0
-ProgramWrites Run unit before after = StartWrites unit before after
-ProgramWrites (Trace from steps view) unit before after = StartTraces view unit from steps before after
+ProgramWrites (Run limit) unit before after = StartWrites unit before after
+ProgramWrites (Trace from steps view) unit before after = StartTraces before after
 ProgramWrites Check unit before after = after ≡ before
 ProgramWrites (Listing names) unit before after = after ≡ before
 ProgramWrites Tree unit before after = after ≡ before
+ProgramWrites Tokens unit before after = after ≡ before
 
 -- nothing was written of a text, or the run of its program, or a part of its trace
 abbrev pub WritesNumbers : Task → List ℕ → Output → Output → Type 0

@@ -1,5 +1,5 @@
 -- What the program does with its arguments, and what it tells of that.
-use Rattle.std.specs.Prelude.{◌≡◌, ◌≢◌, ◌⊎◌, ◌<◌, Bool, false, ℕ, List, [], ◌∷◌, ◌++◌, map, codes, Result, Ok, Err, string_bytes}
+use Rattle.std.specs.Prelude.{◌≡◌, ◌≢◌, ◌⊎◌, Bool, false, ℕ, List, [], ◌∷◌, ◌++◌, map, codes, Result, Ok, Err, string_bytes}
 use Rattle.std.specs.IoError.{error_kind}
 use Rattle.std.specs.Vec.Iter.{into_iter_items}
 use Rattle.std.specs.declared.alloc.Global.{Global}
@@ -8,14 +8,13 @@ use Rattle.std.specs.declared.io.ErrorKind.{ErrorKind}
 use Rattle.std.specs.declared.io.ErrorKind.TheVariants as kind
 use Rattle.std.specs.declared.string.String.{String}
 use Rattle.std.specs.declared.vec.IntoIter.{IntoIter}
-use Rattle.std.specs.declared.vec.Vec.{Vec}
 use Rattle.clap.specs.Words.{Text, IsAmong, fault_of}
 use Rattle.clap.specs.declared.error.kind.ErrorKind.{ErrorKind as Refusal}
 use Rattle.clap.specs.declared.error.kind.ErrorKind.TheVariants.{DisplayHelp, DisplayVersion}
-use Rattle.byte_streams.specs.Beginning.{BeginsWith}
+use Rattle.byte_streams.specs.Files.{HasRead, ReadsFile}
 use Rattle.byte_streams.specs.Streams.{Output, WritesOrFails, Supply}
-use Rattle.pl0_tool.specs.declared.files.FileFault.{FileFault}
-use Rattle.pl0_tool.specs.declared.files.FileFault.TheVariants.{CannotRead, Folder, Forbidden, Missing, NoMemory}
+use Rattle.byte_streams.specs.declared.files.FileFault.{FileFault}
+use Rattle.byte_streams.specs.declared.files.FileFault.TheVariants.{Folder, Forbidden, Missing, NoMemory}
 use Rattle.pl0_tool.specs.declared.arguments.Request.{Request}
 use Rattle.pl0_tool.specs.declared.arguments.Task.{Task}
 use Rattle.pl0_tool.specs.declared.report.Ending.{Ending}
@@ -74,22 +73,14 @@ ClosesWith ending unread errors later_errors = later_errors ≡ errors
 
 -- ---- a text
 
--- What reading an input gave: its beginning; or nothing, where a read failed or memory ran out.
-abbrev pub HasRead : Result (List ℕ) FileFault → Supply → Supply → Type 0
-HasRead (Ok text) old later = BeginsWith text old later × (later.failures ≡ old.failures)
-HasRead (Err CannotRead) old later = old.failures < later.failures
-HasRead (Err NoMemory) old later = later.failures ≡ old.failures
-HasRead (Err fault) old later = ⊥
-
 -- what a task writes of a text, where memory runs out
 abbrev pub WritesOf : Task → Result (List ℕ) FileFault → Output → Output → Type 0
 WritesOf task (Ok text) before after = WritesNumbers task text before after
 WritesOf task (Err fault) before after = after ≡ before
 
--- the text that was read, as plain data
-abbrev pub plain_text : Result (Vec ℕ Global) FileFault → Result (List ℕ) FileFault
-plain_text (Ok text) = Ok text.items
-plain_text (Err fault) = Err fault
+-- how many bytes of a file are read: one more than a text may have, so that a longer one is noticed
+abbrev pub beginning : ℕ
+beginning = 65537
 
 -- the names of the files that are asked for
 abbrev pub files_of : Request → List Text
@@ -99,26 +90,12 @@ files_of asked = map (λ file. file.now) asked.files.items
 -- read of one until then.
 module _ {Files File : Type 0} (opens : Files → Text → Result File FileFault → Files → Type 0)
     (closes : Files → File → Files → Type 0) (supply_of : File → Supply) where
-  -- The file of this name was opened, read and given back.
-  pub record ReadsOpened (name : Text) (result : Result (List ℕ) FileFault) (old later : Files) : Type 0 where
-    pub file : File
-    pub mid : Files
-    pub opened : opens old name (Ok file) mid
-    pub read : File
-    pub has_read : HasRead result (supply_of file) (supply_of read)
-    pub closed : closes mid read later
-
-  -- The file was read, or it couldn't be opened.
-  abbrev pub ReadsFile : Text → Result (List ℕ) FileFault → Files → Files → Type 0
-  ReadsFile name read old later =
-      ReadsOpened name read old later
-      ⊎ ((fault : FileFault) × opens old name (Err fault) later × (read ≡ Err fault))
-
   -- The name `-` stands for the input, and each other name for a file.
   abbrev pub Reads : Text → Result (List ℕ) FileFault → Origins Files → Origins Files → Type 0
   Reads name read old later =
-      ((name ≡ codes "-") × HasRead read old.input later.input × (later.files ≡ old.files))
-      ⊎ ((name ≢ codes "-") × ReadsFile name read old.files later.files × (later.input ≡ old.input))
+      ((name ≡ codes "-") × HasRead beginning read old.input later.input × (later.files ≡ old.files))
+      ⊎ ((name ≢ codes "-") × ReadsFile beginning opens closes supply_of name read old.files later.files
+      × (later.input ≡ old.input))
 
   -- ---- files, one after another
 

@@ -39,6 +39,10 @@ abbrev pub more_line : ℕ → List ℕ
 more_line zero = []
 more_line (suc n) = codes "  and " ++ (decimal (suc n) ++ codes " more\n")
 
+-- a line, and under it those of frames
+abbrev pub with_frames : List ℕ → List ℕ → Standing → List ℕ
+with_frames first file m =
+    first ++ (frame_lines file m (min (depth_of m) shown) ++ more_line (depth_of m - shown))
+
 abbrev pub fault_report : List ℕ → Standing → RunFault → List ℕ
-fault_report file m fault =
-    first_line file m fault ++ (frame_lines file m (min (depth_of m) shown) ++ more_line (depth_of m - shown))
+fault_report file m fault = with_frames (first_line file m fault) file m

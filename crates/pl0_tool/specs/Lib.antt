@@ -13,14 +13,6 @@ pub mod Instructing
 pub mod Tracing
 -- what is told of a fault
 pub mod Faulting
--- the lines of a text
-pub mod TextLines
--- how an instruction is written
-pub mod Instructions
--- the listing of a program
-pub mod Listing
--- the table of a trace
-pub mod Table
 -- bytes that are still to be written
 pub mod Pending
 -- what is written of a trace, and how it ends

@@ -2,7 +2,7 @@
 use Rattle.std.specs.Prelude.{◌≡◌, ◌⊎◌, ℕ, ◌++◌, nat_lt, if◌then◌else◌}
 use Rattle.byte_streams.specs.Streams.{Output, WritesAll, FailsIn, WritesOrFails}
 use Rattle.pl0_tool.specs.declared.report.Ending.{Ending}
-use Rattle.pl0_tool.specs.declared.report.Ending.TheVariants.{Success, Fault, Mistake, Failure, Unwritten, NotUnderstood}
+use Rattle.pl0_tool.specs.declared.report.Ending.TheVariants.{Success, Fault, Mistake, Failure, Unwritten, NotUnderstood, Stopped}
 use Rattle.pl0_tool.specs.declared.report.Report.{Report}
 
 -- the exit status
@@ -13,6 +13,7 @@ status_of Mistake = 2
 status_of Failure = 3
 status_of Unwritten = 3
 status_of NotUnderstood = 4
+status_of Stopped = 5
 
 -- how two commands end, one after the other: as the one of the greater status
 abbrev pub joined_ending : Ending → Ending → Ending

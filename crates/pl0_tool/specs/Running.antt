@@ -8,7 +8,7 @@ use Rattle.pl0_machine.specs.declared.outcome.StepOutcome.TheVariants.{Went, Don
 use Rattle.pl0_machine.specs.Stretches.{ahead, RanOn}
 use Rattle.byte_streams.specs.Streams.{Output, WritesAll, FailsIn}
 use Rattle.pl0_tool.specs.declared.running.RunEnd.{RunEnd}
-use Rattle.pl0_tool.specs.declared.running.RunEnd.TheVariants.{Ended, Faulted, FaultedUnwritten, WriteFailed}
+use Rattle.pl0_tool.specs.declared.running.RunEnd.TheVariants.{Ended, Faulted, FaultedUnwritten, StoppedAt, WriteFailed}
 
 -- the numbers, each on a line of its own
 abbrev pub number_lines : List ℤ → List ℕ
@@ -45,9 +45,9 @@ pub record RanToNumber (limit : ℕ) (old : Standing) (told : Option StepOutcome
 abbrev pub IsLast : Standing → Type 0
 IsLast m = (number : Option ℤ) × (outcome_of m ≡ Goes number [])
 
--- From old the machine came to new, which is the end of the program, a step that faults, or where the output failed.
--- The numbers that the steps between wrote were written as lines; where the output failed, a prefix of them. Where it
--- fails at the end, the fault is known.
+-- From old the machine came to new, which is the end of the program, a step that faults, where it was stopped, or where
+-- the output failed. The numbers that the steps between wrote were written as lines; where the output failed, a prefix
+-- of them. Where it fails at the end, the fault is known.
 abbrev pub HasRun : RunEnd → Standing → Standing → Output → Output → Type 0
 HasRun Ended old new before after =
     (last : Standing) × (steps : ℕ) × (last ≡ ahead old steps) × IsLast last × (new ≡ ahead last 1)
@@ -58,22 +58,32 @@ HasRun (Faulted fault) old new before after =
 HasRun (FaultedUnwritten fault) old new before after =
     (steps : ℕ) × (new ≡ ahead old steps) × (outcome_of new ≡ Faults fault)
     × FailsIn (lines_between old new) before after
+HasRun StoppedAt old new before after =
+    (steps : ℕ) × (new ≡ ahead old steps) × (0 < depth_of new) × WritesAll (lines_between old new) before after
 HasRun WriteFailed old new before after =
     (steps : ℕ) × (new ≡ ahead old steps) × FailsIn (lines_between old new) before after
 
+-- a run that is stopped at a limit stands there, and no other goes further
+abbrev pub IsWithin : ℕ → RunEnd → Standing → Type 0
+IsWithin limit StoppedAt m = m.position ≡ limit
+IsWithin limit end m = m.position ≤ limit
+
 -- ---- slices
 
--- how many steps a slice has, unless the run ends in it
+-- how many steps a slice has at most
 abbrev pub slice_steps : ℕ
 slice_steps = 65536
 
--- A slice of a run is over, and the run goes on: all that its steps wrote was written.
-pub record RunsOn (old new : Standing) (before after : Output) : Type 0 where
-  pub led : new ≡ ahead old slice_steps
+-- A slice of a run is over at its limit, and the run goes on: all that its steps wrote was written.
+pub record RunsOn (limit : ℕ) (old new : Standing) (before after : Output) : Type 0 where
+  pub steps : ℕ
+  pub led : new ≡ ahead old steps
+  pub there : new.position ≡ limit
   pub running : 0 < depth_of new
   pub wrote : WritesAll (lines_between old new) before after
 
 -- a slice after which the run goes on, or with which it ended
-abbrev pub HasRunSlice : Option RunEnd → Standing → Standing → Output → Output → Type 0
-HasRunSlice None old new before after = RunsOn old new before after
-HasRunSlice (Some end) old new before after = HasRun end old new before after
+abbrev pub HasRunSlice : ℕ → Option RunEnd → Standing → Standing → Output → Output → Type 0
+HasRunSlice limit None old new before after = RunsOn limit old new before after
+HasRunSlice limit (Some StoppedAt) old new before after = ⊥
+HasRunSlice limit (Some end) old new before after = HasRun end old new before after × (new.position ≤ limit)

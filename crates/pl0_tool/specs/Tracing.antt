@@ -1,5 +1,5 @@
 -- What a trace tells of a run.
-use Rattle.std.specs.Prelude.{◌≡◌, ◌<◌, ◌≤◌, ℕ, ◌+◌, ◌-◌, List, [], length, slice_get, Option, Some, None, option_map, option_and_then, ℤ}
+use Rattle.std.specs.Prelude.{◌≡◌, ℕ, ◌+◌, ◌-◌, List, [], length, slice_get, Option, Some, None, option_map, option_and_then, ℤ}
 use Rattle.pl0_tree.specs.Tree.{Block}
 use Rattle.pl0_tree.specs.Steps.{StepAt, blocks}
 use Rattle.pl0_meaning.specs.Values.{Frame, next_step}
@@ -61,15 +61,3 @@ pub record IsRow (view : View) (m : Standing) (row : Row) : Type 0 where
   pub drawing : IsDrawn view.machine m row.hidden row.drawing
   pub outcome : IsTold (outcome_of m) row.outcome
   pub instructions : AreInstructions view.instructions m row.outcome row.instructions.items
-
--- Rows tell the positions from one on, in order, and at most `count` of them. Where there are fewer, no frame is alive
--- at the position after the last one: the run has ended, or faults before it.
-pub record AreRows (view : View) (m : Standing) (from count : ℕ) (rows : List Row) : Type 0 where
-  pub each : (i : ℕ) (row : Row) → slice_get rows i ≡ Some row → IsRow view (at_position m (from + i)) row
-  pub most : length rows ≤ count
-  pub whole : length rows < count → depth_of (at_position m (from + length rows)) ≡ 0
-
--- the first of these rows
-pub record AreFirstRows (view : View) (m : Standing) (from count : ℕ) (rows : List Row) : Type 0 where
-  pub each : (i : ℕ) (row : Row) → slice_get rows i ≡ Some row → IsRow view (at_position m (from + i)) row
-  pub most : length rows ≤ count

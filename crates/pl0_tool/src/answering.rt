@@ -1,15 +1,19 @@
 //! Doing what is asked for with each file.
 
 ghost use Rattle.std.specs.Prelude.{MatchResult};
-ghost use Rattle.pl0_tool.specs.Executing.{Adds, AreDone, GivesUp, HasRead, Reads, RunsOut, files_of, origins, plain_text};
+ghost use Rattle.byte_streams.specs.Files.{plain_text};
+ghost use Rattle.byte_streams.specs.declared.files.FileKinds.TheVariants.{All};
+ghost use Rattle.pl0_tool.specs.Executing.{Adds, AreDone, GivesUp, Reads, RunsOut, files_of, origins};
 
 use crate::arguments::{Request, Task};
 use crate::commands::{nothing_told, perform};
-use crate::files::{FileFault, Opener};
 use crate::report::{Ending, Report};
-use byte_streams::{ReadFault, Sink, Source, read_beginning};
+use byte_streams::{FileFault, FileKinds, Opener, Sink, Source, read_file, read_text};
 use std::alloc::{AllocError, Global};
 use std::sync::Wait;
+
+/// How many bytes of a file are read: one more than a text may have, so that a longer one is noticed.
+const BEGINNING: usize = 65_537;
 
 /// Does what is asked for with each file that can be read, and returns what is to be told of all.
 pub(crate) fn answer<R, F, I, O>(
@@ -26,12 +30,12 @@ where
     I: Source,
     O: Sink,
     ensures { MatchResult result
-        (λ report. AreDone F.opens F.closes F.File.supply request.now.task
+        (λ report. AreDone (F.opens All) F.closes F.File.supply request.now.task
         (origins files.old (I.supply input.old))
         (O.output output.old) (files_of request.now) report
         (origins files.new (I.supply input.new))
         (O.output output.new))
-        (λ _. GivesUp F.opens F.closes F.File.supply
+        (λ _. GivesUp (F.opens All) F.closes F.File.supply
         request.now.task (files_of request.now)
         (origins files.old (I.supply input.old))
         (origins files.new (I.supply input.new))
@@ -67,11 +71,11 @@ where
     I: Source,
     O: Sink,
     ensures { MatchResult result
-        (λ _. Adds F.opens F.closes F.File.supply task name.now report.old report.new
+        (λ _. Adds (F.opens All) F.closes F.File.supply task name.now report.old report.new
         (origins files.old (I.supply input.old))
         (origins files.new (I.supply input.new))
         (O.output output.old) (O.output output.new))
-        (λ _. RunsOut F.opens F.closes F.File.supply task name.now
+        (λ _. RunsOut (F.opens All) F.closes F.File.supply task name.now
         (origins files.old (I.supply input.old))
         (origins files.new (I.supply input.new))
         (O.output output.old) (O.output output.new)) }
@@ -90,7 +94,7 @@ where
 }
 
 ghost use Rattle.std.specs.Prelude.{◌≡◌, ◌≢◌, IfOk, []};
-ghost use Rattle.pl0_tool.specs.declared.files.FileFault.TheVariants.{NoMemory};
+ghost use Rattle.byte_streams.specs.declared.files.FileFault.TheVariants.{NoMemory};
 ghost use Rattle.pl0_tool.specs.declared.report.Ending.TheVariants.{Failure};
 ghost use Rattle.pl0_tool.specs.Commands.{IsReport};
 ghost use Rattle.pl0_tool.specs.Executing.{reason, unread_line};
@@ -127,26 +131,12 @@ fn text_of<R: Wait + AllocGlobal, F: Opener, I: Source>(
     input: &mut I,
     name: &str,
 ) -> Result<Vec<u8>, FileFault>
-    ensures { Reads F.opens F.closes F.File.supply name.now (plain_text result)
+    ensures { Reads (F.opens All) F.closes F.File.supply name.now (plain_text result)
         (origins files.old (I.supply input.old))
         (origins files.new (I.supply input.new)) }
 {
     if name == "-" {
-        return text_in(rt, input);
+        return read_text(rt, rt.alloc(), input, BEGINNING);
     }
-    let mut file = files.open(name)?;
-    let text = text_in(rt, &mut file);
-    files.close(file);
-    text
-}
-
-/// Returns the text that a source has.
-fn text_in<R: Wait + AllocGlobal, I: Source>(rt: &R, source: &mut I) -> Result<Vec<u8>, FileFault>
-    ensures { HasRead (plain_text result) (I.supply source.old) (I.supply source.new) }
-{
-    match read_beginning(rt, rt.alloc(), source) {
-        Ok(text) => Ok(text),
-        Err(ReadFault::CannotRead) => Err(FileFault::CannotRead),
-        Err(ReadFault::NoMemory) => Err(FileFault::NoMemory),
-    }
+    read_file(rt, rt.alloc(), files, FileKinds::All, name, BEGINNING)
 }

@@ -4,7 +4,7 @@ ghost use Rattle.std.specs.Prelude.{◌≡◌, IfOk, map, false, [], codes, unwr
 ghost use Rattle.clap.specs.Lexer.{usize_max};
 ghost use Rattle.clap.specs.Words.{all_of, app_of, found_of, one_of, rows_of, rule_of};
 ghost use Rattle.pl0_tool.specs.Arguments.{IsNumber, IsParsed, IsTask, alone, command_line, program};
-ghost use Rattle.pl0_tool.specs.Arguments.{check_command, list_command, run_command, trace_command, tree_command};
+ghost use Rattle.pl0_tool.specs.Arguments.{check_command, list_command, run_command, tokens_command, trace_command, tree_command};
 ghost use Rattle.pl0_tool.specs.Arguments.{files, instructions_flag, machine_flag, most_steps, names_flag, number_option, one_file};
 
 use crate::tracing::View;
@@ -15,7 +15,8 @@ use std::alloc::{AllocError, Global};
 /// What is to be done with a text.
 #[derive(Clone, Copy, Debug, PartialEq, Eq)]
 pub enum Task {
-    Run,
+    /// Run the program, for this many steps at most.
+    Run { limit: u64 },
     /// Tell this many positions of the program's run, from one on, with what else is to be told there.
     Trace { from: u64, steps: usize, view: View },
     Check,
@@ -23,6 +24,8 @@ pub enum Task {
     List { names: bool },
     /// Draw the program's tree.
     Tree,
+    /// Show the text's tokens.
+    Tokens,
 }
 
 /// What the command line asks for.
@@ -47,7 +50,8 @@ Exit status:
   1  the program's run faulted, at a step that was told or before it
   2  a text has a mistake
   3  a file can't be read, the output failed, or memory ran out
-  4  the command line was not understood";
+  4  the command line was not understood
+  5  the program's run was stopped after as many steps as it may take";
 
 /// Reads the arguments, the program's name first.
 ///
@@ -93,7 +97,9 @@ fn task_of(name: &str, given: &ArgMatches<'_>) -> Task
     ensures { IsTask name.now (rows_of (found_of given.now)) result }
 {
     match name {
-        "run" => Task::Run,
+        "run" => Task::Run {
+            limit: number(given, "steps", u64::MAX),
+        },
         "trace" => Task::Trace {
             from: number(given, "from", 0),
             steps: number(given, "steps", STEPS) as usize,
@@ -106,6 +112,7 @@ fn task_of(name: &str, given: &ArgMatches<'_>) -> Task
             names: given.get_flag("names"),
         },
         "tree" => Task::Tree,
+        "tokens" => Task::Tokens,
         _ => Task::Check,
     }
 }
@@ -130,7 +137,8 @@ fn command_line<'a>(alloc: Global) -> Result<Command<'a>, AllocError>
         .subcommand(trace_command(alloc)?)?
         .subcommand(check_command(alloc)?)?
         .subcommand(list_command(alloc)?)?
-        .subcommand(tree_command(alloc)?)
+        .subcommand(tree_command(alloc)?)?
+        .subcommand(tokens_command(alloc)?)
 }
 
 /// Returns the program, without its commands.
@@ -152,7 +160,8 @@ fn run_command<'a>(alloc: Global) -> Result<Command<'a>, AllocError>
 {
     Command::new(alloc, "run")
         .about("Run a program: each number that it writes is a line")
-        .arg(one_file(alloc))
+        .arg(one_file(alloc))?
+        .arg(limit(alloc))
 }
 
 /// Returns the command that traces a program.
@@ -195,6 +204,15 @@ fn tree_command<'a>(alloc: Global) -> Result<Command<'a>, AllocError>
 {
     Command::new(alloc, "tree")
         .about("Draw the tree of a program, with the level and address of each name")
+        .arg(one_file(alloc))
+}
+
+/// Returns the command that shows a text's tokens.
+fn tokens_command<'a>(alloc: Global) -> Result<Command<'a>, AllocError>
+    ensures { IfOk result (λ command. app_of command ≡ alone tokens_command) }
+{
+    Command::new(alloc, "tokens")
+        .about("Show the tokens of a text: place, kind and text of each, and its first mistake")
         .arg(one_file(alloc))
 }
 
@@ -243,6 +261,18 @@ fn steps<'a>(alloc: Global) -> Arg<'a>
         .value_name("N")
         .value_parser(ValueParser::unsigned(1, MOST_STEPS))
         .help("How many steps to tell, 65,536 at most; 100 if not given")
+}
+
+/// Returns the option for how many steps a run may take.
+fn limit<'a>(alloc: Global) -> Arg<'a>
+    ensures rule { rule_of result ≡ number_option (codes "steps") 1 usize_max }
+    ensures own { result.global ≡ false }
+{
+    Arg::new(alloc, "steps")
+        .long("steps")
+        .value_name("N")
+        .value_parser(ValueParser::unsigned(1, u64::MAX))
+        .help("How many steps may be taken; the run is stopped before the next one, with status 5")
 }
 
 /// Returns the flag by which the machine is drawn.

@@ -1,27 +1,30 @@
 //! The commands: what each one makes of a text.
 
-ghost use Rattle.std.specs.Prelude.{◌≡◌, ◌<◌, [], IfOk, MatchResult, string_bytes};
+ghost use Rattle.std.specs.Prelude.{◌≡◌, ◌<◌, ◌≤◌, [], IfOk, MatchResult, string_bytes};
+ghost use Rattle.pl0_tree.specs.Faults.{IsFirstFault};
 ghost use Rattle.pl0_machine.specs.Machine.{depth_of};
-ghost use Rattle.pl0_tool.specs.Commands.{Tells, ProgramTells, RunTells, TraceTells, IsReport, start_of};
+ghost use Rattle.pl0_tool.specs.Commands.{IsPage, MistakeTells, PageTells, Tells, ProgramTells, RunTells, TraceTells, IsReport, start_of};
 ghost use Rattle.pl0_tool.specs.Commands.{WritesNumbers, ProgramWrites, StartTraces, StartWrites, WritesRun};
-ghost use Rattle.pl0_tool.specs.Commands.{IsTraceReport, ListTells, TreeTells, ends_line, goes_on_line};
+ghost use Rattle.pl0_tool.specs.Commands.{IsRunReport, IsTraceReport, ends_line, goes_on_line};
 ghost use Rattle.pl0_tool.specs.Faulting.{fault_report};
+ghost use Rattle.pl0_tool.specs.declared.running.RunEnd.TheVariants.{StoppedAt};
 
 use crate::arguments::Task;
 use crate::checking::check_program;
-use crate::fault::fault_report;
+use crate::fault::{fault_report, stop_report};
 use crate::listing::listing;
 use crate::report::{Ending, Report};
 use crate::running::{RunEnd, run_machine};
 use crate::table::put_head;
 use crate::text::load;
+use crate::tokens::token_table;
 use crate::tracing::{TraceEnd, View, trace};
 use byte_streams::Sink;
 use pl0_lessons::{name_table, program_tree};
 use pl0_machine::Machine;
 use pl0_meaning::RunFault;
 use pl0_mistakes::mistake_line;
-use pl0_tree::SyntaxFault;
+use pl0_tree::{FaultKind, Place, SyntaxFault};
 use pl0_unit::Unit;
 use std::alloc::{AllocError, Global};
 use std::sync::{Arc, Wait};
@@ -54,9 +57,35 @@ pub fn perform<O: Sink>(
         }
         Err(SyntaxFault::NoMemory) => Err(AllocError),
         Err(SyntaxFault::InText { kind, place }) => {
-            let line = mistake_line(alloc, file, text, kind, place)?;
-            Ok(Report::new(Vec::new(alloc), line, Ending::Mistake))
+            tell_mistake(alloc, task, file, text, kind, place)
         }
+    }
+}
+
+/// Tells the first mistake of a text; the tokens of the text too, if these are asked for.
+fn tell_mistake(
+    alloc: Global,
+    task: Task,
+    file: &str,
+    text: &[u8],
+    kind: FaultKind,
+    place: Place,
+) -> Result<Report, AllocError>
+    requires { IsFirstFault text.now kind place }
+    ensures { IfOk result (MistakeTells task file.now text.now) }
+{
+    let line = mistake_line(alloc, file, text, kind, place)?;
+    let page = page_of_mistaken(alloc, task, text)?;
+    Ok(Report::new(page, line, Ending::Mistake))
+}
+
+/// Returns what is shown of a text that is no program's: its tokens, if these are asked for.
+fn page_of_mistaken(alloc: Global, task: Task, text: &[u8]) -> Result<Vec<u8>, AllocError>
+    ensures { IfOk result (λ page. IsPage task page.items) }
+{
+    match task {
+        Task::Tokens => token_table(alloc, text),
+        _ => Ok(Vec::new(alloc)),
     }
 }
 
@@ -79,8 +108,9 @@ fn perform_program<O: Sink>(
     match task {
         Task::Check => check_program(alloc, file, &unit),
         Task::List { names } => list_program(alloc, &unit, names),
-        Task::Tree => draw_tree(alloc, &unit),
-        Task::Run => run_program(rt, alloc, file, unit, output, room),
+        Task::Tree => page_told(program_tree(alloc, &unit), alloc),
+        Task::Tokens => page_told(token_table(alloc, unit.tree.text.as_slice()), alloc),
+        Task::Run { limit } => run_program(rt, alloc, file, unit, limit, output, room),
         Task::Trace { from, steps, view } => {
             trace_program(rt, alloc, file, unit, from, steps, view, output, room)
         }
@@ -109,43 +139,42 @@ fn fault_told(
     Ok(Report::new(output, errors, ending))
 }
 
+/// Returns a report of a page, if it was made.
+fn page_told(page: Result<Vec<u8>, AllocError>, alloc: Global) -> Result<Report, AllocError>
+    ensures { IfOk result PageTells }
+{
+    Ok(Report::new(page?, Vec::new(alloc), Ending::Success))
+}
+
 /// Lists a program, or its names.
 fn list_program(alloc: Global, unit: &Unit, names: bool) -> Result<Report, AllocError>
-    ensures { IfOk result (ListTells names unit.now) }
+    ensures { IfOk result PageTells }
 {
     if names {
-        let table = name_table(alloc, unit)?;
-        return Ok(Report::new(table, Vec::new(alloc), Ending::Success));
+        page_told(name_table(alloc, unit), alloc)
+    } else {
+        page_told(listing(alloc, unit), alloc)
     }
-    let listed = listing(alloc, unit)?;
-    Ok(Report::new(listed, Vec::new(alloc), Ending::Success))
 }
 
-/// Draws the tree of a program.
-fn draw_tree(alloc: Global, unit: &Unit) -> Result<Report, AllocError>
-    ensures { IfOk result (TreeTells unit.now) }
-{
-    let page = program_tree(alloc, unit)?;
-    Ok(Report::new(page, Vec::new(alloc), Ending::Success))
-}
-
-/// Runs a program.
+/// Runs a program up to a limit of steps.
 fn run_program<O: Sink>(
     rt: &impl Wait,
     alloc: Global,
     file: &str,
     unit: Arc<Unit>,
+    limit: u64,
     output: &mut O,
     room: usize,
 ) -> Result<Report, AllocError>
     ensures { MatchResult result
-        (λ report. RunTells file.now (start_of unit.value) report
+        (λ report. RunTells limit file.now (start_of unit.value) report
         (O.output output.old) (O.output output.new))
         (λ _. StartWrites unit.value
         (O.output output.old) (O.output output.new)) }
 {
     let mut machine = Machine::new(alloc, unit)?;
-    run_whole(rt, alloc, file, &mut machine, output, room)
+    run_whole(rt, alloc, file, &mut machine, limit, output, room)
 }
 
 /// Tells some positions of a program's run.
@@ -161,10 +190,9 @@ fn trace_program<O: Sink>(
     room: usize,
 ) -> Result<Report, AllocError>
     ensures { MatchResult result
-        (λ report. TraceTells view file.now (start_of unit.value) from steps report
+        (λ report. TraceTells file.now (start_of unit.value) from steps report
         (O.output output.old) (O.output output.new))
-        (λ _. StartTraces view unit.value from steps
-        (O.output output.old) (O.output output.new)) }
+        (λ _. StartTraces (O.output output.old) (O.output output.new)) }
 {
     let mut machine = Machine::new(alloc, unit)?;
     let mut page = Vec::new(alloc);
@@ -183,26 +211,29 @@ fn trace_program<O: Sink>(
     trace_report(alloc, file, &machine, end, page)
 }
 
-/// Runs a machine to the end of its program.
+/// Runs a machine to the end of its program, or to a limit.
 fn run_whole<O: Sink>(
     rt: &impl Wait,
     alloc: Global,
     file: &str,
     machine: &mut Machine,
+    limit: u64,
     output: &mut O,
     room: usize,
 ) -> Result<Report, AllocError>
-    requires { 0 < depth_of machine.old }
+    requires alive { 0 < depth_of machine.old }
+    requires within { machine.old.position ≤ limit }
     ensures { MatchResult result
-        (λ report. RunTells file.now machine.old report
+        (λ report. RunTells limit file.now machine.old report
         (O.output output.old) (O.output output.new))
         (λ _. WritesRun machine.old
         (O.output output.old) (O.output output.new)) }
 {
     let nothing = Vec::new(alloc);
-    match run_machine(rt, machine, output, &mut Vec::new(alloc), room) {
+    match run_machine(rt, machine, output, &mut Vec::new(alloc), room, limit) {
         RunEnd::Ended => Ok(nothing_told(alloc, Ending::Success)),
         RunEnd::WriteFailed => Ok(nothing_told(alloc, Ending::Unwritten)),
+        RunEnd::StoppedAt => stop_told(alloc, file, machine),
         RunEnd::Faulted(fault) => {
             fault_told(alloc, file, machine, fault, nothing, Ending::Fault)
         }
@@ -210,6 +241,14 @@ fn run_whole<O: Sink>(
             fault_told(alloc, file, machine, fault, nothing, Ending::Unwritten)
         }
     }
+}
+
+/// Returns a report of a run that was stopped where a machine stands.
+fn stop_told(alloc: Global, file: &str, machine: &Machine) -> Result<Report, AllocError>
+    ensures { IfOk result (IsRunReport StoppedAt file.now machine.now) }
+{
+    let errors = stop_report(alloc, file, machine)?;
+    Ok(Report::new(Vec::new(alloc), errors, Ending::Stopped))
 }
 
 /// Returns a report of what is pending of a table, and of how the trace ended, where a machine stands.

@@ -2,7 +2,7 @@
 
 ghost use Rattle.std.specs.Prelude.{◌≡◌, ◌<◌, IfOk, string_bytes};
 ghost use Rattle.pl0_machine.specs.Machine.{program, frame_of, depth_of};
-ghost use Rattle.pl0_tool.specs.Faulting.{fault_report, first_line, frame_line, more_line};
+ghost use Rattle.pl0_tool.specs.Faulting.{fault_report, first_line, frame_line, more_line, with_frames};
 
 use crate::blocks::frame_name;
 use pl0_machine::Machine;
@@ -28,7 +28,48 @@ pub fn fault_report(
 ) -> Result<Vec<u8>, AllocError>
     ensures { IfOk result (λ report. report.items ≡ fault_report file.now machine.now fault) }
 {
-    let mut report = first_line(alloc, file, machine, fault)?;
+    let first = first_line(alloc, file, machine, fault)?;
+    with_frames(alloc, first, file, machine)
+}
+
+/// Returns the line of a run that was stopped before the step at which a machine stands, and under it lines as
+/// [`fault_report`] has them.
+///
+/// # Errors
+///
+/// `AllocError`, where an allocation failed.
+pub fn stop_report(alloc: Global, file: &str, machine: &Machine) -> Result<Vec<u8>, AllocError> {
+    let first = stop_line(alloc, file, machine)?;
+    with_frames(alloc, first, file, machine)
+}
+
+/// Returns the line of a run that was stopped before the step at which a machine stands, and nothing where there is none.
+fn stop_line(alloc: Global, file: &str, machine: &Machine) -> Result<Vec<u8>, AllocError> {
+    let unit: &Unit = machine.unit();
+    let next = match machine.depth().checked_sub(1) {
+        Some(newest) => unit.steps.get(machine.frame(newest).next_step),
+        None => None,
+    };
+    let Some(step) = next else {
+        return Ok(Vec::new(alloc));
+    };
+    let line = step.place.line;
+    let column = step.place.column;
+    let steps = machine.position();
+    let text = format!(in alloc; "{file}:{line}:{column}: stopped: at position {steps}\n")?;
+    Ok(text.into_bytes())
+}
+
+/// Returns a line, and under it a line for each of the newest frames of a machine, the newest first.
+fn with_frames(
+    alloc: Global,
+    first: Vec<u8>,
+    file: &str,
+    machine: &Machine,
+) -> Result<Vec<u8>, AllocError>
+    ensures { IfOk result (λ report. report.items ≡ with_frames first.items file.now machine.now) }
+{
+    let mut report = first;
     let depth = machine.depth();
     for index in 0..depth.min(SHOWN) {
         let line = frame_line(alloc, file, machine, depth - 1 - index)?;

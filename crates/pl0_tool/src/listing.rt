@@ -1,10 +1,5 @@
 //! The listing of a program: the code under each line of its text.
 
-ghost use Rattle.std.specs.Prelude.{◌≡◌, ◌++◌, IfOk, OnOk, string_bytes, take, drop};
-ghost use Rattle.pl0_tool.specs.Instructions.{listed_text, operation_name};
-ghost use Rattle.pl0_tool.specs.Listing.{listing, line_of, step_of, step_at, first_begun, enters, instruction_line, mark};
-ghost use Rattle.pl0_tool.specs.TextLines.{text_lines, with_feeds};
-
 use crate::lines::first_line;
 use pl0_lessons::{put_left, put_right};
 use pl0_tree::StepNumber;
@@ -26,9 +21,7 @@ const TEXT_WIDTH: usize = 10;
 /// # Errors
 ///
 /// `AllocError`, where an allocation failed.
-pub fn listing(alloc: Global, unit: &Unit) -> Result<Vec<u8>, AllocError>
-    ensures { IfOk result (λ listed. listed.items ≡ listing unit.now) }
-{
+pub fn listing(alloc: Global, unit: &Unit) -> Result<Vec<u8>, AllocError> {
     let mut listed = Vec::new(alloc);
     let mut left = unit.tree.text.as_slice();
     let mut line = 0;
@@ -44,11 +37,11 @@ pub fn listing(alloc: Global, unit: &Unit) -> Result<Vec<u8>, AllocError>
 }
 
 /// Appends the first lines of a text, as many as it has of this `count`, and returns what follows them.
-fn put_lines<'a>(listed: &mut Vec<u8>, text: &'a [u8], count: usize) -> Result<&'a [u8], AllocError>
-    ensures left { IfOk result (λ left. text_lines left.now ≡ drop count (text_lines text.now)) }
-    ensures listed { OnOk result (listed.new.items ≡ listed.old.items
-        ++ with_feeds (take count (text_lines text.now))) }
-{
+fn put_lines<'a>(
+    listed: &mut Vec<u8>,
+    text: &'a [u8],
+    count: usize,
+) -> Result<&'a [u8], AllocError> {
     let mut left = text;
     for put in 0..count {
         left = put_line(listed, left)?;
@@ -57,10 +50,7 @@ fn put_lines<'a>(listed: &mut Vec<u8>, text: &'a [u8], count: usize) -> Result<&
 }
 
 /// Appends the first line of a text that has one, and returns what follows it.
-fn put_line<'a>(listed: &mut Vec<u8>, text: &'a [u8]) -> Result<&'a [u8], AllocError>
-    ensures left { IfOk result (λ left. text_lines left.now ≡ drop 1 (text_lines text.now)) }
-    ensures listed { OnOk result (listed.new.items ≡ listed.old.items ++ with_feeds (take 1 (text_lines text.now))) }
-{
+fn put_line<'a>(listed: &mut Vec<u8>, text: &'a [u8]) -> Result<&'a [u8], AllocError> {
     match first_line(text) {
         None => Ok(text),
         Some((line, left)) => {
@@ -72,9 +62,7 @@ fn put_line<'a>(listed: &mut Vec<u8>, text: &'a [u8]) -> Result<&'a [u8], AllocE
 }
 
 /// Returns the line under which an instruction stands, by its number: that of its step, and 0 where it has none.
-fn line_of(unit: &Unit, address: usize, instruction: Instruction) -> u32
-    ensures { result ≡ line_of unit.now address instruction }
-{
+fn line_of(unit: &Unit, address: usize, instruction: Instruction) -> u32 {
     let Some(number) = step_of(unit, address, instruction) else {
         return 0;
     };
@@ -86,9 +74,7 @@ fn line_of(unit: &Unit, address: usize, instruction: Instruction) -> u32
 
 /// Returns the step with which an instruction stands: the one that it begins. What enters a block stands with the step
 /// that follows.
-fn step_of(unit: &Unit, address: usize, instruction: Instruction) -> Option<StepNumber>
-    ensures { result ≡ step_of unit.now address instruction }
-{
+fn step_of(unit: &Unit, address: usize, instruction: Instruction) -> Option<StepNumber> {
     if enters(address, instruction) {
         first_begun(unit.begun_steps.as_slice(), address)
     } else {
@@ -97,9 +83,7 @@ fn step_of(unit: &Unit, address: usize, instruction: Instruction) -> Option<Step
 }
 
 /// Whether an instruction enters a block.
-fn enters(address: usize, instruction: Instruction) -> bool
-    ensures { result ≡ enters address instruction }
-{
+fn enters(address: usize, instruction: Instruction) -> bool {
     match instruction {
         Instruction::Enter(_) => true,
         Instruction::Jump(target) => address < target,
@@ -108,9 +92,7 @@ fn enters(address: usize, instruction: Instruction) -> bool
 }
 
 /// Returns the first step that is begun at an address or behind it.
-fn first_begun(begun: &[Option<StepNumber>], address: usize) -> Option<StepNumber>
-    ensures { result ≡ first_begun (drop address begun.now) }
-{
+fn first_begun(begun: &[Option<StepNumber>], address: usize) -> Option<StepNumber> {
     for index in address..begun.len() {
         if let Some(step) = begun[index] {
             return Some(step);
@@ -120,9 +102,7 @@ fn first_begun(begun: &[Option<StepNumber>], address: usize) -> Option<StepNumbe
 }
 
 /// Returns the step that the instruction at an address begins, if it begins one.
-fn step_at(unit: &Unit, address: usize) -> Option<StepNumber>
-    ensures { result ≡ step_at unit.now address }
-{
+fn step_at(unit: &Unit, address: usize) -> Option<StepNumber> {
     match unit.begun_steps.get(address) {
         Some(step) => *step,
         None => None,
@@ -136,9 +116,7 @@ fn put_instruction(
     unit: &Unit,
     address: usize,
     instruction: Instruction,
-) -> Result<(), AllocError>
-    ensures { OnOk result (listed.new.items ≡ listed.old.items ++ instruction_line unit.now address instruction) }
-{
+) -> Result<(), AllocError> {
     let mark = mark(alloc, step_at(unit, address))?;
     put_right(listed, MARK_WIDTH, mark.as_bytes())?;
     listed.push(b' ')?;
@@ -151,9 +129,7 @@ fn put_instruction(
 }
 
 /// Returns the mark of a step that is begun, if one is.
-fn mark(alloc: Global, begun: Option<StepNumber>) -> Result<String, AllocError>
-    ensures { IfOk result (λ text. string_bytes text ≡ mark begun) }
-{
+fn mark(alloc: Global, begun: Option<StepNumber>) -> Result<String, AllocError> {
     match begun {
         Some(step) => format!(in alloc; "@{step}"),
         None => Ok(String::new(alloc)),
@@ -161,9 +137,11 @@ fn mark(alloc: Global, begun: Option<StepNumber>) -> Result<String, AllocError>
 }
 
 /// Appends an instruction's name, level and address, and what its operation is called.
-fn put_text(alloc: Global, listed: &mut Vec<u8>, instruction: Instruction) -> Result<(), AllocError>
-    ensures { OnOk result (listed.new.items ≡ listed.old.items ++ listed_text instruction) }
-{
+fn put_text(
+    alloc: Global,
+    listed: &mut Vec<u8>,
+    instruction: Instruction,
+) -> Result<(), AllocError> {
     let text = instruction.to_string(alloc)?;
     match instruction {
         Instruction::Operate(operation) => {
@@ -175,9 +153,7 @@ fn put_text(alloc: Global, listed: &mut Vec<u8>, instruction: Instruction) -> Re
 }
 
 /// Returns what an operation is called.
-fn operation_name(operation: Operation) -> &'static str
-    ensures { result.now ≡ operation_name operation }
-{
+fn operation_name(operation: Operation) -> &'static str {
     match operation {
         Operation::Return => "return",
         Operation::Negate => "negate",

@@ -3,17 +3,17 @@
 ghost use Rattle.std.specs.Prelude.{◌≡◌, ◌≢◌, Result, IfOk, MatchBool, MatchResult, map, string_bytes};
 ghost use Rattle.std.specs.Process.{exit_status};
 ghost use Rattle.byte_streams.specs.Streams.{output as output_at};
+ghost use Rattle.byte_streams.specs.declared.files.FileKinds.TheVariants.{All};
 ghost use Rattle.pl0_tool.specs.declared.report.Ending.{Ending};
 ghost use Rattle.pl0_tool.specs.Executing.{Comes, Executes, ExecutesGiven, LacksMemory, Runs, given_of, origins};
 ghost use Rattle.pl0_tool.specs.Reporting.{HasTold, status_of};
 
 use crate::answering::answer;
 use crate::arguments::parse_arguments;
-use crate::files::Opener;
 use crate::output::WatchedOutput;
 use crate::report::{Ending, Report};
 use byte_streams::{
-    Sink, Source, WriteFailed, Writing, borrow_texts, collect_arguments, say, write_all,
+    Opener, Sink, Source, WriteFailed, Writing, borrow_texts, collect_arguments, say, write_all,
 };
 use clap::Error;
 use clap::error::ErrorKind;
@@ -46,7 +46,7 @@ where
     O: Write + IsTerminal + Drop,
     E: Sink,
     ensures { (ending : Ending) × (exit_status result ≡ status_of ending)
-        × Runs F.opens F.closes F.File.supply (given_of given) ending
+        × Runs (F.opens All) F.closes F.File.supply (given_of given) ending
         output.new.inner.is_closed
         (origins files.old (I.supply input.old))
         (origins files.new (I.supply input.new))
@@ -90,7 +90,7 @@ where
     I: Source,
     O: Sink,
     E: Sink,
-    ensures { ExecutesGiven F.opens F.closes F.File.supply (given_of given) result
+    ensures { ExecutesGiven (F.opens All) F.closes F.File.supply (given_of given) result
         (origins files.old (I.supply input.old))
         (origins files.new (I.supply input.new))
         (O.output output.old) (O.output output.new)
@@ -130,7 +130,7 @@ where
     I: Source,
     O: Sink,
     E: Sink,
-    ensures { Executes F.opens F.closes F.File.supply
+    ensures { Executes (F.opens All) F.closes F.File.supply
         (map string_bytes arguments.now) result
         (origins files.old (I.supply input.old))
         (origins files.new (I.supply input.new))
@@ -162,7 +162,7 @@ where
     I: Source,
     O: Sink,
     E: Sink,
-    ensures { Executes F.opens F.closes F.File.supply
+    ensures { Executes (F.opens All) F.closes F.File.supply
         (map (λ argument. argument.now) arguments.entry.now) result
         (origins files.old (I.supply input.old))
         (origins files.new (I.supply input.new))
@@ -226,12 +226,12 @@ where
     I: Source,
     O: Sink,
     ensures { MatchResult result
-        (λ report. Comes F.opens F.closes F.File.supply
+        (λ report. Comes (F.opens All) F.closes F.File.supply
         (map (λ argument. argument.now) arguments.entry.now) report
         (origins files.old (I.supply input.old))
         (origins files.new (I.supply input.new))
         (O.output output.old) (O.output output.new))
-        (λ _. LacksMemory F.opens F.closes F.File.supply
+        (λ _. LacksMemory (F.opens All) F.closes F.File.supply
         (map (λ argument. argument.now) arguments.entry.now)
         (origins files.old (I.supply input.old))
         (origins files.new (I.supply input.new))

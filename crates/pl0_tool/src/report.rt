@@ -19,13 +19,15 @@ pub enum Ending {
     Unwritten,
     /// The arguments aren't understood.
     NotUnderstood,
+    /// The program's run was stopped.
+    Stopped,
 }
 
 impl Ending {
     /// Returns the exit status.
     pub fn status(self) -> u8
         ensures status { result ≡ status_of self }
-        ensures few { result ≤ 4 }
+        ensures few { result ≤ 5 }
     {
         match self {
             Ending::Success => 0,
@@ -33,6 +35,7 @@ impl Ending {
             Ending::Mistake => 2,
             Ending::Failure | Ending::Unwritten => 3,
             Ending::NotUnderstood => 4,
+            Ending::Stopped => 5,
         }
     }
 }

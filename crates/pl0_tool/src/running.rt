@@ -5,7 +5,7 @@ ghost use Rattle.std.specs.Fmt.{signed_decimal};
 ghost use Rattle.pl0_machine.specs.Machine.{depth_of};
 ghost use Rattle.byte_streams.specs.Streams.{Output, WritesAll, FailsIn};
 ghost use Rattle.pl0_tool.specs.Pending.{Holds};
-ghost use Rattle.pl0_tool.specs.Running.{HasRun, HasRunSlice, RanToNumber, slice_steps};
+ghost use Rattle.pl0_tool.specs.Running.{HasRun, HasRunSlice, IsWithin, RanToNumber, slice_steps};
 
 use crate::output::{flush, put};
 use byte_streams::{Sink, WriteFailed};
@@ -24,6 +24,8 @@ pub enum RunEnd {
     Faulted(RunFault),
     /// The next step faults, and the output failed in the last lines before it.
     FaultedUnwritten(RunFault),
+    /// The machine stands at the limit, and the run would go on.
+    StoppedAt,
     /// The output failed.
     WriteFailed,
 }
@@ -32,47 +34,66 @@ pub enum RunEnd {
 /// wrote before.
 const SLICE: u64 = 1 << 16;
 
-/// Runs a machine to the end of its program, to a step that faults, or until the output fails, and writes each number
-/// on a line of its own. Up to `room` bytes are kept until they are written together, in `pending`, which is empty
-/// then; at the end of each slice ([`run_slice`]) none are.
+/// Runs a machine to the end of its program, to a step that faults, to the position `limit`, or until the output fails,
+/// and writes each number on a line of its own. Up to `room` bytes are kept until they are written together, in
+/// `pending`, which is empty then; at the end of each slice ([`run_slice`]) none are.
 pub fn run_machine<O: Sink>(
     rt: &impl Wait,
     machine: &mut Machine,
     output: &mut O,
     pending: &mut Vec<u8>,
     room: usize,
+    limit: u64,
 ) -> RunEnd
     requires alive { 0 < depth_of machine.old }
     requires nothing_pending { pending.old.items ≡ [] }
-    ensures { HasRun result machine.old machine.new (O.output output.old) (O.output output.new) }
+    requires within { machine.old.position ≤ limit }
+    ensures ran { HasRun result machine.old machine.new (O.output output.old) (O.output output.new) }
+    ensures within { IsWithin limit result machine.new }
 {
     meaning_laws();
     'slices: for _ in rt.forever() {
-        match run_slice(rt, machine, output, pending, room) {
+        let until = slice_end(machine.position(), limit);
+        match run_slice(rt, machine, output, pending, room, until) {
             Some(end) => return end,
-            None => {}
+            None => {
+                if until == limit {
+                    return RunEnd::StoppedAt;
+                }
+            }
         }
     }
     unreachable!()
 }
 
-/// Runs a machine as [`run_machine`] does, for a slice of 2^16 steps, or fewer where the run ends, and returns `None`
-/// where it goes on. Nothing is pending then.
+/// Returns where a slice ends that begins at a position, of a run up to a limit.
+fn slice_end(position: u64, limit: u64) -> u64
+    requires { position ≤ limit }
+    ensures behind { position ≤ result }
+    ensures within { result ≤ limit }
+    ensures few { result ≤ position + slice_steps }
+{
+    position.saturating_add(SLICE).min(limit)
+}
+
+/// Runs a machine as [`run_machine`] does, for a slice of 2^16 steps at most, and returns `None` where the run goes on at
+/// the limit. Nothing is pending then.
 pub fn run_slice<O: Sink>(
     rt: &impl Wait,
     machine: &mut Machine,
     output: &mut O,
     pending: &mut Vec<u8>,
     room: usize,
+    limit: u64,
 ) -> Option<RunEnd>
     requires alive { 0 < depth_of machine.old }
     requires nothing_pending { pending.old.items ≡ [] }
-    ensures ran { HasRunSlice result machine.old machine.new (O.output output.old) (O.output output.new) }
-    ensures within { machine.new.position ≤ machine.old.position + slice_steps }
+    requires within { machine.old.position ≤ limit }
+    requires few { limit ≤ machine.old.position + slice_steps }
+    ensures ran { HasRunSlice limit result machine.old machine.new (O.output output.old) (O.output output.new) }
     ensures empty { result ≡ None → pending.new.items ≡ [] }
 {
     meaning_laws();
-    let limit = machine.position().saturating_add(SLICE);
     'numbers: for _ in rt.forever() {
         match run_to_number(*pending.allocator(), machine, limit) {
             None => return finish(rt, output, pending, None, RunEnd::WriteFailed),

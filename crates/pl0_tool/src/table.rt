@@ -1,14 +1,5 @@
 //! The table of a trace: a line for each position.
 
-ghost use Rattle.std.specs.Prelude.{◌≡◌, ◌++◌, ◌||◌, ◌==◌, [], Some, map, codes, decimal, IfOk, OnOk, string_bytes, slice_index_or, position};
-ghost use Rattle.std.specs.List.{before_first, position_or_len};
-ghost use Rattle.std.specs.Fmt.{signed_decimal};
-ghost use Rattle.pl0_tree.specs.Plain.{plain_name};
-ghost use Rattle.pl0_machine.specs.Machine.{program_of};
-ghost use Rattle.pl0_lessons.specs.Columns.{column, left, right};
-ghost use Rattle.pl0_tool.specs.TextLines.{text_lines};
-ghost use Rattle.pl0_tool.specs.Table.{table, head, state_head, instructions_head, row_text, step_text, place_text, source, ends_source, written_text, state_text, frames_line, more_before, barred, registers_line, frame_lines, frame_line, frame_text, variables_text, more_below};
-
 use crate::blocks::frame_name;
 use crate::drawing::{Drawing, FrameHead};
 use crate::lines::first_line;
@@ -67,9 +58,7 @@ const RETURN_ADDRESS_WIDTH: usize = 14;
 /// # Errors
 ///
 /// `AllocError`, where an allocation failed.
-pub fn put_head(page: &mut Vec<u8>, view: View) -> Result<(), AllocError>
-    ensures { OnOk result (page.new.items ≡ page.old.items ++ head view) }
-{
+pub fn put_head(page: &mut Vec<u8>, view: View) -> Result<(), AllocError> {
     put_text(page, STEP_HEAD)?;
     put_text(page, state_head(view.machine))?;
     put_text(page, instructions_head(view.instructions))?;
@@ -77,23 +66,17 @@ pub fn put_head(page: &mut Vec<u8>, view: View) -> Result<(), AllocError>
 }
 
 /// Appends a text.
-fn put_text(page: &mut Vec<u8>, text: &str) -> Result<(), AllocError>
-    ensures { OnOk result (page.new.items ≡ page.old.items ++ text.now) }
-{
+fn put_text(page: &mut Vec<u8>, text: &str) -> Result<(), AllocError> {
     page.extend_from_slice(text.as_bytes())
 }
 
 /// Returns what stands above the state of a machine.
-fn state_head(drawn: bool) -> &'static str
-    ensures { result.now ≡ state_head drawn }
-{
+fn state_head(drawn: bool) -> &'static str {
     if drawn { MACHINE_HEAD } else { FRAMES_HEAD }
 }
 
 /// Returns what stands above instructions, where they are told.
-fn instructions_head(told: bool) -> &'static str
-    ensures { result.now ≡ instructions_head told }
-{
+fn instructions_head(told: bool) -> &'static str {
     if told { INSTRUCTIONS_HEAD } else { "" }
 }
 
@@ -102,19 +85,19 @@ fn instructions_head(told: bool) -> &'static str
 /// # Errors
 ///
 /// `AllocError`, where an allocation failed.
-pub fn put_row(alloc: Global, page: &mut Vec<u8>, unit: &Unit, row: &Row) -> Result<(), AllocError>
-    ensures { OnOk result (page.new.items ≡ page.old.items ++ row_text unit.now row.now) }
-{
+pub fn put_row(
+    alloc: Global,
+    page: &mut Vec<u8>,
+    unit: &Unit,
+    row: &Row,
+) -> Result<(), AllocError> {
     put_step(alloc, page, unit.tree.text.as_slice(), row)?;
     put_state(alloc, page, unit, row)?;
     page.extend_from_slice(row.instructions.as_slice())
 }
 
 /// Appends the state before the step of a row: the machine, where it is drawn, or else the frames.
-fn put_state(alloc: Global, page: &mut Vec<u8>, unit: &Unit, row: &Row) -> Result<(), AllocError>
-    ensures { OnOk result (page.new.items ≡ page.old.items
-        ++ state_text (program_of unit.now) row.now row.now.drawing) }
-{
+fn put_state(alloc: Global, page: &mut Vec<u8>, unit: &Unit, row: &Row) -> Result<(), AllocError> {
     match &row.drawing {
         Some(drawing) => put_machine(alloc, page, unit, row, drawing),
         None => put_frames(alloc, page, unit, row),
@@ -127,9 +110,7 @@ fn put_number(
     page: &mut Vec<u8>,
     width: usize,
     number: u64,
-) -> Result<(), AllocError>
-    ensures { OnOk result (page.new.items ≡ page.old.items ++ right width (decimal number)) }
-{
+) -> Result<(), AllocError> {
     let number = format!(in alloc; "{number}")?;
     put_right(page, width, number.as_bytes())
 }
@@ -140,9 +121,7 @@ fn put_column(
     page: &mut Vec<u8>,
     width: usize,
     number: u64,
-) -> Result<(), AllocError>
-    ensures { OnOk result (page.new.items ≡ page.old.items ++ column (right width (decimal number))) }
-{
+) -> Result<(), AllocError> {
     let number = format!(in alloc; "{number}")?;
     put_right_column(page, width, number.as_bytes())
 }
@@ -150,9 +129,7 @@ fn put_column(
 // ---- the step
 
 /// Appends what is told of the step of a row, in a program of this text.
-fn put_step(alloc: Global, page: &mut Vec<u8>, text: &[u8], row: &Row) -> Result<(), AllocError>
-    ensures { OnOk result (page.new.items ≡ page.old.items ++ step_text text.now row.now) }
-{
+fn put_step(alloc: Global, page: &mut Vec<u8>, text: &[u8], row: &Row) -> Result<(), AllocError> {
     put_column(alloc, page, POSITION_WIDTH, row.position)?;
     put_place(alloc, page, row.place)?;
     put_left_column(page, SOURCE_WIDTH, source(text, row.kind, row.place))?;
@@ -160,34 +137,26 @@ fn put_step(alloc: Global, page: &mut Vec<u8>, text: &[u8], row: &Row) -> Result
 }
 
 /// Appends a place, and the space to the next column.
-fn put_place(alloc: Global, page: &mut Vec<u8>, place: Place) -> Result<(), AllocError>
-    ensures { OnOk result (page.new.items ≡ page.old.items ++ column (left 7 (place_text place))) }
-{
+fn put_place(alloc: Global, page: &mut Vec<u8>, place: Place) -> Result<(), AllocError> {
     let place = place_text(alloc, place)?;
     put_left_column(page, PLACE_WIDTH, place.as_bytes())
 }
 
 /// Appends the number that a step writes, if it writes one, and the space to the next column.
-fn put_written(alloc: Global, page: &mut Vec<u8>, outcome: StepOutcome) -> Result<(), AllocError>
-    ensures { OnOk result (page.new.items ≡ page.old.items ++ column (right 6 (written_text outcome))) }
-{
+fn put_written(alloc: Global, page: &mut Vec<u8>, outcome: StepOutcome) -> Result<(), AllocError> {
     let written = written_text(alloc, outcome)?;
     put_right_column(page, WRITTEN_WIDTH, written.as_bytes())
 }
 
 /// Returns a place: its line and column.
-fn place_text(alloc: Global, place: Place) -> Result<String, AllocError>
-    ensures { IfOk result (λ text. string_bytes text ≡ place_text place) }
-{
+fn place_text(alloc: Global, place: Place) -> Result<String, AllocError> {
     let line = place.line;
     let column = place.column;
     format!(in alloc; "{line}:{column}")
 }
 
 /// Returns the number that a step writes, if it writes one.
-fn written_text(alloc: Global, outcome: StepOutcome) -> Result<String, AllocError>
-    ensures { IfOk result (λ text. string_bytes text ≡ written_text outcome) }
-{
+fn written_text(alloc: Global, outcome: StepOutcome) -> Result<String, AllocError> {
     match outcome {
         StepOutcome::Went(Some(number)) => format!(in alloc; "{number}"),
         _ => Ok(String::new(alloc)),
@@ -195,22 +164,18 @@ fn written_text(alloc: Global, outcome: StepOutcome) -> Result<String, AllocErro
 }
 
 /// Returns the source of a step: what stands in a text from its place on, up to a semicolon or the end of the line.
-fn source(text: &[u8], kind: StepKind, place: Place) -> &[u8]
-    ensures { result.now ≡ source text.now kind place }
-{
+fn source(text: &[u8], kind: StepKind, place: Place) -> &[u8] {
     if let StepKind::Return = kind {
         return b"return";
     }
     let line = line_at(text, place.line.saturating_sub(1) as usize);
     let before = (place.column.saturating_sub(1) as usize).min(line.len());
     let rest = &line[before..];
-    &rest[..source_length(rest)]
+    &rest[..source_length(rest).min(rest.len())]
 }
 
 /// Returns the line of a text with this index, and nothing where there is none.
-fn line_at(text: &[u8], index: usize) -> &[u8]
-    ensures { result.now ≡ slice_index_or (text_lines text.now) index [] }
-{
+fn line_at(text: &[u8], index: usize) -> &[u8] {
     let mut left = text;
     for passed in 0..index {
         match first_line(left) {
@@ -225,32 +190,24 @@ fn line_at(text: &[u8], index: usize) -> &[u8]
 }
 
 /// Returns the length of the source at the beginning of a line.
-fn source_length(line: &[u8]) -> usize
-    ensures { result ≡ position_or_len ends_source line.now }
-{
+fn source_length(line: &[u8]) -> usize {
     source_end(line).unwrap_or(line.len())
 }
 
 /// Returns where a line has its first semicolon or carriage return.
-fn source_end(line: &[u8]) -> Option<usize>
-    ensures { result ≡ position ends_source line.now }
-{
+fn source_end(line: &[u8]) -> Option<usize> {
     line.iter().position(|byte| ends_source(*byte))
 }
 
 /// Whether a byte ends a source: a semicolon or a carriage return.
-fn ends_source(byte: u8) -> bool
-    ensures { result ≡ ends_source byte }
-{
+fn ends_source(byte: u8) -> bool {
     byte == b';' || byte == b'\r'
 }
 
 // ---- frames
 
 /// Appends the frames of a row, and ends the line.
-fn put_frames(alloc: Global, page: &mut Vec<u8>, unit: &Unit, row: &Row) -> Result<(), AllocError>
-    ensures { OnOk result (page.new.items ≡ page.old.items ++ frames_line (program_of unit.now) row.now) }
-{
+fn put_frames(alloc: Global, page: &mut Vec<u8>, unit: &Unit, row: &Row) -> Result<(), AllocError> {
     let more = more_before(alloc, row.hidden)?;
     page.extend_from_slice(more.as_bytes())?;
     put_barred(alloc, page, unit, row.frames.as_slice())?;
@@ -259,9 +216,7 @@ fn put_frames(alloc: Global, page: &mut Vec<u8>, unit: &Unit, row: &Row) -> Resu
 }
 
 /// Returns what says how many frames are left out, and nothing where none is.
-fn more_before(alloc: Global, hidden: usize) -> Result<String, AllocError>
-    ensures { IfOk result (λ text. string_bytes text ≡ more_before hidden) }
-{
+fn more_before(alloc: Global, hidden: usize) -> Result<String, AllocError> {
     if hidden == 0 {
         return Ok(String::new(alloc));
     }
@@ -274,10 +229,7 @@ fn put_barred(
     page: &mut Vec<u8>,
     unit: &Unit,
     frames: &[FrameRow],
-) -> Result<(), AllocError>
-    ensures { OnOk result (page.new.items ≡ page.old.items
-        ++ barred (map (frame_text (program_of unit.now)) frames.now)) }
-{
+) -> Result<(), AllocError> {
     let Some((oldest, others)) = frames.split_first() else {
         return Ok(());
     };
@@ -295,9 +247,7 @@ fn put_frame(
     page: &mut Vec<u8>,
     unit: &Unit,
     frame: &FrameRow,
-) -> Result<(), AllocError>
-    ensures { OnOk result (page.new.items ≡ page.old.items ++ frame_text (program_of unit.now) frame.now) }
-{
+) -> Result<(), AllocError> {
     if frame.block as usize >= unit.nestings.len() {
         return Ok(());
     }
@@ -317,9 +267,7 @@ fn put_variables(
     page: &mut Vec<u8>,
     names: &[Name],
     numbers: &[i64],
-) -> Result<(), AllocError>
-    ensures { OnOk result (page.new.items ≡ page.old.items ++ variables_text (map plain_name names.now) numbers.now) }
-{
+) -> Result<(), AllocError> {
     for index in 0..names.len().min(numbers.len()) {
         let variable = variable_text(alloc, names[index].text.as_str(), numbers[index])?;
         page.extend_from_slice(variable.as_bytes())?;
@@ -328,10 +276,7 @@ fn put_variables(
 }
 
 /// Returns a variable with its number, and a space before it.
-fn variable_text(alloc: Global, name: &str, number: i64) -> Result<String, AllocError>
-    ensures { IfOk result (λ text.
-        string_bytes text ≡ codes " " ++ (name.now ++ (codes "=" ++ signed_decimal number))) }
-{
+fn variable_text(alloc: Global, name: &str, number: i64) -> Result<String, AllocError> {
     format!(in alloc; " {name}={number}")
 }
 
@@ -344,10 +289,7 @@ fn put_machine(
     unit: &Unit,
     row: &Row,
     drawing: &Drawing,
-) -> Result<(), AllocError>
-    ensures { OnOk result (page.new.items ≡ page.old.items
-        ++ state_text (program_of unit.now) row.now (Some drawing.now)) }
-{
+) -> Result<(), AllocError> {
     put_registers(alloc, page, drawing)?;
     put_frame_lines(
         alloc,
@@ -360,9 +302,7 @@ fn put_machine(
 }
 
 /// Appends the registers, and ends the line.
-fn put_registers(alloc: Global, page: &mut Vec<u8>, drawing: &Drawing) -> Result<(), AllocError>
-    ensures { OnOk result (page.new.items ≡ page.old.items ++ registers_line drawing.now) }
-{
+fn put_registers(alloc: Global, page: &mut Vec<u8>, drawing: &Drawing) -> Result<(), AllocError> {
     put_column(alloc, page, REGISTER_WIDTH, drawing.address as u64)?;
     put_column(alloc, page, REGISTER_WIDTH, drawing.base as u64)?;
     put_number(alloc, page, REGISTER_WIDTH, drawing.top as u64)?;
@@ -377,9 +317,7 @@ fn put_frame_lines(
     unit: &Unit,
     frames: &[FrameRow],
     heads: &[FrameHead],
-) -> Result<(), AllocError>
-    ensures { OnOk result (page.new.items ≡ page.old.items ++ frame_lines (program_of unit.now) frames.now heads.now) }
-{
+) -> Result<(), AllocError> {
     let count = frames.len().min(heads.len());
     for put in 0..count {
         let frame = count - 1 - put;
@@ -395,9 +333,7 @@ fn put_frame_line(
     unit: &Unit,
     frame: &FrameRow,
     head: &FrameHead,
-) -> Result<(), AllocError>
-    ensures { OnOk result (page.new.items ≡ page.old.items ++ frame_line (program_of unit.now) frame.now head.now) }
-{
+) -> Result<(), AllocError> {
     put_column(alloc, page, CELL_WIDTH, head.base as u64)?;
     put_column(alloc, page, STATIC_LINK_WIDTH, head.static_link as u64)?;
     put_column(alloc, page, DYNAMIC_LINK_WIDTH, head.dynamic_link as u64)?;
@@ -413,9 +349,7 @@ fn put_frame_line(
 }
 
 /// Appends a line that says how many frames are left out, and nothing where none is.
-fn put_more(alloc: Global, page: &mut Vec<u8>, hidden: usize) -> Result<(), AllocError>
-    ensures { OnOk result (page.new.items ≡ page.old.items ++ more_below hidden) }
-{
+fn put_more(alloc: Global, page: &mut Vec<u8>, hidden: usize) -> Result<(), AllocError> {
     if hidden == 0 {
         return Ok(());
     }

@@ -2,9 +2,8 @@
 
 ghost use Rattle.std.specs.Prelude.{◌≡◌, ◌<◌, ◌≤◌, ◌⊎◌, ℕ, length, IfOk, MatchOption, MatchResult};
 ghost use Rattle.pl0_machine.specs.Machine.{program, frame_of, depth_of, variables_of, outcome_of, Stepped};
-ghost use Rattle.pl0_tool.specs.Traced.{HasPart, HasTraced, PutsRow, StopsBefore};
+ghost use Rattle.pl0_tool.specs.Traced.{HasTraced, PutsRow, StopsBefore, Writes};
 ghost use Rattle.pl0_tool.specs.Tracing.{IsFrameRow, AreFrameRows, IsRow, at_position, numbers_in};
-ghost use Rattle.pl0_tool.specs.Table.{head};
 
 use crate::drawing::{Drawing, draw_if};
 use crate::instructions::{begin_if, finish};
@@ -72,9 +71,10 @@ pub enum TraceEnd {
 }
 
 /// Tells up to `count` positions of a run, from `from` on, in order, in a table of which `page` has the head. There
-/// are fewer only where the run ends or faults. Where more than `room` bytes of the table are pending in `page` after
-/// a position, they are written. The machine goes to `from` without telling anything, and then stands at the end, at
-/// the step that faults, or behind what was told.
+/// are fewer only where the run ends or faults. What is told of each position, [`next_row`] says; how it is written is
+/// tested. Where more than `room` bytes of the table are pending in `page` after a position, they are written. The
+/// machine goes to `from` without telling anything, and then stands at the end, at the step that faults, or behind what
+/// was told.
 ///
 /// # Errors
 ///
@@ -92,12 +92,9 @@ pub fn trace<O: Sink>(
 ) -> Result<TraceEnd, AllocError>
     requires alive { 0 < depth_of machine.old }
     requires within { machine.old.position ≤ from }
-    requires head { page.old.items ≡ head view }
     ensures told { MatchResult result
-        (λ end. HasTraced end view machine.old from count machine.new
-        (O.output output.old) (O.output output.new) page.new.items)
-        (λ _. HasPart view machine.old from count
-        (O.output output.old) (O.output output.new)) }
+        (λ end. HasTraced end machine.old from count machine.new (O.output output.old) (O.output output.new))
+        (λ _. Writes (O.output output.old) (O.output output.new)) }
     ensures few { IfOk result (λ _. (length page.new.items ≤ room) ⊎ (page.new.items ≡ page.old.items)) }
 {
     if let Some(end) = go_to(rt, alloc, machine, from) {
@@ -128,10 +125,8 @@ fn tell_row<O: Sink>(
 ) -> Result<Option<StepOutcome>, AllocError>
     requires { 0 < depth_of machine.old }
     ensures told { MatchResult result
-        (λ told. PutsRow told view machine.old machine.new page.old.items page.new.items
-        (O.output output.old) (O.output output.new))
-        (λ _. O.output output.new
-        ≡ O.output output.old) }
+        (λ told. PutsRow told machine.old machine.new (O.output output.old) (O.output output.new))
+        (λ _. O.output output.new ≡ O.output output.old) }
     ensures few { IfOk result (λ _. length page.new.items ≤ room) }
 {
     let row = next_row(alloc, machine, view)?;
@@ -149,8 +144,7 @@ fn go_to(rt: &impl Wait, alloc: Global, machine: &mut Machine, position: u64) ->
     requires within { machine.old.position ≤ position }
     ensures { MatchOption result
         ((0 < depth_of machine.new) × (machine.new ≡ at_position machine.old position))
-        (λ end. StopsBefore end machine.old position machine.new
-        × (depth_of (at_position machine.old position) ≡ 0)) }
+        (λ end. StopsBefore end machine.old position machine.new) }
 {
     'numbers: for _ in rt.forever() {
         match run_to_number(alloc, machine, position) {
@@ -164,7 +158,11 @@ fn go_to(rt: &impl Wait, alloc: Global, machine: &mut Machine, position: u64) ->
 }
 
 /// Tells the position of a machine, and takes its step.
-fn next_row(alloc: Global, machine: &mut Machine, view: View) -> Result<Row, AllocError>
+///
+/// # Errors
+///
+/// `AllocError`, where an allocation failed; the step may have been taken.
+pub fn next_row(alloc: Global, machine: &mut Machine, view: View) -> Result<Row, AllocError>
     requires { 0 < depth_of machine.old }
     ensures { IfOk result (λ row. IsRow view machine.old row
         × Stepped (outcome_of machine.old) machine.old row.outcome machine.new) }

@@ -2,20 +2,6 @@ use Rattle.std.proofs.Common.{refl}
 use Rattle.std.specs.Fmt.{digits}
 use Rattle.pl0_lessons.proofs.laws.worked_pages.Goals as goal
 
-pub returns-clause-names : goal.returns-clause-names
-unfolding digits
-returns-clause-names c = refl
-
-pub returns-clause-tree : goal.returns-clause-tree
-unfolding digits
-returns-clause-tree c = refl
-
-pub returns-clause-signs : goal.returns-clause-signs
-returns-clause-signs c = (refl, refl)
-
-pub returns-clause-indents : goal.returns-clause-indents
-returns-clause-indents c = refl
-
 pub returns-clause-instructions : goal.returns-clause-instructions
 unfolding digits
 returns-clause-instructions c = (refl, refl, refl, refl)

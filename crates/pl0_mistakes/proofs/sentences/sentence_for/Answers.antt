@@ -5,13 +5,13 @@ use Rattle.pl0_mistakes.proofs.sentences.sentence_for.Goals as goal
 
 pub returns-in-NotAscii : goal.returns-in-NotAscii
 returns-in-NotAscii c =
-    let hint = c.foreign_hint.result in
+    let hint = c.hint_for.result in
     of_kind c.args.token.now c.args.scene.past.last.bytes.now _ _
     NotAscii c.in-NotAscii.is (hinted hint, told hint, c.plain-in-NotAscii.ensures)
 
 pub returns-in-BadCharacter : goal.returns-in-BadCharacter
 returns-in-BadCharacter c =
-    let hint = c.unreadable_hint.result in
+    let hint = c.hint_for-in-BadCharacter.result in
     of_kind c.args.token.now c.args.scene.past.last.bytes.now _ _
     BadCharacter c.in-BadCharacter.is (hinted hint, told hint, c.plain-in-BadCharacter.ensures)
 
@@ -21,7 +21,7 @@ returns-in-Twice c = of_kind c.args.token.now c.args.scene.past.last.bytes.now _
 
 pub returns-in-Unknown : goal.returns-in-Unknown
 returns-in-Unknown c =
-    let hint = c.unknown_hint.result in
+    let hint = c.hint_for-in-Unknown.result in
     of_kind c.args.token.now c.args.scene.past.last.bytes.now _ _
     Unknown c.in-Unknown.is (hinted hint, told hint, c.quoted-in-Unknown.ensures)
 

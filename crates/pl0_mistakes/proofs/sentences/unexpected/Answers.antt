@@ -5,7 +5,7 @@ use Rattle.pl0_mistakes.proofs.sentences.unexpected.Goals as goal
 
 pub returns-then-is_empty : goal.returns-then-is_empty
 returns-then-is_empty c =
-    let hint = c.end_hint.result in
+    let hint = c.hint_for-hint.result in
     let is : true ≡ (length c.args.token.now == 0) = search rules in
     (hinted hint, told hint, c.plain.ensures ∙ of_end c.args.token.now (hinted hint) is)
 

@@ -1,4 +1,5 @@
 use Rattle.std.proofs.lemmas.List.{get_or_default}
+use Rattle.byte_streams.specs.declared.files.FileKinds.TheVariants.{All}
 use Rattle.pl0_tool.specs.Executing.{none}
 use Rattle.pl0_tool.proofs.FilesDone.{all_done, one_given_up, one_more}
 use Rattle.pl0_tool.proofs.answering.answer.Goals as goal
@@ -10,7 +11,7 @@ pub loop-name-preserved : goal.loop-name-preserved
 loop-name-preserved g c =
     let names = c.as_slice-names.result.now in
     let i = c.loop-name.name-index in
-    one_more (λ name. name.now) g.F.Opener.opens g.F.Opener.closes
+    one_more (λ name. name.now) (g.F.Opener.opens All) g.F.Opener.closes
     g.F.File.Source.supply
     c.args.request.now.task names i _ c.loop-name-test.true (get_or_default names i _ _ c.loop-name-test.true) _ _ _ _ _
     c.loop-name.invariant _ _ _ c.in-Ok.ensures
@@ -20,7 +21,7 @@ returns-in-Err g c =
     let names = c.as_slice-names.result.now in
     let i = c.loop-name.name-index in
     rw c.as_slice-names.ensures.value at
-    (one_given_up (λ name. name.now) g.F.Opener.opens g.F.Opener.closes
+    (one_given_up (λ name. name.now) (g.F.Opener.opens All) g.F.Opener.closes
     g.F.File.Source.supply
     c.args.request.now.task names i _ c.loop-name-test.true (get_or_default names i _ _ c.loop-name-test.true) _ _ _ _ _
     c.loop-name.invariant _ _ c.in-Err.ensures)
@@ -29,7 +30,7 @@ pub returns : goal.returns
 returns g c =
     let names = c.as_slice-names.result.now in
     rw c.as_slice-names.ensures.value at
-    (all_done (λ name. name.now) g.F.Opener.opens g.F.Opener.closes
+    (all_done (λ name. name.now) (g.F.Opener.opens All) g.F.Opener.closes
     g.F.File.Source.supply
     c.args.request.now.task names c.loop-name.name-index _ _ _ _ c.loop-name.report c.loop-name-test.false
     c.loop-name.invariant)

@@ -8,8 +8,8 @@ returns-in-trace c =
     let machine = one_text-rows (found_of c.args.given.now) (codes "machine") in
     let instructions = one_text-rows (found_of c.args.given.now) (codes "instructions") in (
       c.in-trace.is,
-      c.number.ensures,
       c.number-in-trace.ensures,
+      c.number-in-trace-2.ensures,
       (
         (λ given. c.get_flag.ensures.value (machine ∙ given)),
         (λ given. c.get_flag.ensures.other (machine ∙ given)),

@@ -1,9 +1,10 @@
 use Rattle.std.proofs.Common.{IfOk, [], subst}
 use Rattle.pl0_unit.specs.declared.unit.Unit.{Unit as Compiled}
 use Rattle.pl0_mistakes.specs.Warnings.{warning_lines}
+use Rattle.pl0_tool.specs.declared.arguments.Task.TheVariants.{List as Listing, Tokens, Tree}
 use Rattle.pl0_tool.specs.declared.report.Ending.TheVariants.{Success}
-use Rattle.pl0_tool.specs.Commands.{IsReport, ListTells, TreeTells}
-use Rattle.pl0_tool.proofs.CommandTells.{checked_program, drawn_program, listed_program, run_program, traced_program}
+use Rattle.pl0_tool.specs.Commands.{IsReport}
+use Rattle.pl0_tool.proofs.CommandTells.{checked_program, paged_program, run_program, traced_program}
 use Rattle.pl0_tool.proofs.commands.perform_program.Goals as goal
 
 pub returns-in-Check : goal.returns-in-Check
@@ -14,19 +15,22 @@ returns-in-Check g c =
 
 pub returns-in-List : goal.returns-in-List
 returns-in-List g c =
-    listed_program c.args.task c.in-List.names c.args.file.now c.args.unit.value c.list_program.result _ c.in-List.is
-    (subst (λ (unit : Compiled). IfOk c.list_program.result (ListTells c.in-List.names unit)) c.deref-in-List.ensures
-    c.list_program.ensures)
+    paged_program c.args.task (Listing c.in-List.names) c.args.file.now c.args.unit.value c.list_program.result _
+    c.in-List.is tt c.list_program.ensures
 
 pub returns-in-Tree : goal.returns-in-Tree
 returns-in-Tree g c =
-    drawn_program c.args.task c.args.file.now c.args.unit.value c.draw_tree.result _ c.in-Tree.is
-    (subst (λ (unit : Compiled). IfOk c.draw_tree.result (TreeTells unit)) c.deref-in-Tree.ensures
-    c.draw_tree.ensures)
+    paged_program c.args.task Tree c.args.file.now c.args.unit.value c.page_told.result _ c.in-Tree.is tt
+    c.page_told.ensures
+
+pub returns-in-Tokens : goal.returns-in-Tokens
+returns-in-Tokens g c =
+    paged_program c.args.task Tokens c.args.file.now c.args.unit.value c.page_told-in-Tokens.result _ c.in-Tokens.is tt
+    c.page_told-in-Tokens.ensures
 
 pub returns-in-Run : goal.returns-in-Run
 returns-in-Run g c =
-    run_program c.args.task c.args.file.now c.args.unit.value c.run_program.result _ _ c.in-Run.is
+    run_program c.args.task c.in-Run.limit c.args.file.now c.args.unit.value c.run_program.result _ _ c.in-Run.is
     c.run_program.ensures
 
 pub returns-in-Trace : goal.returns-in-Trace

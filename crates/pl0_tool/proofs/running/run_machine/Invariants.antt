@@ -1,4 +1,4 @@
-use Rattle.pl0_tool.proofs.Common.{depth_of, lines_between, WritesAll, [], ◌<◌, ◌≡◌}
+use Rattle.pl0_tool.proofs.Common.{depth_of, lines_between, WritesAll, [], ◌<◌, ◌≡◌, ◌≤◌}
 use Rattle.pl0_tool.proofs.RunLines.{Came}
 use Rattle.pl0_tool.proofs.running.run_machine.Given as goal
 
@@ -8,3 +8,4 @@ invariant-slices g l =
     × WritesAll (lines_between l.initial.machine l.machine)
     (g.O.Sink.output l.initial.output)
     (g.O.Sink.output l.output)
+    × (l.machine.position ≤ l.limit)

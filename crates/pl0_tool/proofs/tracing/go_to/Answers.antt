@@ -1,7 +1,7 @@
-use Rattle.pl0_tool.proofs.Common.{Done, Fault, Some, subst}
+use Rattle.pl0_tool.proofs.Common.{Some, subst}
 use Rattle.pl0_tool.specs.Running.{RanToNumber}
 use Rattle.pl0_tool.proofs.RunLines.{came_none}
-use Rattle.pl0_tool.proofs.TracedRows.{came_to, ends_before, faults_before, goes_further, never_there}
+use Rattle.pl0_tool.proofs.TracedRows.{came_to, ends_before, faults_before, goes_further}
 use Rattle.pl0_tool.proofs.tracing.go_to.Goals as goal
 
 pub numbers-init : goal.numbers-init
@@ -19,23 +19,13 @@ numbers-preserved g c =
 
 pub returns-in-Some-Done : goal.returns-in-Some-Done
 returns-in-Some-Done g c =
-    let ran =
-    subst (λ o. RanToNumber c.args.position c.numbers.machine (Some o) c.run_to_number.new.machine)
-    c.in-Some-Done.field-0-is c.in-Some-Done.ensures in (
-      ends_before c.args.machine.now c.numbers.machine c.run_to_number.new.machine c.args.position
-          c.numbers.invariant.2 ran,
-      never_there c.args.machine.now c.numbers.machine c.run_to_number.new.machine c.args.position Done
-          c.numbers.invariant.2 ran tt,
-    )
+    ends_before c.args.machine.now c.numbers.machine c.run_to_number.new.machine c.args.position c.numbers.invariant.2
+    (subst (λ o. RanToNumber c.args.position c.numbers.machine (Some o) c.run_to_number.new.machine)
+    c.in-Some-Done.field-0-is c.in-Some-Done.ensures)
 
 pub returns-in-Some-Fault : goal.returns-in-Some-Fault
 returns-in-Some-Fault g c =
-    let fault = c.in-Some-Fault.fault in
-    let ran =
-    subst (λ o. RanToNumber c.args.position c.numbers.machine (Some o) c.run_to_number.new.machine)
-    c.in-Some-Fault.field-0-is c.in-Some-Fault.ensures in (
-      faults_before c.args.machine.now c.numbers.machine c.run_to_number.new.machine c.args.position fault
-          c.numbers.invariant.2 ran,
-      never_there c.args.machine.now c.numbers.machine c.run_to_number.new.machine c.args.position (Fault fault)
-          c.numbers.invariant.2 ran tt,
-    )
+    faults_before c.args.machine.now c.numbers.machine c.run_to_number.new.machine c.args.position c.in-Some-Fault.fault
+    c.numbers.invariant.2
+    (subst (λ o. RanToNumber c.args.position c.numbers.machine (Some o) c.run_to_number.new.machine)
+    c.in-Some-Fault.field-0-is c.in-Some-Fault.ensures)

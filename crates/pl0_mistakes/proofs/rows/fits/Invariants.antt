@@ -1,0 +1,9 @@
+use denote.Text.{Utf8}
+use denote.Shadow.{shadow}
+use Rattle.pl0_mistakes.proofs.rows.fits.Given as goal
+
+-- the key is text
+abbrev pub invariant-loop-word : goal.invariant-loop-word
+invariant-loop-word l =
+    (goal.iterator-loop-word).can_next l.word-iterator × (goal.iterator-loop-word).is_finite l.word-iterator
+    × shadow (Utf8 l.key)

@@ -1,0 +1,83 @@
+//! Words that rows name: of other languages, and of the text.
+
+use crate::cases::{keyword_in_front, keyword_in_lower_case, keyword_nearby};
+use crate::found::Token;
+use crate::names::{name_nearby, procedure_with};
+use crate::scene::{Scene, is_comparison, is_declaring, is_keyword, is_name};
+
+/// Whether a token is this one, or one of those that a word in capitals stands for.
+pub(crate) fn is_of(token: Token<'_>, word: &str) -> bool {
+    match word {
+        "NOTHING" => token.bytes.is_empty(),
+        "NAME" => is_name(token),
+        "NUMBER" => token.is_number(),
+        "KEYWORD" => is_keyword(token),
+        "DECLARING" => is_declaring(token),
+        "COMPARISON" => is_comparison(token),
+        "OPERATOR" => token.is_one_of("+ - * /"),
+        _ => match words_of(word) {
+            "" => token.is(word),
+            words => token.is_word_of(words),
+        },
+    }
+}
+
+/// Returns the words of other languages for which a word in capitals stands; nothing for another word.
+fn words_of(word: &str) -> &'static str {
+    match word {
+        "BETWEEN" => BETWEEN,
+        "BEGINNING" => BEGINNING,
+        "REPEATING" => "for foreach repeat until loop",
+        "ELSE" => "else elif elseif elsif otherwise",
+        "LOGICAL" => "and or xor not",
+        "REMAINDER" => "mod rem modulo",
+        "DIVISION" => "div",
+        "COMPARING" => "is eq ne lt gt le ge equals",
+        "WRITING" => WRITING,
+        "READING" => "read readln input scanf get gets getline cin scanner prompt",
+        "TYPE" => TYPES,
+        "CONSTANT" => "constant constants final readonly",
+        "PROCEDURE" => "def func function fun fn void proc sub method",
+        "CHANGING" => "inc dec",
+        "FUNCTION" => FUNCTIONS,
+        _ => "",
+    }
+}
+
+/// Words of other languages where an operand, a statement or its rest may end.
+const BETWEEN: &str =
+    "and or xor not mod div rem else elif elseif elsif until to downto step in is fi od wend endif endwhile";
+
+/// Words of other languages with which a statement begins, or an operand. They are read as names.
+const BEGINNING: &str =
+    "not else elif elseif elsif for foreach repeat until return break continue case switch loop goto exit stop halt unless pass global nonlocal try program module unit import include using uses package class fi od done set del new type label static public private when with forward";
+
+/// Words by which other languages write.
+const WRITING: &str =
+    "write writeln print println printf puts cout echo display output put disp console system";
+
+/// Words by which other languages declare variables.
+const TYPES: &str =
+    "int integer long short float double real char bool boolean string let dim auto variable variables";
+
+/// Names of functions that other languages have.
+const FUNCTIONS: &str =
+    "even abs sqr sqrt min max mod pow power square random succ pred ord trunc round length sum";
+
+/// Returns the word of a text for which another one stands in a row.
+pub(crate) fn word<'a>(name: &str, scene: Scene<'a>) -> Option<Token<'a>> {
+    let last = scene.past.last;
+    match name {
+        "last" => Some(last),
+        "next" => Some(scene.next),
+        "keyword in last" => keyword_in_front(last),
+        "last in lower case" => keyword_in_lower_case(last),
+        "here in lower case" => keyword_in_lower_case(scene.found),
+        "keyword like last" => keyword_nearby(last),
+        "keyword like here" => keyword_nearby(scene.found),
+        "name like here" => name_nearby(scene.front, scene.found),
+        "procedure of here" => procedure_with(scene.front, scene.found),
+        "line" => Some(scene.begun),
+        _ => Some(scene.found),
+    }
+}
