@@ -4,7 +4,7 @@
 //! `rows` has the worked rows, as transcripts, and `programs` those that debug a program; `driving` runs them through a
 //! session over the ports of `test_kit`, and `serving` through the adapter over streams in memory, which stand in
 //! `fakes`. In `held` streams and runs wait for each other, in `refusals` reads and writes fail. `listings`, `loading`,
-//! `command_line` and `running` try what else the program does.
+//! `command_line`, `running` and `opening` try what else the program does.
 #![tactic(auto)]
 
 #[cfg(test)]
@@ -19,6 +19,8 @@ mod held;
 mod listings;
 #[cfg(test)]
 mod loading;
+#[cfg(test)]
+mod opening;
 #[cfg(test)]
 mod programs;
 #[cfg(test)]

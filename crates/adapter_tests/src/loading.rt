@@ -3,6 +3,9 @@
 use crate::fakes::{Input, Progress, Streams};
 use adapter::{ReadFault, read_beginning};
 
+/// How many bytes of a program's file are read.
+const LIMIT: usize = 65_537;
+
 /// The lengths of files, and how many bytes of them are given.
 const LENGTHS: [(usize, usize); 5] = [
     (0, 0),
@@ -25,7 +28,7 @@ fn gives_the_first_bytes(rt: HostRuntime) {
                 ..Streams::WELL
             };
             let mut source = Input::new(&rt, bytes, streams, &progress);
-            let read = read_beginning(&rt, alloc, &mut source).expect(&rt, "memory");
+            let read = read_beginning(&rt, alloc, &mut source, LIMIT).expect(&rt, "memory");
             let other = read.iter().position(|byte| *byte != b'x');
             assert_eq!(rt;
                 (read.len(), other),
@@ -48,7 +51,7 @@ fn gives_nothing_where_a_read_fails(rt: HostRuntime) {
             ..Streams::WELL
         };
         let mut source = Input::new(&rt, b"var x; .", streams, &progress);
-        match read_beginning(&rt, alloc, &mut source) {
+        match read_beginning(&rt, alloc, &mut source, LIMIT) {
             Err(ReadFault::CannotRead) => {}
             other => panic!(rt; "{other:?}, and not CannotRead, at {read_fails_at}"),
         }

@@ -3,7 +3,7 @@
 //! command line is that of this process.
 #![tactic(auto)]
 
-use adapter::{FileLoader, FirstSeq, Reading, Writing, execute, run};
+use adapter::{FileKinds, FileLoader, FirstSeq, Reading, SystemFiles, Writing, execute, run};
 use std::env;
 
 /// Files that are checked: each has a listing, or else a fault, or isn't there.
@@ -23,14 +23,15 @@ const FILES: [&str; 11] = [
 
 /// Does what each command line asks for, with what is said on standard error printed to standard output.
 fn main(rt: HostRuntime) -> Result<(), anyhow::Error> {
+    let files = &mut SystemFiles::new(&rt);
     let input = &mut Reading::new(&rt, rt.stdin());
     let output = &mut Writing::new(&rt, rt.stdout());
     let errors = &mut Writing::new(&rt, rt.stdout());
     println!(rt; "two.pl0:")?;
     let given = env::args(&rt);
-    let reason = run(&rt, FirstSeq::One, given, input, output, errors);
+    let reason = run(&rt, FirstSeq::One, given, files, input, output, errors);
     println!(rt; "status {}", reason.status())?;
-    let mut files = FileLoader::new(&rt, rt.alloc());
+    let mut files = FileLoader::new(&rt, rt.alloc(), files, FileKinds::All);
     for file in FILES {
         println!(rt; "{file}:")?;
         let words = ["pl0dap", "--check", file];

@@ -6,42 +6,24 @@ use std::alloc::Global;
 use std::process::Abort;
 
 /// Streams, and what is read from each: each content with a line feed after it, then the fault.
-const STREAMS: [(&str, &str); 29] = [
-    ("", ""),
-    ("Content-Length: 2\r\n\r\n{", ""),
-    ("Content-Length: 2\r\n\r\n{}", "{}\n"),
+const STREAMS: [(&str, &str); 11] = [
     (
         "Content-Length: 2\r\n\r\n{}X-y: \r\nContent-Length: 3\r\nZ: 1\r\n\r\n[1]Con",
         "{}\n[1]\n",
     ),
-    ("Content-Length: 0\r\n\r\n", "\n"),
     (
         "Content-Length: 0\r\n\r\nContent-Length: 4\r\n\r\n\r\n\r\n",
         "\n\r\n\r\n\n",
     ),
-    ("Content-Length: 5\r", ""),
     ("Content-Length: 5\r\n\r", ""),
     ("Content-Length: 5\n\n{\"a\":", ""),
     ("Content-Length: 5\n\n{\"a\":\r\n", "BadField"),
-    ("\r\n", "NoLength"),
     ("content-length: 49\r\n\r\n", "NoLength"),
     ("Content-Length: 1\r\n\r\n{A b: c\r\n", "{\nBadField"),
     ("Content-Length:49\r\n", "BadField"),
-    (": 49\r\n", "BadField"),
-    ("X\r\n", "BadField"),
-    ("X: \t\r\n", "BadField"),
-    ("X: \r\r\n", "BadField"),
     ("Content-Length: 49\r\nContent-Length: 49\r\n", "TwoLengths"),
-    ("Content-Length: 49\r\nContent-Length: x\r\n", "TwoLengths"),
     ("Content-Length: 049\r\n", "BadLength"),
-    ("Content-Length: 00\r\n", "BadLength"),
-    ("Content-Length: \r\n", "BadLength"),
-    ("Content-Length: 4 \r\n", "BadLength"),
-    ("Content-Length: +4\r\n", "BadLength"),
-    ("Content-Length: 10000000\r\n", "BadLength"),
-    ("Content-Length: 1048576\r\n\r\n", ""),
     ("Content-Length: 1048577\r\n", "TooLarge"),
-    ("Content-Length: 9999999\r\n", "TooLarge"),
 ];
 
 /// Feeds a piece, and appends to `seen` all contents that are whole then. After a fault a decoder returns it on every call.
@@ -149,18 +131,6 @@ fn decodes_the_largest_content(rt: HostRuntime) {
         let other = first_other(seen.as_slice(), expected.as_bytes());
         assert_eq!(rt; (seen.len(), other), (expected.len(), None), "by {step}");
     }
-}
-
-#[test]
-fn encodes_contents(rt: HostRuntime) {
-    let mut frames = Vec::new(rt.alloc());
-    for content in ["{}", "", "0123456789"] {
-        assert_eq!(rt; encode(content.as_bytes(), &mut frames), Ok(()));
-    }
-    let expected =
-        b"Content-Length: 2\r\n\r\n{}Content-Length: 0\r\n\r\nContent-Length: 10\r\n\r\n0123456789";
-    let came = std::str::from_utf8(frames.as_slice());
-    assert_eq!(rt; came, std::str::from_utf8(expected.as_slice()));
 }
 
 /// A frame of the largest content is written.

@@ -2,7 +2,7 @@
 //! editors know, and that each call can succeed at the largest sizes. It is never installed.
 //!
 //! `examples` has the examples of the crates' documentation, `frames` tests the decoder, `requests` tests reading and
-//! `messages` writing. `text` makes long texts for them.
+//! `messages` the largest answer. `text` makes long texts for them.
 #![tactic(auto)]
 
 #[cfg(test)]

@@ -9,40 +9,17 @@ use std::process::Abort;
 const INITIALIZE_1: &str =
     "Some(Request { seq: 1, body: Initialize(InitializeArguments { lines_start_at_1: true, columns_start_at_1: true }) })";
 
-/// Contents, and what they are read as.
-const CONTENTS: [(&[u8], &str); 14] = [
-    (
-        br#"{"seq":1,"type":"request","command":"initialize"}"#,
-        INITIALIZE_1,
-    ),
-    (
-        br#"{"seq":2,"type":"request","command":"disconnect"}"#,
-        "Some(Request { seq: 2, body: Disconnect })",
-    ),
+/// Contents, and what they are read as: white space, keys that are repeated, and what is no request.
+const CONTENTS: [(&[u8], &str); 6] = [
     (
         b" {\r\n\t\"command\" : \"threads\", \"type\":\"request\", \"seq\":3 }\n",
         "Some(Request { seq: 3, body: Threads })",
     ),
     (
-        br#"{"seq":4,"type":"request","command":"setExceptionBreakpoints","arguments":{}}"#,
-        r#"Some(Request { seq: 4, body: Unsupported(Text { text: "setExceptionBreakpoints" }) })"#,
-    ),
-    (
         br#"{"seq":5,"type":"request","command":"threads","seq":6,"seq":1,"command":"initialize"}"#,
         INITIALIZE_1,
     ),
-    (
-        br#"{"seq":1,"type":"request","command":"threads","command":7}"#,
-        "None",
-    ),
-    (br#"{"seq":1,"type":"event","command":"threads"}"#, "None"),
-    (br#"{"seq":1,"command":"threads"}"#, "None"),
-    (br#"{"seq":1,"type":"request"}"#, "None"),
     (br#"{"seq":1}"#, "None"),
-    (
-        br#"[{"seq":1,"type":"request","command":"threads"}]"#,
-        "None",
-    ),
     (b"[", "None"),
     (b"", "None"),
     (
@@ -52,21 +29,10 @@ const CONTENTS: [(&[u8], &str); 14] = [
 ];
 
 /// The number of a request for `threads`, and what it is read as where clients count from 1 and where they count from 0.
-const SEQS: [(&str, &str, &str); 11] = [
+const SEQS: [(&str, &str, &str); 4] = [
     ("0", "None", "Some(Request { seq: 0, body: Threads })"),
     ("1.0", "None", "None"),
-    ("1e0", "None", "None"),
-    ("\"1\"", "None", "None"),
-    ("-1", "None", "None"),
-    ("-0", "None", "None"),
-    ("0.0", "None", "None"),
-    ("1e400", "None", "None"),
     ("9007199254740992", "None", "None"),
-    (
-        "1",
-        "Some(Request { seq: 1, body: Threads })",
-        "Some(Request { seq: 1, body: Threads })",
-    ),
     (
         "9007199254740991",
         "Some(Request { seq: 9007199254740991, body: Threads })",
@@ -77,155 +43,30 @@ const SEQS: [(&str, &str, &str); 11] = [
 /// A command, its arguments, and what is asked.
 type Row = (&'static str, &'static str, &'static str);
 
-/// Requests for `initialize`.
-const INITIALIZE: [Row; 6] = [
-    ("initialize", "null", "BadArguments(Initialize)"),
-    ("initialize", "[]", "BadArguments(Initialize)"),
-    (
-        "initialize",
-        r#"{"linesStartAt1":null}"#,
-        "BadArguments(Initialize)",
-    ),
-    (
-        "initialize",
-        r#"{"columnsStartAt1":1}"#,
-        "BadArguments(Initialize)",
-    ),
+/// A request for each command, as editors send it, with all of its arguments; and two that are refused.
+const ASKED: [Row; 17] = [
     (
         "initialize",
         r#"{"linesStartAt1":false,"clientID":7}"#,
         "Initialize(InitializeArguments { lines_start_at_1: false, columns_start_at_1: true })",
     ),
     (
-        "initialize",
-        r#"{"columnsStartAt1":false}"#,
-        "Initialize(InitializeArguments { lines_start_at_1: true, columns_start_at_1: false })",
-    ),
-];
-
-/// Requests for `launch`.
-const LAUNCH: [Row; 11] = [
-    (
-        "launch",
-        r#"{"program":"p.pl0"}"#,
-        r#"Launch(LaunchArguments { program: Text { text: "p.pl0" }, stop_on_entry: false })"#,
-    ),
-    (
         "launch",
         r#"{"program":" ~","stopOnEntry":true,"noDebug":false}"#,
         r#"Launch(LaunchArguments { program: Text { text: " ~" }, stop_on_entry: true })"#,
-    ),
-    ("launch", "{}", "BadArguments(Launch)"),
-    ("launch", r#"{"program":""}"#, "BadArguments(Launch)"),
-    ("launch", r#"{"program":"\u001f"}"#, "BadArguments(Launch)"),
-    ("launch", r#"{"program":"\u007f"}"#, "BadArguments(Launch)"),
-    ("launch", r#"{"program":"é"}"#, "BadArguments(Launch)"),
-    ("launch", r#"{"program":null}"#, "BadArguments(Launch)"),
-    (
-        "launch",
-        r#"{"program":"p.pl0","stopOnEntry":1}"#,
-        "BadArguments(Launch)",
-    ),
-    (
-        "launch",
-        r#"{"program":"p.pl0","noDebug":true}"#,
-        "BadArguments(Launch)",
-    ),
-    (
-        "launch",
-        r#"{"program":"p.pl0","noDebug":null}"#,
-        "BadArguments(Launch)",
-    ),
-];
-
-/// Requests for `setBreakpoints`.
-const SET_BREAKPOINTS: [Row; 13] = [
-    (
-        "setBreakpoints",
-        r#"{"source":{}}"#,
-        "SetBreakpoints(SetBreakpointsArguments { path: None, breakpoints: Items { items: [] } })",
     ),
     (
         "setBreakpoints",
         r#"{"source":{"path":"p.pl0"},"breakpoints":[{"line":2},{"line":0,"condition":"x > 2","hitCondition":"%2","logMessage":"x is {x}"},{"line":2147483647,"condition":""}]}"#,
         r#"SetBreakpoints(SetBreakpointsArguments { path: Some(Text { text: "p.pl0" }), breakpoints: Items { items: [SourceBreakpoint { line: 2, condition: Text { text: "" }, hit_condition: Text { text: "" }, log_message: Text { text: "" } }, SourceBreakpoint { line: 0, condition: Text { text: "x > 2" }, hit_condition: Text { text: "%2" }, log_message: Text { text: "x is {x}" } }, SourceBreakpoint { line: 2147483647, condition: Text { text: "" }, hit_condition: Text { text: "" }, log_message: Text { text: "" } }] } })"#,
     ),
-    ("setBreakpoints", "{}", "BadArguments(SetBreakpoints)"),
-    (
-        "setBreakpoints",
-        r#"{"source":"p.pl0"}"#,
-        "BadArguments(SetBreakpoints)",
-    ),
-    (
-        "setBreakpoints",
-        r#"{"source":{"path":null}}"#,
-        "BadArguments(SetBreakpoints)",
-    ),
-    (
-        "setBreakpoints",
-        r#"{"source":{},"breakpoints":{}}"#,
-        "BadArguments(SetBreakpoints)",
-    ),
-    (
-        "setBreakpoints",
-        r#"{"source":{},"breakpoints":[7]}"#,
-        "BadArguments(SetBreakpoints)",
-    ),
-    (
-        "setBreakpoints",
-        r#"{"source":{},"breakpoints":[{}]}"#,
-        "BadArguments(SetBreakpoints)",
-    ),
-    (
-        "setBreakpoints",
-        r#"{"source":{},"breakpoints":[{"line":-1}]}"#,
-        "BadArguments(SetBreakpoints)",
-    ),
-    (
-        "setBreakpoints",
-        r#"{"source":{},"breakpoints":[{"line":1},{"line":2147483648}]}"#,
-        "BadArguments(SetBreakpoints)",
-    ),
-    (
-        "setBreakpoints",
-        r#"{"source":{},"breakpoints":[{"line":1,"condition":null}]}"#,
-        "BadArguments(SetBreakpoints)",
-    ),
-    (
-        "setBreakpoints",
-        r#"{"source":{},"breakpoints":[{"line":1,"hitCondition":2}]}"#,
-        "BadArguments(SetBreakpoints)",
-    ),
-    (
-        "setBreakpoints",
-        r#"{"source":{},"breakpoints":[{"line":1,"logMessage":null}]}"#,
-        "BadArguments(SetBreakpoints)",
-    ),
-];
-
-/// Requests for commands that read no arguments.
-const WITHOUT_ARGUMENTS: [Row; 3] = [
     ("configurationDone", "null", "ConfigurationDone"),
     ("threads", "\"x\"", "Threads"),
     ("disconnect", "null", "Disconnect"),
-];
-
-/// Requests for commands that name a thread.
-const THREADS: [Row; 15] = [
     (
         "continue",
         r#"{"threadId":1}"#,
         "Resume(Continue, ThreadArguments { thread_id: 1 })",
-    ),
-    (
-        "next",
-        r#"{"threadId":2}"#,
-        "Resume(Next, ThreadArguments { thread_id: 2 })",
-    ),
-    (
-        "stepIn",
-        r#"{"threadId":0}"#,
-        "Resume(StepIn, ThreadArguments { thread_id: 0 })",
     ),
     (
         "stepOut",
@@ -238,47 +79,9 @@ const THREADS: [Row; 15] = [
         "Retreat(StepBack, ThreadArguments { thread_id: 1 })",
     ),
     (
-        "reverseContinue",
-        r#"{"threadId":1}"#,
-        "Retreat(ReverseContinue, ThreadArguments { thread_id: 1 })",
-    ),
-    (
         "pause",
-        r#"{"threadId":1,"granularity":"line"}"#,
-        "Pause(ThreadArguments { thread_id: 1 })",
-    ),
-    ("continue", "{}", "BadArguments(Resume(Continue))"),
-    (
-        "continue",
-        r#"{"threadId":1e0}"#,
-        "BadArguments(Resume(Continue))",
-    ),
-    ("next", r#"{"threadId":-1}"#, "BadArguments(Resume(Next))"),
-    (
-        "stepIn",
-        r#"{"threadId":"1"}"#,
-        "BadArguments(Resume(StepIn))",
-    ),
-    (
-        "stepOut",
-        r#"{"threadId":9007199254740992}"#,
-        "BadArguments(Resume(StepOut))",
-    ),
-    ("stepBack", "{}", "BadArguments(Retreat(StepBack))"),
-    (
-        "reverseContinue",
-        "[]",
-        "BadArguments(Retreat(ReverseContinue))",
-    ),
-    ("pause", "null", "BadArguments(Pause)"),
-];
-
-/// Requests for `stackTrace`, `scopes` and `variables`.
-const FRAMES: [Row; 9] = [
-    (
-        "stackTrace",
         r#"{"threadId":1}"#,
-        "Inspect(StackTrace(StackTraceArguments { thread_id: 1, start_frame: 0, levels: 0 }))",
+        "Pause(ThreadArguments { thread_id: 1 })",
     ),
     (
         "stackTrace",
@@ -286,44 +89,15 @@ const FRAMES: [Row; 9] = [
         "Inspect(StackTrace(StackTraceArguments { thread_id: 1, start_frame: 1, levels: 2 }))",
     ),
     (
-        "stackTrace",
-        r#"{"startFrame":1}"#,
-        "BadArguments(Inspect(StackTrace))",
-    ),
-    (
-        "stackTrace",
-        r#"{"threadId":1,"startFrame":-1}"#,
-        "BadArguments(Inspect(StackTrace))",
-    ),
-    (
-        "stackTrace",
-        r#"{"threadId":1,"levels":null}"#,
-        "BadArguments(Inspect(StackTrace))",
-    ),
-    (
         "scopes",
         r#"{"frameId":4}"#,
         "Inspect(Scopes(ScopesArguments { frame_id: 4 }))",
-    ),
-    (
-        "scopes",
-        r#"{"frameId":4.0}"#,
-        "BadArguments(Inspect(Scopes))",
     ),
     (
         "variables",
         r#"{"variablesReference":3}"#,
         "Inspect(Variables(VariablesArguments { variables_reference: 3 }))",
     ),
-    (
-        "variables",
-        r#"{"frameId":3}"#,
-        "BadArguments(Inspect(Variables))",
-    ),
-];
-
-/// Requests for `evaluate`, and one for a command that is not supported.
-const EXPRESSIONS: [Row; 6] = [
     (
         "evaluate",
         r#"{"expression":"k + n","frameId":4}"#,
@@ -334,21 +108,7 @@ const EXPRESSIONS: [Row; 6] = [
         r#"{"expression":"1 / n"}"#,
         r#"Inspect(Evaluate(EvaluateArguments { expression: Text { text: "1 / n" }, frame_id: 1 }))"#,
     ),
-    (
-        "evaluate",
-        r#"{"frameId":4}"#,
-        "BadArguments(Inspect(Evaluate))",
-    ),
-    (
-        "evaluate",
-        r#"{"expression":7}"#,
-        "BadArguments(Inspect(Evaluate))",
-    ),
-    (
-        "evaluate",
-        r#"{"expression":"k","frameId":null}"#,
-        "BadArguments(Inspect(Evaluate))",
-    ),
+    ("continue", "{}", "BadArguments(Resume(Continue))"),
     (
         "completions",
         "{}",
@@ -403,19 +163,8 @@ fn assert_asks(rt: &impl Abort, alloc: Global, row: Row) {
 
 #[test]
 fn reads_arguments(rt: HostRuntime) {
-    let tables = [
-        INITIALIZE.as_slice(),
-        &LAUNCH,
-        &SET_BREAKPOINTS,
-        &WITHOUT_ARGUMENTS,
-        &THREADS,
-        &FRAMES,
-        &EXPRESSIONS,
-    ];
-    for table in tables.as_slice() {
-        for row in *table {
-            assert_asks(&rt, rt.alloc(), *row);
-        }
+    for row in ASKED.as_slice() {
+        assert_asks(&rt, rt.alloc(), *row);
     }
 }
 
@@ -517,26 +266,6 @@ fn reads_names_up_to_64_bytes(rt: HostRuntime) {
         let content = repeated(&rt, alloc, first, "a", times, r#""}"#);
         let name = format!(in alloc; "{times} letters").expect(&rt, "memory");
         assert_read(&rt, alloc, name.as_str(), content.as_bytes(), expected);
-    }
-}
-
-#[test]
-fn reads_names_of_printable_characters(rt: HostRuntime) {
-    let alloc = rt.alloc();
-    let rows = [
-        (
-            r"~ \\",
-            r#"Some(Request { seq: 1, body: Unsupported(Text { text: "~ \\" }) })"#,
-        ),
-        (r"\u007f", "None"),
-        (r"\n", "None"),
-        ("é", "None"),
-    ];
-    for (name, expected) in rows.as_slice() {
-        let content = format!(in alloc;
-            "{{\"seq\":1,\"type\":\"request\",\"command\":\"{name}\"}}"
-        ).expect(&rt, "memory");
-        assert_read(&rt, alloc, name, content.as_bytes(), expected);
     }
 }
 

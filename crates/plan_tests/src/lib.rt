@@ -1,12 +1,9 @@
 //! Tests of breakpoints and of debuggees: how breakpoints are answered (`plans`), what positions log (`logpoints`), and which
 //! steps are run again where a debuggee goes back (`going_back`). Nothing here is installed.
 //!
-//! On random programs, `due` counts arrivals anew beside the debuggee. `steps` takes a debuggee's steps, `examples` has the
-//! example calls that stand at the head of the library.
+//! `steps` takes a debuggee's steps, `examples` has the example calls that stand at the head of the library.
 #![tactic(auto)]
 
-#[cfg(test)]
-mod due;
 #[cfg(test)]
 mod examples;
 #[cfg(test)]

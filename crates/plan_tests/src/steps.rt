@@ -21,7 +21,7 @@ pub fn goes(debuggee: &mut Debuggee) -> bool
 }
 
 /// Adds a log to the others of its position.
-pub fn add_log(rt: &impl Abort, alloc: Global, logged: &mut String, number: usize, text: &str) {
+fn add_log(rt: &impl Abort, alloc: Global, logged: &mut String, number: usize, text: &str) {
     let line = format!(in alloc; "{number} {text}").expect(rt, "memory");
     logged.push_str(line.as_str()).expect(rt, "memory");
 }

@@ -15,7 +15,6 @@ const OF_RECURSIVE: &str = "9/1 10/1 2/2 3/2 4/2 5/2 2/3 3/3 4/3 6/3 \
 const ENDS: &str = "
 a sum too large | var x; begin x := 9223372036854775807; x := x + 1 end. | Fault(Overflow) at 1, 1 frames, 1:40, None, Some(9223372036854775807)
 the least number | var x; begin x := - 9223372036854775807 - 1; ! x; x := x / (-1) end. | Fault(Overflow) at 2, 1 frames, 1:51, Some(-9223372036854775808), Some(-9223372036854775808)
-a division by 0 | var n; ! 1 / n. | Fault(DivideByZero) at 0, 1 frames, 1:8, None, Some(0)
 no end of calls | procedure p; call p; call p. | Fault(Depth) at 1023, 1024 frames, 1:14, None, None
 1,025 frames | var n; procedure p; begin n := n + 1; if n < 1024 then call p end; call p. | Fault(Depth) at 3069, 1024 frames, 1:56, None, Some(1023)
 1,024 frames | var n; procedure p; begin n := n + 1; if n < 1023 then call p end; call p. | Done at 4093, 0 frames, None, None

@@ -2,9 +2,7 @@
 
 use crate::machines::{number, step_of};
 use pl0_machine::{Machine, StepOutcome};
-use pl0_parser::tokenize;
 use pl0_syntax::{Place, Step, SyntaxFault, Tree, blocks, frame_name, parse, steps};
-use pl0_tree::Token;
 use pl0_unit::Instruction;
 use sample_programs::compiled;
 use std::alloc::Global;
@@ -14,8 +12,6 @@ use test_kit::machine_of;
 /// What is shown of a text.
 #[derive(Clone, Copy)]
 pub enum View {
-    /// Its tokens with their places, and where it ends.
-    Tokens,
     /// Its first fault, or that it is lawful.
     Fault,
     /// The steps of its program, each with the name of its block.
@@ -36,7 +32,6 @@ const STEPS: usize = 200_000;
 pub fn show(rt: &impl Abort, alloc: Global, view: View, text: &str) -> String {
     let mut out = String::new(alloc);
     match view {
-        View::Tokens => write_tokens(rt, alloc, &mut out, text),
         View::Fault => write_fault(rt, &mut out, parse(alloc, text.as_bytes()).err()),
         View::Steps => write_steps(rt, alloc, &mut out, text),
         View::Code => write_code(rt, alloc, &mut out, text),
@@ -49,21 +44,6 @@ pub fn show(rt: &impl Abort, alloc: Global, view: View, text: &str) -> String {
 /// A machine at the beginning of a lawful text.
 fn begun(rt: &impl Abort, alloc: Global, text: &str) -> Machine {
     machine_of(alloc, text).expect(rt, "a lawful text")
-}
-
-fn write_token(rt: &impl Abort, out: &mut String, token: &Token) {
-    let Place { line, column } = token.place;
-    let symbol = token.symbol;
-    write!(out, "{line}:{column} {symbol:?}, ").expect(rt, "memory");
-}
-
-fn write_tokens(rt: &impl Abort, alloc: Global, out: &mut String, text: &str) {
-    let (tokens, end) = tokenize(alloc, text.as_bytes()).expect(rt, "tokens");
-    for token in tokens.iter() {
-        write_token(rt, out, token);
-    }
-    let Place { line, column } = end;
-    write!(out, "{line}:{column}").expect(rt, "memory");
 }
 
 /// A fault as the tables have it.

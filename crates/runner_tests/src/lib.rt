@@ -1,14 +1,11 @@
 //! Tests of runs: where their slices end and how (`slices`), how they go back (`retreats`), and what a runner makes of orders
 //! (`runner`). Nothing here is installed.
 //!
-//! On random programs, `beside` runs slices beside single steps. `begun` has the debuggees that a run begins with; `test_kit`
-//! has the ports of a runner.
+//! `begun` has the debuggees that a run begins with; `test_kit` has the ports of a runner.
 #![tactic(auto)]
 
 #[cfg(test)]
 mod begun;
-#[cfg(test)]
-mod beside;
 #[cfg(test)]
 mod retreats;
 #[cfg(test)]

@@ -25,9 +25,14 @@ impl<'a, R: Abort> Files<'a, R> {
 }
 
 impl<R: Abort> Loader for Files<'_, R> {
+    ghost use Rattle.std.specs.Prelude.{⊤};
     ghost use Rattle.dap_session.specs.Loads.{logged};
 
     ghost loaded = { λ files. logged files.log };
+
+    ghost Origin = { ⊤ };
+
+    ghost origin = { λ _. tt };
 
     fn load(&mut self, path: &str) -> Result<Vec<u8>, LoadFault> {
         let text = match path {

@@ -1,8 +1,7 @@
 //! Slices of a program of the stack language, by `debuggee`.
 
 use anyhow::{Context, Result, anyhow};
-use dap_debug::Language;
-use debuggee::{Breakpoint, Halt, Mode, run as run_slice};
+use debuggee::{Breakpoint, Halt, Language, Mode, run as run_slice};
 use stack_language::Machine;
 use std::alloc::Global;
 use std::str;

@@ -61,9 +61,14 @@ struct Disk<'a, R: Files + AllocGlobal> {
 }
 
 impl<R: Files + AllocGlobal> Loader for Disk<'_, R> {
+    ghost use Rattle.std.specs.Prelude.{⊤};
     ghost use Rattle.dap_session.specs.Loads.{logged};
 
     ghost loaded = { λ disk. logged disk.log };
+
+    ghost Origin = { ⊤ };
+
+    ghost origin = { λ _. tt };
 
     fn load(&mut self, path: &str) -> Result<Vec<u8>, LoadFault> {
         let answer = match fs::read(self.rt, path) {

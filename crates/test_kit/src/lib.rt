@@ -22,6 +22,7 @@ mod runner;
 mod runner_ports;
 mod session;
 mod session_ports;
+mod strict_inbox;
 
 pub use debuggees::{Asked, breakpoints_at, debuggee_of, machine_of, put_in};
 pub use framing::framed;
@@ -29,3 +30,4 @@ pub use runner::Runner;
 pub use runner_ports::{Last, OneRun, Open, Tray};
 pub use session::{Outcome, Room, run_session};
 pub use session_ports::{Events, Files, Noted, Shared};
+pub use strict_inbox::{StrictInbox, drive_strictly};

@@ -56,7 +56,7 @@ impl<E: Events> Incoming<E> {
     }
 }
 
-impl<E: Events> Inbox for Incoming<E> {
+impl<L, O, D, E: Events> Inbox<L, O, D> for Incoming<E> {
     ghost use Rattle.std.specs.Prelude.{map, ⊤};
     ghost use Rattle.dap_session.specs.Incoming.{incoming_of};
 
@@ -66,7 +66,7 @@ impl<E: Events> Inbox for Incoming<E> {
 
     ghost origin = { λ _. tt };
 
-    fn next(&mut self) -> Event {
+    fn next(&mut self, _loader: &L, _out: &O, _orders: &D) -> Event {
         let event = self.events.next_event();
         self.given = self.given.and(&event);
         event
@@ -252,9 +252,14 @@ impl<'a> Files<'a> {
 }
 
 impl Loader for Files<'_> {
+    ghost use Rattle.std.specs.Prelude.{⊤};
     ghost use Rattle.dap_session.specs.Loads.{logged};
 
     ghost loaded = { λ files. logged files.log };
+
+    ghost Origin = { ⊤ };
+
+    ghost origin = { λ _. tt };
 
     fn load(&mut self, path: &str) -> Result<Vec<u8>, LoadFault> {
         let answer = match self.at(path) {
