@@ -1,30 +1,9 @@
-#!/usr/bin/env python3
-"""Stands between an editor and a debug adapter, and puts into words what CodeLite and Kate would show as a code.
-
-usage: listen.py PORT PROGRAM [ARGUMENT..]
-
-CodeLite 17 starts this as its `dap` server, and connects to PORT of this computer: one connection is taken. Where PORT
-is `-`, as for Kate, it is standard input and output. The adapter PROGRAM gets what comes, and what it writes goes back,
-nothing is left out, and the order is kept. This is passed on otherwise than it came:
-
-- A launch that is refused for a mistake in the text says what `pl0 check` says of it, if that can be started, also on
-  standard error. After a launch of a text of which it warns, one more output says the warnings.
-- A breakpoint that is refused is told by one more output, with the reason in words.
-- A stop at a fault has a `description`: its name in words.
-- Each breakpoint of an answer gets an `id` and its `source`: CodeLite drops those from its list that have none.
-- The hit condition `<=1` of Kate's Run To Cursor is taken away.
-- Outputs that wait are joined, up to 64, and after each stands a rest: an editor gets at most 20 of them a second, and
-  the adapter waits meanwhile. CodeLite takes no click before it has shown all that it was sent.
-
-With a PORT, moreover:
-
-- CodeLite says in `initialize` that it counts lines and columns from 0, but counts them from 1: both members become
-  true.
-- Before a first stop CodeLite pauses thread -1: that becomes 1, the one thread there is.
-- Where CodeLite launches a folder, as it does for a path that was just typed, the refusal says what to do.
-- A fault is also told by an output: CodeLite doesn't show it.
-
-The end of either side is passed on to the other. SIGTERM, by which Kate ends it, ends it with status 0.
+#!/bin/sh
+""":"  # To Python this is a text. The shell takes these lines: without Python the adapter serves the editor alone.
+command -v python3 > /dev/null && exec python3 "$0" "$@"
+[ "$1" = - ] && shift && exec "$@"
+echo "pl0dap-listen needs Python" >&2
+exit 7
 """
 from __future__ import annotations
 
@@ -44,15 +23,51 @@ import time
 from collections.abc import Callable, Iterable, Iterator
 from typing import BinaryIO, NamedTuple
 
-LENGTH = re.compile(rb"^Content-Length: ([0-9]+)\r$", re.MULTILINE)
+HELP = """Stands between an editor and a debug adapter, puts codes into words, and lets an editor take breath.
+
+usage: pl0dap-listen - PROGRAM [ARGUMENT..]
+       pl0dap-listen PORT PROGRAM [ARGUMENT..]
+
+The editor is at standard input and output; or, as CodeLite 17 wants it, it connects to PORT of this computer: the first
+connection of the user's own is taken. The adapter PROGRAM gets what comes, and what it writes goes back, nothing is
+left out, and the order is kept. This is passed on otherwise than it came:
+
+- A launch that is refused for a mistake in the text says what `pl0 check` says of it, if that can be started, also on
+  standard error. After a launch of a text of which it warns, one more output says the warnings.
+- Why a breakpoint or an expression is refused is in words, of a breakpoint also in one more output.
+- A stop at a fault has a `description`: its name in words.
+- Each breakpoint of an answer gets an `id` and its `source`: CodeLite drops those from its list that have none.
+- The hit condition `<=1` of Kate's Run To Cursor is taken away.
+- The paths of the program and of breakpoints are made whole, by the launch's `cwd` or by the folder of this process,
+  and steps `/./` are taken out.
+- Outputs that wait are joined, up to 128 KiB, those of several categories to one of `stdout`. After each stands a rest:
+  an editor gets at most 20 of them a second, and the adapter waits meanwhile. CodeLite takes no click before it has
+  shown all that it was sent.
+
+With a PORT, moreover:
+
+- CodeLite says in `initialize` that it counts lines and columns from 0, but counts them from 1: both members become
+  true.
+- Before a first stop CodeLite pauses thread -1: that becomes 1, the one thread there is.
+- Where CodeLite launches a folder, as it does for a path that was just typed, the refusal says what to do.
+- A fault is also told by an output: CodeLite doesn't show it.
+
+The end of either side is passed on to the other. SIGTERM, by which Kate ends it, ends it with status 0. Without Python
+the adapter serves the editor alone."""
+# What is longer, or is no header, is passed on as it came: the adapter refuses it.
+LENGTH = re.compile(rb"^Content-Length: ([0-9]{1,7})\r$", re.MULTILINE)
+END, MOST_HEADER, MOST_CONTENT = b"\r\n\r\n", 4096, 1_048_576
 FROM_ONE = {"linesStartAt1": True, "columnsStartAt1": True}
 ANY_THREAD, THE_THREAD = -1, 1
 CHECKER, CHECKING = "pl0", 10  # the program, and the seconds that it gets
 IS_RIGHT, HAS_MISTAKE = 0, 2  # its status
 STANDARD = "-"
 WRONG_USAGE, NO_PORT, NO_ADAPTER = 4, 5, 6
-# How many frames wait at most, so that as many outputs are joined, and the rest after an output, in seconds.
-WAITING, REST = 64, 0.05
+# How many frames wait at most, up to how many bytes of them are joined, and the rest after an output, in seconds.
+WAITING, JOINED, REST = 1024, 131_072, 0.05
+MIXED = "stdout"  # the category of outputs of several
+# The system's tables of connections, and how each writes the address 127.0.0.1.
+CONNECTIONS = {"/proc/net/tcp": "0100007F", "/proc/net/tcp6": "0000000000000000FFFF00000100007F"}
 TO_CURSOR = "<=1"
 IS_FOLDER = "this is a folder: choose Quick Debug again, and OK without typing the path anew"
 REFUSALS = {
@@ -62,6 +77,7 @@ REFUSALS = {
     "badHitCondition": "its hit condition is neither like 3, from the third time on, nor like %3, each third time",
     "badLogMessage":
         "an expression in its message can't be used: each stands in braces, and each name has to be known there",
+    "badExpression": "this is no expression, or a name isn't known there; conditions can't be computed",
 }
 FAULTS = {
     "overflow": "a result does not fit into 64 bits",
@@ -114,7 +130,7 @@ class Session:
 
     def __init__(self, is_codelite: bool) -> None:
         self.is_codelite = is_codelite
-        self.program = ""
+        self.program, self.folder = "", os.getcwd()
         self.asked: dict[int, dict] = {}  # the arguments of each request `setBreakpoints` that isn't answered yet
         self.numbers = itertools.count(1)
 
@@ -124,23 +140,32 @@ class Session:
         command, arguments = request.get("command"), request.get("arguments")
         if not isinstance(arguments, dict):
             return [content]
-        if command == "launch":
-            self.program = str(arguments.get("program"))
+        given = json.dumps(arguments)
         if command == "setBreakpoints" and isinstance(request.get("seq"), int):
-            self.asked[request["seq"]] = arguments
-        is_changed = self.for_codelite(command, arguments) if self.is_codelite else False
-        return [written(request) if without_cursor(arguments) or is_changed else content]
+            self.asked[request["seq"]] = json.loads(given)
+        self.with_whole_paths(command, arguments)
+        without_cursor(arguments)
+        if self.is_codelite:
+            self.for_codelite(command, arguments)
+        return [content if json.dumps(arguments) == given else written(request)]
+
+    def with_whole_paths(self, command: object, arguments: dict) -> None:
+        """Makes the path of a launch or of breakpoints whole."""
+        if command == "launch":
+            self.folder = os.path.join(self.folder, text_at(arguments, "cwd"))
+        named, member = (arguments, "program") if command == "launch" else (arguments.get("source"), "path")
+        if isinstance(named, dict) and (path := text_at(named, member)):
+            named[member] = re.sub("/([.]/)+", "/", os.path.join(self.folder, path))
+        if command == "launch":
+            self.program = text_at(arguments, "program")
 
     @staticmethod
-    def for_codelite(command: object, arguments: dict) -> bool:
-        """Whether something in these arguments had to be put right."""
+    def for_codelite(command: object, arguments: dict) -> None:
+        """Puts right what CodeLite has wrong in these arguments."""
         if command == "initialize":
             arguments.update(FROM_ONE)
-            return True
-        if arguments.get("threadId") == ANY_THREAD:
+        elif arguments.get("threadId") == ANY_THREAD:
             arguments["threadId"] = THE_THREAD
-            return True
-        return False
 
     def to_editor(self, content: bytes) -> list[bytes]:
         """A content of the adapter's as the editor gets it, and what is told after it."""
@@ -150,6 +175,8 @@ class Session:
             change = self.with_words
         elif b'"event":"stopped"' in content and b'"reason":"exception"' in content:
             change = self.with_fault
+        elif b'"message":"badExpression"' in content:
+            change = self.with_reason
         else:
             return [content]
         message = read_object(content)
@@ -162,14 +189,21 @@ class Session:
         found = answer.get("body", {}).get("breakpoints", [])
         for one in found:
             one.update(id=next(self.numbers), source=asked.get("source"))
-        refused = [(wanted.get("line"), one["message"]) for wanted, one in zip(asked.get("breakpoints") or (), found)
-                   if "message" in one]
-        return [f"The breakpoint at line {line} stops nothing: {REFUSALS.get(code, code)}\n" for line, code in refused]
+            self.with_reason(one)
+        return [f"The breakpoint at line {wanted.get('line')} stops nothing: {one['message']}\n"
+                for wanted, one in zip(asked.get("breakpoints") or (), found) if "message" in one]
+
+    @staticmethod
+    def with_reason(refused: dict) -> list[str]:
+        """Says a reason for a refusal in words."""
+        if message := refused.get("message"):
+            refused["message"] = REFUSALS.get(message, message)
+        return []
 
     def with_words(self, answer: dict) -> list[str]:
         """Lets the refusal of a launch say what is wrong in words, and prints it, where the words can be had. Tells the
         warnings where it isn't refused."""
-        if answer["success"]:
+        if answer.get("success") is not False:
             warnings = checked(self.program, IS_RIGHT)
             return [f"{warnings}\n"] if warnings else []
         is_folder = self.is_codelite and os.path.isdir(self.program)
@@ -185,14 +219,17 @@ class Session:
         return [f"fault: {words}\n"] if self.is_codelite else []
 
 
-def without_cursor(arguments: dict) -> bool:
-    """Whether hit conditions of Run To Cursor stood in these arguments, which are taken away."""
+def without_cursor(arguments: dict) -> None:
+    """Takes away the hit conditions of Run To Cursor."""
     listed = arguments.get("breakpoints")
-    found = [one for one in (listed if isinstance(listed, list) else ())
-             if isinstance(one, dict) and one.get("hitCondition") == TO_CURSOR]
-    for one in found:
-        del one["hitCondition"]
-    return bool(found)
+    for one in listed if isinstance(listed, list) else ():
+        if isinstance(one, dict) and one.get("hitCondition") == TO_CURSOR:
+            del one["hitCondition"]
+
+
+def text_at(members: dict, name: str) -> str:
+    """The text of a member; an empty one where it is none."""
+    return found if isinstance(found := members.get(name), str) else ""
 
 
 def output_of(text: str) -> bytes:
@@ -202,45 +239,49 @@ def output_of(text: str) -> bytes:
 
 def frames(stream: BinaryIO) -> Iterator[Frame]:
     """What comes, frame by frame."""
-    while line := stream.readline():
-        header = line
-        while line and not header.endswith(b"\r\n\r\n"):
-            line = stream.readline()
+    while header := stream.readline(MOST_HEADER):
+        while not header.endswith(END) and len(header) < MOST_HEADER and (line := stream.readline(MOST_HEADER)):
             header += line
-        length = LENGTH.search(header)
-        content = stream.read(int(length[1])) if length else b""
-        is_whole = length is not None and len(content) == int(length[1])
-        yield Frame(header + content, content if is_whole else None)
+        found = LENGTH.search(header) if header.endswith(END) else None
+        length = int(found[1]) if found else MOST_CONTENT + 1
+        content = stream.read(length) if length <= MOST_CONTENT else b""
+        yield Frame(header + content, content if len(content) == length else None)
 
 
-def category(frame: Frame) -> str | None:
-    """The category of a frame that is an output; None of any other."""
+def is_output(frame: Frame) -> bool:
     message = read_object(frame.content) if frame.content and b'"event":"output"' in frame.content else {}
     body = message.get("body")
-    is_output = message.get("event") == "output" and isinstance(body, dict) and isinstance(body.get("output"), str)
-    return body.get("category", "") if is_output else None
+    return message.get("event") == "output" and isinstance(body, dict) and isinstance(body.get("output"), str)
 
 
 def one_output(outputs: list[Frame]) -> Frame:
-    """Outputs of one category as one, with the number of the last."""
+    """Outputs as one, with the number of the last."""
     if len(outputs) == 1:
         return outputs[0]
     messages = [read_object(frame.content) for frame in outputs]
     whole = messages[-1]
     whole["body"]["output"] = "".join(message["body"]["output"] for message in messages)
+    if len({message["body"].get("category") for message in messages}) > 1:
+        whole["body"]["category"] = MIXED
     content = written(whole)
     return Frame(framed(content), content)
+
+
+def together(waiting: queue.Queue[Frame | None]) -> list[Frame | None]:
+    """What waits in a queue, or comes next where nothing does; no more after None, and after so many bytes."""
+    some, size = [waiting.get()], 0
+    while some[-1] and (size := size + len(some[-1].whole)) < JOINED and not waiting.empty():
+        some.append(waiting.get())
+    return some
 
 
 def joined(waiting: queue.Queue[Frame | None]) -> Iterator[Frame]:
     """What comes through a queue up to None, where outputs that wait together are one, with a rest after it."""
     some: list[Frame | None] = []
     while None not in some:
-        some = [waiting.get()]
-        while len(some) < WAITING and not waiting.empty():
-            some.append(waiting.get())
-        for kind, group in itertools.groupby((frame for frame in some if frame), category):
-            if kind is None:
+        some = together(waiting)
+        for are_outputs, group in itertools.groupby(filter(None, some), is_output):
+            if not are_outputs:
                 yield from group
             else:
                 yield one_output(list(group))
@@ -289,12 +330,35 @@ def serve(editor: BinaryIO, output: BinaryIO, session: Session, command: list[st
     return adapter.wait()
 
 
+def is_own(connection: socket.socket) -> bool:
+    """Whether the system says that who has connected is the user whose process this is."""
+    ports = [f":{name[1]:04X}" for name in (connection.getpeername(), connection.getsockname())]
+    for table, host in CONNECTIONS.items():
+        with contextlib.suppress(OSError), open(table, encoding="ascii") as lines:
+            for words in map(str.split, lines):
+                if words[1:3] == [host + port for port in ports]:
+                    return int(words[7]) == os.getuid()
+    return False
+
+
+def own_connection(server: socket.socket) -> socket.socket:
+    """The first connection of the user's own; those of others are closed."""
+    while True:
+        connection, _ = server.accept()
+        with contextlib.suppress(OSError):  # it has been left
+            if is_own(connection):
+                return connection
+        connection.close()
+
+
 def main() -> int:
     if len(sys.argv) < 3 or not (sys.argv[1] == STANDARD or sys.argv[1].isdecimal()):
-        print(__doc__, file=sys.stderr)
+        print(HELP, file=sys.stderr)
         return WRONG_USAGE
     signal.signal(signal.SIGTERM, lambda *_: os._exit(0))
     if sys.argv[1] == STANDARD:
+        for stream in (sys.stdin, sys.stdout):
+            os.set_blocking(stream.fileno(), True)
         return serve(sys.stdin.buffer, sys.stdout.buffer, Session(is_codelite=False), sys.argv[2:])
     try:
         server = socket.create_server(("127.0.0.1", int(sys.argv[1])))
@@ -303,7 +367,7 @@ def main() -> int:
               file=sys.stderr)
         return NO_PORT
     with server:
-        connection, _ = server.accept()
+        connection = own_connection(server)
     return serve(connection.makefile("rb"), connection.makefile("wb"), Session(is_codelite=True), sys.argv[2:])
 
 

@@ -24,6 +24,7 @@ from screen import NEEDED
 DRIVE = os.path.dirname(os.path.realpath(__file__))
 TOP = os.path.realpath(os.path.join(DRIVE, "..", ".."))
 RECORDINGS = os.path.join(TOP, "docs", "editors")
+RECORD = os.path.join(TOP, "tools", "record.py")
 LISTEN = [sys.executable, os.path.join(TOP, "editors", "listen.py"), "-"]
 PROGRAMS = (("examples", "factorial.pl0"), ("crates", "check_runs", "data", "mistake.pl0"))
 OUT = os.path.join(TOP, "out")
@@ -46,6 +47,7 @@ ENDINGS = {
     "codelite_endless.txt": BY_PAUSE, "codelite_writes.txt": BY_PAUSE, "kate_mistake.txt": '"output":"2\\n"',
     "kate_endless.txt": BY_DISCONNECT, "kate_words.txt": BY_DISCONNECT, "kate_writes.txt": BY_DISCONNECT,
 }
+KEYS = "emacs_keys_writes.txt"
 HAS_DAP_MODE = "(progn (require 'package) (package-initialize) (require 'dap-ui))"
 
 
@@ -79,7 +81,7 @@ def proxy(name: str, *program: str) -> list[str]:
     os.makedirs(os.path.dirname(place), exist_ok=True)
     if os.path.exists(place):
         os.remove(place)
-    return [sys.executable, os.path.join(DRIVE, "proxy.py"), "--folder", TOP, place, *program]
+    return [sys.executable, RECORD, "--folder", TOP, place, *program]
 
 
 def missing_for_emacs() -> list[str]:
@@ -112,9 +114,16 @@ def transcript(editor: str, session: str) -> str:
 
 
 def drive_emacs(session: str, program: str) -> bool:
+    """Lets Emacs debug; but for another adapter than PL/0's listen.py stands in front of the proxy."""
     driver, name = os.path.join(DRIVE, "emacs.el"), transcript("emacs", session)
-    status = subprocess.run(["emacs", "--batch", "--load", driver, "--", session, *proxy(name, program)]).returncode
+    words = [*LISTEN * (session != "own"), *proxy(name, program)]
+    status = subprocess.run(["emacs", "--batch", "--load", driver, "--", session, *words]).returncode
     return status == 0 and has_ended(name)
+
+
+def type_keys(_session: str, program: str) -> bool:
+    words = [sys.executable, os.path.join(DRIVE, "keys.py"), place_of(KEYS), *LISTEN, *proxy(KEYS, program)]
+    return subprocess.run(words).returncode == 0
 
 
 def drive_kate(session: str, program: str) -> bool:
@@ -149,6 +158,7 @@ def drive_all(program: str, from_zero: str, stack: str) -> tuple[bool, bool]:
     emacs, display, pl0 = missing_for_emacs(), missing(*NEEDED), missing("pl0")
     for editor, lacks, sessions, drive, started in (
         ("Emacs", emacs, ("factorial", "back", "fault", "endless", "refused"), drive_emacs, program),
+        ("Emacs, by keys", emacs + missing("tmux"), ("keys",), type_keys, program),
         ("Emacs with an adapter of one's own", emacs, ("own",), drive_emacs, stack),
         ("Emacs at a mistake", emacs + pl0, ("mistake",), drive_emacs, program),
         ("Emacs in a terminal", emacs + missing("xterm") + display, ("picture",), take_picture, program),

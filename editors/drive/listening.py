@@ -41,17 +41,19 @@ from soak import MOST_MEMORY as MEMORY  # noqa: E402
 LIMIT = 60.0  # seconds for each message, and for the end
 RUNNING, SOON = 2.0, 20.0  # for which a program writes before a pause; up to the stop, and for what is left to end
 MOST_MEMORY = 64 * 1024  # of listen.py, in KiB
-PACED = 10  # outputs
+PACED = 10  # outputs, each of which is as large as what is joined
 FOLLOW = "--follow"
 # Sessions between an editor and the adapter, with nothing in between.
 SESSIONS = sorted(place for pattern in (("docs", "editors", "emacs*.txt"), ("docs", "editors", "codelite*.txt"),
                                         ("editors", "drive", "*.txt")) for place in glob.glob(os.path.join(TOP, *pattern)))
+ANY = "any"  # category
 PROGRAM = os.path.join(TOP, "examples", "factorial.pl0")
 MISTAKE = os.path.join(TOP, "crates", "check_runs", "data", "mistake.pl0")
 WRITES = "var n; while 0 = 0 do begin n := n + 1; ! n end."
 WORDS = "FILE:2:9: error: words"
 WARNING = "FILE:1:13: warning: words"
 CHECKER = f"#!/bin/sh\ncase $2 in {MISTAKE}) echo '{WORDS}' >&2; exit 2;; esac\necho '{WARNING}' >&2\n"
+CODES = {words: code for code, words in listen.REFUSALS.items()}
 SOURCE = {"path": PROGRAM, "name": "factorial.pl0"}
 # What is sent, and its arguments before and after; first as only CodeLite needs it.
 FOR_CODELITE = (
@@ -64,6 +66,11 @@ FOR_CODELITE = (
 FOR_ALL = (
     ("setBreakpoints", {"breakpoints": [{"line": 3, "hitCondition": "<=1"}, {"line": 4, "hitCondition": "3"}, 5]},
      {"breakpoints": [{"line": 3}, {"line": 4, "hitCondition": "3"}, 5]}),
+    ("setBreakpoints", {"source": {"path": "/a/././b/./.c"}}, {"source": {"path": "/a/b/.c"}}),
+    ("launch", {"program": "./a.pl0", "cwd": "/b/./c"}, {"program": "/b/c/a.pl0", "cwd": "/b/./c"}),
+    ("setBreakpoints", {"source": {"path": "a.pl0"}}, {"source": {"path": os.path.join(os.getcwd(), "a.pl0")}}),
+    ("launch", {"program": "a.pl0", "cwd": ""}, {"program": os.path.join(os.getcwd(), "a.pl0"), "cwd": ""}),
+    ("launch", {"program": "/a/../b.pl0", "cwd": "/c"}, {"program": "/a/../b.pl0", "cwd": "/c"}),
 )
 # What is passed on as it is, to the adapter and from it.
 KEPT = (
@@ -72,6 +79,7 @@ KEPT = (
     b'{"seq":1,"command":"initialize","arguments":null}', b'{"arguments":{"expression":"-1"},"command":"evaluate"}',
     b"[-1]", b"-1", b'"threadId"', b"", b'{"threadId":-1', b"\xff\xfe",
     b"[" * 100000, b'{"seq":[],"command":"setBreakpoints","arguments":{"breakpoints":[]}}',
+    b'{"seq":1,"command":"launch","arguments":{"program":""}}', b'{"command":"launch","arguments":{"program":7}}',
 )
 FROM_ADAPTER = (
     b'{"body":{"category":"stdout","output":"1\\n"},"event":"output","seq":9,"type":"event"}',
@@ -176,8 +184,8 @@ def different(what: str, wanted: object, found: object) -> Iterator[str]:
 def wrong_changes() -> Iterator[str]:
     """Where messages are changed otherwise than is said."""
     for is_codelite in (True, False):
-        session = listen.Session(is_codelite)
         for command, given, wanted in FOR_CODELITE + FOR_ALL:
+            session = listen.Session(is_codelite)
             if not is_codelite and (command, given, wanted) in FOR_CODELITE:
                 wanted = given
             found = [json.loads(one) for one in session.to_adapter(request(1, command, given))]
@@ -186,11 +194,9 @@ def wrong_changes() -> Iterator[str]:
             yield from different("to the adapter", [content], session.to_adapter(content))
         for content in KEPT + FROM_ADAPTER:
             yield from different("to the editor", [content], session.to_editor(content))
-    with open(os.path.join(EDITORS, "emacs", "pl0-dap.el"), encoding="utf-8") as file:
-        emacs = file.read()
-    for sentence in listen.REFUSALS.values():
-        if sentence.replace("`=`", "`='") not in emacs:
-            yield f"Emacs doesn't say: {sentence}"
+        found = session.to_editor(b'{"command":"evaluate","message":"badExpression","success":false}')
+        yield from different("an expression that is refused", [listen.REFUSALS["badExpression"]],
+                             [json.loads(one)["message"] for one in found])
 
 
 def wrong_streams(is_codelite: bool) -> Iterator[str]:
@@ -213,16 +219,20 @@ def wrong_streams(is_codelite: bool) -> Iterator[str]:
 
 
 def wrong_pace() -> Iterator[str]:
-    """Where outputs that can't be joined follow each other too fast."""
-    waiting: queue.Queue[listen.Frame | None] = queue.Queue()
-    for turn in range(PACED):
-        body = {"category": ("stdout", "console")[turn % 2], "output": f"{turn}\n"}
-        content = listen.written({"body": body, "event": "output", "seq": turn + 1, "type": "event"})
-        waiting.put(listen.Frame(frame(content), content))
-    waiting.put(None)
-    begin = time.monotonic()
-    yield from different("outputs of two categories in turn", PACED, len(list(listen.joined(waiting))))
-    yield from different("at most 20 outputs a second", True, time.monotonic() - begin >= PACED / 20)
+    """Where outputs aren't joined up to their size, those of two categories to one, or follow each other too fast."""
+    for text, joined in (("x" * listen.JOINED, PACED), ("x\n", 1)):
+        waiting: queue.Queue[listen.Frame | None] = queue.Queue()
+        for turn in range(PACED):
+            body = {"category": ("console", "stdout")[turn % 2], "output": text}
+            content = listen.written({"body": body, "event": "output", "seq": turn + 1, "type": "event"})
+            waiting.put(listen.Frame(frame(content), content))
+        waiting.put(None)
+        begin = time.monotonic()
+        found = [json.loads(one.content) for one in listen.joined(waiting)]
+        yield from different("outputs, joined", (joined, PACED, "stdout"),
+                             (len(found), found[-1]["seq"], found[-1]["body"]["category"]))
+        yield from different("their text", True, "".join(one["body"]["output"] for one in found) == text * PACED)
+        yield from different("at most 20 outputs a second", True, time.monotonic() - begin >= joined / 20)
 
 
 def follow(session: str, got: str) -> None:
@@ -263,21 +273,28 @@ def as_sent(content: bytes) -> dict:
     if name_of(message) == "setBreakpoints":
         for one in body.get("breakpoints", ()):
             del one["id"], one["source"]
+            if "message" in one:
+                one["message"] = CODES[one["message"]]
+    if message.get("message") in CODES:
+        message["message"] = CODES[message["message"]]
     if body.get("reason") == "exception":
         del body["description"]
     return message
 
 
 def merged(messages: Iterable[bytes]) -> list[bytes]:
-    """Messages, where outputs of one category that stand together are one, with the number of the last."""
+    """Messages, where outputs that stand together are one, with the number of the last."""
     found: list[bytes] = []
     for content in messages:
         message, last = json.loads(content), json.loads(found[-1]) if found else {}
-        if name_of(message) == name_of(last) == "output" and message["body"]["category"] == last["body"]["category"]:
-            message["body"]["output"] = last["body"]["output"] + message["body"]["output"]
-            found[-1] = json.dumps(message, separators=(",", ":")).encode()
-        else:
+        if name_of(message) != "output":
             found.append(content)
+            continue
+        message["body"]["category"] = ANY
+        if name_of(last) == "output":
+            message["body"]["output"] = last["body"]["output"] + message["body"]["output"]
+            found.pop()
+        found.append(json.dumps(message, separators=(",", ":")).encode())
     return found
 
 
@@ -338,7 +355,7 @@ def wrong_session(program: str, is_codelite: bool) -> Iterator[str]:
     session.send("setBreakpoints", source=SOURCE,
                  breakpoints=[{"line": 1}, {"line": 9, "condition": "k == 8"}, {"line": 18, "hitCondition": "<=1"}])
     found = [session.receive() for _ in range(4)][-1]["body"]["breakpoints"]
-    wanted = [{"line": 5, "verified": True}, {"message": "badCondition", "verified": False},
+    wanted = [{"line": 5, "verified": True}, {"message": listen.REFUSALS["badCondition"], "verified": False},
               {"line": 18, "verified": True}]
     yield from different("breakpoints", [{**one, "id": at, "source": SOURCE} for at, one in enumerate(wanted, 1)],
                          found)

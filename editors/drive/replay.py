@@ -3,10 +3,10 @@
 
 usage: replay.py SESSION.. -- PROGRAM [ARGUMENT..]
 
-A SESSION is a transcript as proxy.py writes it, or one written by hand. Each `->` line is sent when all that stands
-before it has come; each `<-` line has to come as it stands there. ${folder} is the repository's folder. After a remark
-that begins with `# indented` contents are sent in several lines, as Qt writes them. Where a session ends without a
-`disconnect`, the input is closed. Ends with status 1 where something differs.
+A SESSION is a transcript as tools/record.py writes it, or one written by hand. Each `->` line is sent when all that
+stands before it has come; each `<-` line has to come as it stands there. ${folder} is the repository's folder. After a
+remark that begins with `# indented` contents are sent in several lines, as Qt writes them. Where a session ends without
+a `disconnect`, the input is closed. Ends with status 1 where something differs.
 """
 from __future__ import annotations
 

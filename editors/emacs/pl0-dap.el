@@ -14,8 +14,8 @@
 
 (defgroup pl0 nil "PL/0 programs." :group 'languages)
 
-(defcustom pl0-dap-command '("pl0dap")
-  "The adapter and its arguments."
+(defcustom pl0-dap-command '("pl0dap-listen" "-" "pl0dap")
+  "The adapter and its arguments, behind the program that puts it into words and joins what a program writes without end."
   :type '(repeat string))
 
 (defcustom pl0-command "pl0"
@@ -38,7 +38,43 @@
   (setq-local imenu-generic-expression '((nil "\\<procedure\\s-+\\([[:alpha:]][[:alnum:]]*\\)" 1)))
   (setq-local tab-width 2)
   (setq-local indent-tabs-mode nil)
-  (display-line-numbers-mode 1))
+  (display-line-numbers-mode 1)
+  (when (executable-find pl0-command)
+    (add-hook 'flymake-diagnostic-functions #'pl0-flymake nil t)
+    (flymake-mode 1)))
+
+;; As one types, `pl0 check -' looks at the text, and what it says is marked.
+(defvar-local pl0-flymake-process nil "The last check of the text of this buffer.")
+
+(defun pl0-flymake-told (source)
+  "The diagnostics of SOURCE that the current buffer tells."
+  (let (told)
+    (goto-char (point-min))
+    (while (re-search-forward "^-:\\([0-9]+\\):\\([0-9]+\\): \\(error\\|warning\\): \\(.*\\)$" nil t)
+      (pcase-let* ((`(,line ,column ,kind ,words) (mapcar #'match-string '(1 2 3 4)))
+                   (`(,begin . ,end) (flymake-diag-region source (string-to-number line) (string-to-number column))))
+        (push (flymake-make-diagnostic source begin end (if (equal kind "error") :error :warning) words) told)))
+    told))
+
+(defun pl0-flymake-end (source report)
+  "A sentinel that has REPORT told what a check says of SOURCE, if it is the last one."
+  (lambda (process _event)
+    (unless (process-live-p process)
+      (when (and (buffer-live-p source) (eq process (buffer-local-value 'pl0-flymake-process source)))
+        (funcall report (with-current-buffer (process-buffer process) (pl0-flymake-told source))))
+      (kill-buffer (process-buffer process)))))
+
+(defun pl0-flymake (report &rest _)
+  "Have REPORT told what `pl0 check -' says of the current buffer."
+  (let ((process (make-process :name "pl0-flymake" :noquery t :connection-type 'pipe
+                               :buffer (generate-new-buffer " *pl0-flymake*")
+                               :command (list pl0-command "check" "-")
+                               :sentinel (pl0-flymake-end (current-buffer) report))))
+    (setq pl0-flymake-process process)
+    (save-restriction
+      (widen)
+      (process-send-region process (point-min) (point-max))
+      (process-send-eof process))))
 
 ;;;###autoload
 (add-to-list 'auto-mode-alist '("\\.pl0\\'" . pl0-mode))
@@ -123,17 +159,52 @@ The program is the current buffer's file.  A text with a mistake is an error."
   "Whether SESSION is with this adapter."
   (equal "pl0" (plist-get (dap--debug-session-launch-args session) :type)))
 
-;; At each stop all commands are shown under one letter each, until `q' or the program's end.
+;; While a program is debugged all commands are under a letter or two each, until `q' or the program's end.
+(defhydra pl0-dap-keys (:color pink :hint nil :foreign-keys run :inherit (dap-hydra/heads))
+  "
+_n_ next  _i_ in  _o_ out  _c_ continue  _p_ pause   _B_ step back  _C_ continue back   _ee_ evaluate  _sl_ variables  _sS_ frames
+_bb_ breakpoint  _bc_ condition  _bh_ hit condition  _bl_ log message   _Q_ end the session
+"
+  ("p" pl0-dap-pause)
+  ("B" pl0-dap-step-back)
+  ("C" pl0-dap-reverse-continue))
+
 (defun pl0-dap-show-keys (session)
-  "Show the keys of `dap-hydra' where SESSION is with this adapter and somebody looks."
+  "Show the keys where SESSION is with this adapter and somebody looks."
   (when (and (pl0-dap-session-p session) (not noninteractive))
-    (call-interactively #'dap-hydra)))
+    (pl0-dap-keys/body)))
+
+(defun pl0-dap-show-keys-at-start (session event)
+  "Show the keys where EVENT of SESSION is the one after a launch."
+  (when (equal "initialized" (gethash "event" event))
+    (pl0-dap-show-keys session)))
 
 (defun pl0-dap-leave-keys (session)
-  "Leave the keys of `dap-hydra' where SESSION is with this adapter."
+  "Leave the keys where SESSION is with this adapter."
   (when (and (pl0-dap-session-p session) (not noninteractive))
     (hydra-keyboard-quit)))
 
+;; The letters that are typed into a minibuffer, as behind `M-x', are no keys: they are left until it has been read.
+(defvar pl0-dap-typing nil "Whether the keys were left for a minibuffer.")
+
+(defun pl0-dap-leave-keys-to-type ()
+  "Leave the keys while a minibuffer reads."
+  (when (and hydra-curr-map (eq hydra-curr-map pl0-dap-keys/keymap) overriding-terminal-local-map)
+    (setq pl0-dap-typing t)
+    (hydra-keyboard-quit)))
+
+(defun pl0-dap-show-keys-again ()
+  "Show the keys that were left for a minibuffer, once it has been read."
+  (when pl0-dap-typing
+    (setq pl0-dap-typing nil)
+    (run-with-timer 0 nil (lambda ()
+                            (let ((session (dap--cur-session)))
+                              (when (dap--session-running session)
+                                (pl0-dap-show-keys session)))))))
+
+(add-hook 'minibuffer-setup-hook #'pl0-dap-leave-keys-to-type)
+(add-hook 'minibuffer-exit-hook #'pl0-dap-show-keys-again)
+(advice-add 'dap--on-event :after #'pl0-dap-show-keys-at-start)
 (add-hook 'dap-stopped-hook #'pl0-dap-show-keys)
 (add-hook 'dap-terminated-hook #'pl0-dap-leave-keys)
 
@@ -158,22 +229,13 @@ The program is the current buffer's file.  A text with a mistake is an error."
   (dap--step "reverseContinue" session))
 
 ;; dap-mode says nothing of a breakpoint that was refused.
-(defconst pl0-dap-refusals
-  '(("otherSource" . "its file isn't the one that is debugged")
-    ("noStep" . "no step stands at its line or after it")
-    ("badCondition" . "its condition can't be used: `=' compares, as in k = 8, and each name has to be known there")
-    ("badHitCondition" . "its hit condition is neither like 3, from the third time on, nor like %3, each third time")
-    ("badLogMessage" . "an expression in its message can't be used: each stands in braces, and each name has to be known there"))
-  "What the messages of refused breakpoints mean.")
-
 (defun pl0-dap-refusal (asked answer)
   "Why the breakpoint ASKED in the current buffer was refused, by its ANSWER.
 Nil where it was set."
   (unless (gethash "verified" answer)
-    (let ((message (gethash "message" answer)))
-      (format "The breakpoint at line %d stops nothing: %s"
-              (line-number-at-pos (dap-breakpoint-get-point asked))
-              (or (cdr (assoc message pl0-dap-refusals)) message)))))
+    (format "The breakpoint at line %d stops nothing: %s"
+            (line-number-at-pos (dap-breakpoint-get-point asked))
+            (gethash "message" answer))))
 
 (defun pl0-dap-show-refusals (session response file-name)
   "Warn of each breakpoint in FILE-NAME that was refused in SESSION by RESPONSE.

@@ -10,6 +10,44 @@ vim.api.nvim_create_autocmd("FileType", {
   command = [[setlocal makeprg=pl0\ check\ %:S errorformat=]] .. vim.fn.escape(places, " "),
 })
 
+-- As one types, `pl0 check -` looks at the text half a second after the last change, and what it says is marked.
+local marks, rest, changes = vim.api.nvim_create_namespace("pl0"), 500, 0
+local fields, kinds = { "lnum", "col", "severity", "message" }, { error = "ERROR", warning = "WARN" }
+
+local function mark(buffer, said)
+  local found = vim.tbl_map(function(line)
+    return vim.diagnostic.match(line, "^%-:(%d+):(%d+): (%a+): (.*)$", fields, kinds)
+  end, said)
+  vim.diagnostic.set(marks, buffer, vim.tbl_filter(function(one) return one ~= nil end, found))
+end
+
+local function check(buffer)
+  local tick = vim.api.nvim_buf_get_changedtick(buffer)
+  local job = vim.fn.jobstart({ "pl0", "check", "-" }, {
+    stderr_buffered = true,
+    on_stderr = function(_, said)
+      if vim.api.nvim_buf_is_valid(buffer) and vim.api.nvim_buf_get_changedtick(buffer) == tick then
+        mark(buffer, said)
+      end
+    end,
+  })
+  vim.fn.chansend(job, vim.api.nvim_buf_get_lines(buffer, 0, -1, true))
+  vim.fn.chanclose(job, "stdin")
+end
+
+vim.api.nvim_create_autocmd({ "BufRead", "TextChanged", "TextChangedI" }, {
+  pattern = "*.pl0",
+  callback = function(event)
+    changes = changes + 1
+    local own = changes
+    vim.defer_fn(function()
+      if own == changes and vim.api.nvim_buf_is_valid(event.buf) and vim.fn.executable("pl0") == 1 then
+        check(event.buf)
+      end
+    end, rest)
+  end,
+})
+
 local is_there, dap = pcall(require, "dap")
 if not is_there then
   return
@@ -34,10 +72,11 @@ local function has_mistake(program)
   return true
 end
 
--- nvim-dap numbers its requests from 0, and pl0dap passes over a request 0. A program with a mistake isn't launched.
+-- nvim-dap numbers its requests from 0, and pl0dap passes over a request 0. pl0dap-listen puts codes into words, and joins what a
+-- program writes without end. A program with a mistake isn't launched.
 dap.adapters.pl0 = function(launch, configuration)
   if not has_mistake(configuration.program) then
-    launch({ type = "executable", command = "pl0dap_from_zero" })
+    launch({ type = "executable", command = "pl0dap-listen", args = { "-", "pl0dap_from_zero" } })
   end
 end
 

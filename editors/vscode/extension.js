@@ -15,35 +15,57 @@ const LAUNCH = { type: "pl0", request: "launch", name: "PL/0", program: "${file}
 const TOLD = /^(?<all>.*:(?<line>\d+):(?<column>\d+): (?<kind>error|warning): (?<words>.*))$/gm;
 const HAS_MISTAKE = 2;
 const CHECKING = { timeout: 10000 }; // in milliseconds
+const REST = 500; // after a change, up to a look at the text
+const TYPED = "-"; // the name of a text that is no file's
 
-/** The path of a program, `pl0` or `pl0dap`, by the settings. */
+/** The path of a program, such as `pl0`, by the settings. */
 const pathOf = (program) => vscode.workspace.getConfiguration("pl0.path").get(program) || program;
 
 let mistakes;
 
-/** What is said of the text of a file, if it can be asked: a mistake, or warnings. */
-function toldOf(file) {
+/** What is said of the text of a file, or of one that was typed, if it can be asked: a mistake, or warnings. */
+function toldOf(file, text = "") {
   return new Promise((resolve) => {
-    execFile(pathOf("pl0"), ["check", file], CHECKING, (error, _output, said) => {
+    const { stdin } = execFile(pathOf("pl0"), ["check", file], CHECKING, (error, _output, said) => {
       const isChecked = !error || error.code === HAS_MISTAKE;
       resolve(isChecked ? Array.from(said.matchAll(TOLD), ({ groups }) => groups) : []);
     });
+    stdin.on("error", () => {}); // it couldn't be started, or has ended
+    stdin.end(text);
   });
 }
 
-/** Marks what is said of the text of a file, and returns the mistake, if there is one. */
-async function check(file) {
-  const told = await toldOf(file);
-  const document = vscode.workspace.textDocuments.find((one) => one.fileName === file);
+/** Marks what was told of a text in place of what was marked, and returns the mistake, if there is one. */
+function mark(uri, told, document) {
   const { Error: error, Warning: warning } = vscode.DiagnosticSeverity;
   const marked = told.map(({ line, column, kind, words }) => {
     const start = new vscode.Position(line - 1, column - 1);
     const range = document?.getWordRangeAtPosition(start) || new vscode.Range(start, start.translate(0, 1));
     return new vscode.Diagnostic(range, words, { error, warning }[kind]);
   });
-  mistakes.set(vscode.Uri.file(file), marked);
+  mistakes.set(uri, marked);
   return told.find(({ kind }) => kind === "error");
 }
+
+/** Marks what is said of the text of a file, and returns the mistake, if there is one. */
+async function check(file) {
+  const document = vscode.workspace.textDocuments.find((one) => one.fileName === file);
+  return mark(vscode.Uri.file(file), await toldOf(file), document);
+}
+
+/** Marks what is said of a text as one types it, soon after the last change. */
+function checkSoon(document) {
+  const { version } = document;
+  setTimeout(async () => {
+    const told = document.version === version ? await toldOf(TYPED, document.getText()) : [];
+    if (document.version === version) {
+      mark(document.uri, told, document);
+    }
+  }, REST);
+}
+
+/** Calls with each document that is a program. */
+const ofPrograms = (call) => (document) => (document.languageId === "pl0" ? call(document) : undefined);
 
 const configurations = {
   /** Adds what a configuration leaves out, which for F5 without a launch.json is all. */
@@ -71,7 +93,7 @@ const configurations = {
 };
 
 const adapters = {
-  createDebugAdapterDescriptor: () => new vscode.DebugAdapterExecutable(pathOf("pl0dap")),
+  createDebugAdapterDescriptor: () => new vscode.DebugAdapterExecutable(pathOf("pl0dap-listen"), ["-", pathOf("pl0dap")]),
 };
 
 function taskOf(definition, scope = vscode.TaskScope.Workspace) {
@@ -101,7 +123,9 @@ function activate(context) {
   mistakes = vscode.languages.createDiagnosticCollection("pl0");
   context.subscriptions.push(
     mistakes,
-    vscode.workspace.onDidSaveTextDocument((document) => (document.languageId === "pl0" ? check(document.fileName) : undefined)),
+    vscode.workspace.onDidOpenTextDocument(ofPrograms(checkSoon)),
+    vscode.workspace.onDidChangeTextDocument(({ document }) => ofPrograms(checkSoon)(document)),
+    vscode.workspace.onDidCloseTextDocument(ofPrograms((document) => mistakes.delete(document.uri))),
     vscode.debug.registerDebugConfigurationProvider("pl0", configurations),
     vscode.debug.registerDebugAdapterDescriptorFactory("pl0", adapters),
     vscode.tasks.registerTaskProvider("pl0", tasks),
