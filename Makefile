@@ -22,7 +22,11 @@ SOAK ?= 0
 
 INSTALLED = $(DESTDIR)$(PREFIX)
 MANUAL = $(INSTALLED)/share/man/man1
-NEEDS_KIT = command -v rt > /dev/null || { echo "rt, the command of the Rattle kit, isn't on the path: README.md, Try it"; exit 1; }
+INSTALLED_PROGRAMS = pl0dap pl0dap_from_zero pl0dap-listen pl0
+INSTALLED_PAGES = pl0dap.1 pl0dap_from_zero.1 pl0.1
+# Whether the kit is there; a word where it is another one than README.md names.
+NEEDS_KIT = command -v rt > /dev/null || { echo "rt, the command of the Rattle kit, isn't on the path: README.md, Try it"; exit 1; }; \
+  grep -qF "$$(rt version)" README.md || echo "This kit is $$(rt version), and README.md names another one"
 
 .PHONY: try test build demo rows hostile soak streams sessions beside editors clients vsix refusals last-position compile-fail check \
   plants gate-times pages threads install uninstall clean bench scripts-of-bench instructions release
@@ -48,6 +52,7 @@ build: $(PROGRAM) $(FROM_ZERO) $(PL0)
 
 # Crates of which none is below another are proved side by side, and the programs built so.
 $(PROVED): $(SOURCES)
+	@$(NEEDS_KIT)
 	@python3 tools/prove.py pl0dap pl0dap_from_zero pl0
 	@mkdir -p $(@D) && touch $@
 
@@ -86,10 +91,14 @@ rows: $(PROGRAM) $(FROM_ZERO) $(PL0) $(STACK)
 	python3 checks/pl0_pages.py $(PL0)
 	python3 checks/stack_pause.py $(STACK)
 
-# Hostile headers, contents, types, numbers, sizes, situations, cuts and ends, with what docs/PROTOCOL.md says of each.
-hostile: $(PROGRAM) $(FROM_ZERO)
+# Hostile headers, contents, types, numbers, sizes, situations, cuts and ends, with what docs/PROTOCOL.md says of each, also behind
+# editors/listen.py; those of frames to the example stack_adapter; and strangers, lengths and floods that come to listen.py.
+hostile: $(PROGRAM) $(FROM_ZERO) $(STACK)
 	python3 checks/hostile.py $(PROGRAM) $(FROM_ZERO)
+	python3 checks/hostile.py --listen $(PROGRAM) $(FROM_ZERO)
+	python3 checks/hostile.py --own $(STACK)
 	python3 checks/nonblocking.py $(PROGRAM) $(FROM_ZERO)
+	python3 checks/listening.py $(PROGRAM)
 
 # 500 sessions with a loop without end, and what is left over of them, again and again for SOAK seconds, and once at least; fewer
 # with the other program; and clients that read, write and leave as they like.
@@ -99,12 +108,17 @@ soak: $(PROGRAM) $(FROM_ZERO)
 	python3 checks/slow_clients.py $(PROGRAM)
 	python3 checks/slow_clients.py $(FROM_ZERO)
 
-# Random streams, cut at each byte; clients that leave at random moments; and sessions and clients while the threads are hindered
-# where they wait for each other.
-streams: $(PROGRAM)
+# Random streams, cut at each byte; clients that leave at random moments; both also behind editors/listen.py; sessions and clients
+# while the threads are hindered where they wait for each other; and all but listen.py with the example stack_adapter.
+streams: $(PROGRAM) $(STACK)
 	python3 checks/cuts.py $(PROGRAM) 60
+	python3 checks/cuts.py --stack $(STACK) 20
+	python3 checks/cuts.py --listen $(PROGRAM) 2
 	python3 checks/leave.py $(PROGRAM) 500
+	python3 checks/leave.py --stack $(STACK) 200
+	python3 checks/leave.py --listen $(PROGRAM) 100
 	python3 checks/hindered.py $(PROGRAM) 5
+	python3 checks/hindered.py --stack $(STACK)
 
 # Random sessions, each message compared with what a plain model of the adapter says; and the same of the example stack_adapter.
 sessions: $(PROGRAM) $(STACK)
@@ -131,6 +145,12 @@ clients: $(PROGRAM) $(FROM_ZERO) $(STACK)
 vsix:
 	python3 editors/vsix.py out/pl0.vsix
 
+# What an adapter of one's own stands on, in the folder TO; or a later version of it, where an earlier one is there.
+TO ?= out/adapter-kit
+.PHONY: adapter-kit
+adapter-kit:
+	@python3 tools/adapter_kit.py "$(TO)"
+
 # The merge gate: proves everything from nothing, and runs everything.
 check:
 	@$(NEEDS_KIT)
@@ -154,11 +174,14 @@ threads:
 
 # Whether the files, headings and functions that the pages name are there, and what the model of the threads names, whether
 # functions and lines are short, whether README.md has the right sizes and pages have few words, whether each lemma is used and
-# isn't the library's, and nothing stands in specs/ that serves proofs alone, and whether each edit can be applied.
-pages:
+# isn't the library's, and nothing stands in specs/ that serves proofs alone, whether each edit can be applied, and whether
+# README's session and the lessons' commands go as the pages have them.
+pages: $(UNPROVED)/pl0dap $(UNPROVED)/pl0
+	python3 checks/played_pages.py $^
 	python3 tools/pages.py
 	python3 tools/sizes.py
 	python3 tools/reading.py
+	python3 tools/cited.py --page
 	python3 tools/edits.py
 	python3 tools/dead_lemmas.py
 	python3 tools/known_lemmas.py
@@ -170,8 +193,8 @@ compile-fail:
 
 # Each allocation, thread, read and write of the programs refused in turn, once and from there on; short, interrupted and
 # would-block reads and writes; and each allocation of the runs that step a text.
-refusals: $(PROGRAM) $(FROM_ZERO) $(SPEED) $(PL0)
-	python3 checks/refusals.py --speed $(SPEED) --pl0 $(PL0) $(PROGRAM) $(FROM_ZERO)
+refusals: $(PROGRAM) $(FROM_ZERO) $(SPEED) $(PL0) $(STACK)
+	python3 checks/refusals.py --speed $(SPEED) --pl0 $(PL0) --own $(STACK) $(PROGRAM) $(FROM_ZERO)
 
 # A program without end, up to the last position, which is 1,001 in a copy of the crates; the copy is not proved.
 last-position:
@@ -181,13 +204,11 @@ last-position:
 # Copies what `make build` has made, and proves and builds nothing.
 install:
 	@for program in $(PROGRAM) $(FROM_ZERO) $(PL0); do test -x $$program || { echo "$$program isn't there: make build"; exit 1; }; done
-	install -D $(PROGRAM) $(INSTALLED)/bin/pl0dap
-	install -D $(FROM_ZERO) $(INSTALLED)/bin/pl0dap_from_zero
-	install -D $(PL0) $(INSTALLED)/bin/pl0
-	install -D editors/listen.py $(INSTALLED)/bin/pl0dap-listen
-	install -D -m 644 docs/pl0dap.1 $(MANUAL)/pl0dap.1
-	install -D -m 644 docs/pl0dap_from_zero.1 $(MANUAL)/pl0dap_from_zero.1
-	install -D -m 644 docs/pl0.1 $(MANUAL)/pl0.1
+	install -D $(PROGRAM) "$(INSTALLED)/bin/pl0dap"
+	install -D $(FROM_ZERO) "$(INSTALLED)/bin/pl0dap_from_zero"
+	install -D $(PL0) "$(INSTALLED)/bin/pl0"
+	install -D editors/listen.py "$(INSTALLED)/bin/pl0dap-listen"
+	for page in $(INSTALLED_PAGES); do install -D -m 644 docs/$$page "$(MANUAL)/$$page"; done
 
 # An archive for those who only want to debug: what `make install` copies, and the editors' files. Proves and builds nothing.
 .PHONY: dist
@@ -197,8 +218,8 @@ dist:
 	@python3 tools/dist.py
 
 uninstall:
-	rm -f $(addprefix $(INSTALLED)/bin/,pl0dap pl0dap_from_zero pl0dap-listen pl0)
-	rm -f $(addprefix $(MANUAL)/,pl0dap.1 pl0dap_from_zero.1 pl0.1)
+	for program in $(INSTALLED_PROGRAMS); do rm -f "$(INSTALLED)/bin/$$program"; done
+	for page in $(INSTALLED_PAGES); do rm -f "$(MANUAL)/$$page"; done
 
 # Removes all that was built and proved in this checkout; what `rt` keeps elsewhere stays.
 clean:

@@ -30,7 +30,8 @@ RECORD = os.path.join(HERE, "instructions.txt")
 # From how much on a figure counts as moved.
 MOVED = 0.03
 ELSEWHERE = 256
-STACK_ELSEWHERE = 64
+# How many breakpoints stand behind the loop of the stack language.
+STACK_ELSEWHERE = (0, 64, 1_024, 4_096)
 # In how many frames of a procedure a condition asks for a variable of the last.
 DEEP = (10, 100, 1_000)
 # How often a question is asked.
@@ -99,12 +100,12 @@ def below(frames: int):
 def stack_loop(turns: int) -> str:
     """A loop of seven steps in the stack language, behind which stand lines that are never reached."""
     lines = [f"push {turns}", "store n", "load n", "jzero 10", "load n", "push 1", "sub", "store n", "jump 3", "ret"]
-    return "\n".join([*lines, *["print"] * STACK_ELSEWHERE])
+    return "\n".join([*lines, *["print"] * STACK_ELSEWHERE[-1]])
 
 
 def in_stack_slices(count: int) -> Run:
     """That loop in slices of `debuggee`, with so many breakpoints behind it."""
-    return Run(f"a step of the stack language, in slices, breakpoints elsewhere: {count}", "language", stack_loop,
+    return Run(f"a step of the stack language, in slices, breakpoints elsewhere: {count:,}", "language", stack_loop,
                (2_000, 6_000), ("10", str(count)), 7)
 
 
@@ -133,8 +134,13 @@ def runs() -> list[Run]:
         Run("a step of `primes`, in slices", "slices", primes, (1_000, 3_000)),
         Run("a step of `primes`, in a call that `next` passes over", "next", called(primes), (1_000, 3_000)),
         Run("a step of `count`, in a procedure that `stepOut` leaves", "out", called(count), many),
-        *map(in_stack_slices, (0, 1, STACK_ELSEWHERE)),
+        *map(in_stack_slices, STACK_ELSEWHERE),
     ]
+
+
+def steps_of(run: Run, turns: int, said: str) -> int:
+    """How many steps a run took, by what it said."""
+    return turns * run.turn or int(re.search(r"after (\d+) steps", said)[1])
 
 
 def counted(speed: str, run: Run, turns: int, folder: str) -> tuple[int, int]:
@@ -143,8 +149,7 @@ def counted(speed: str, run: Run, turns: int, folder: str) -> tuple[int, int]:
     with open(path, "w", encoding="ascii") as file:
         file.write(run.text(turns))
     done = subprocess.run([*CALLGRIND, speed, run.mode, path, *run.more], capture_output=True, text=True, check=True)
-    steps = turns * run.turn or int(re.search(r"after (\d+) steps", done.stdout)[1])
-    return int(re.search(r"Collected : (\d+)", done.stderr)[1]), steps
+    return int(re.search(r"Collected : (\d+)", done.stderr)[1]), steps_of(run, turns, done.stdout)
 
 
 def a_step(speed: str, run: Run, folder: str) -> float:

@@ -28,7 +28,7 @@ NUMBER = re.compile(r"-?\d[\d,]*(?:\.\d+)?")
 PROGRAMS = ("count", "links", "divide", "primes", "nested")
 AROUND = "a step in slices, a false condition on a variable around"
 LARGE_ANSWERS = ("`stackTrace`, 1,024 frames", "`variables`, 1,024")
-SOURCES = ("crates.txt", "crates/*/src", "crates/*/specs", "bench")
+SOURCES = ("crates.txt", "crates/*/src/*", "crates/*/specs/*", "bench")
 
 
 class Log:
@@ -229,12 +229,12 @@ def runs(log: Log) -> str:
 def machine(log: Log) -> str:
     rows = []
     for name in PROGRAMS:
-        _, ours, theirs, ratio = log.figures("machine", name)
+        _, ours, plain, ratio, fused, fused_ratio = log.figures("machine", name)
         counted = log.figures("instructions", f"a step of `{name}`, the machine alone")[0]
         _, _, run, compiled = log.figures("shell", name)[:4]
-        rows.append([f"`{name}`", *(f"{figure:.1f}" for figure in (ours, theirs)), f"{ratio:.2f}", f"{counted:.1f}",
-                     *(f"{figure:.1f}" for figure in (run, compiled))])
-    return table(["", "Machine", "C", "Ratio", "Instructions", "`pl0 run`", "Pascal"], rows)
+        rows.append([f"`{name}`", f"{ours:.1f}", f"{plain:.1f}", f"{ratio:.2f}", f"{fused:.1f}", f"{fused_ratio:.2f}",
+                     f"{counted:.1f}", *(f"{figure:.1f}" for figure in (run, compiled))])
+    return table(["", "Machine", "Plain C", "Ratio", "Fused C", "Ratio", "Instructions", "`pl0 run`", "Pascal"], rows)
 
 
 def back(log: Log) -> str:

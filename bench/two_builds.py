@@ -2,10 +2,13 @@
 """Times two builds of the program in turn: whether one answers sooner than the other.
 
 usage: two_builds.py PROGRAM OTHER
+       two_builds.py --steps SPEED OTHER
 
-What is timed is what `session.py` times of starts, questions at a stop, ways to a stop and runs of a loop. Each request
-goes to one program and then to the other, beside `answer.c` where it can, so that whatever else the computer does slows
-all of them. The times are in microseconds, the best and the median of each.
+With --steps the programs are two builds of `speed`, and what is timed is each step that bench/instructions.py counts,
+in nanoseconds of the processor: a goal in instructions is met if no step takes longer, too. Else what is timed is what
+`session.py` times of starts, questions at a stop, ways to a stop and runs of a loop. Each request goes to one program
+and then to the other, beside `answer.c` where it can, so that whatever else the computer does slows all of them. The
+times of requests are in microseconds. Of each the best and the median are told.
 """
 from __future__ import annotations
 
@@ -16,7 +19,9 @@ import sys
 import tempfile
 import time
 
+import instructions
 import session
+from slices import used
 
 HERE = os.path.dirname(os.path.abspath(__file__))
 
@@ -70,7 +75,37 @@ def show_run(name: str, run: session.Loop, programs: list[str], folder: str) -> 
     show(f"{session.STEPS:,} steps, {name}", rows)
 
 
+# How often each run is timed, and how many times as long as the longer one that is counted.
+ROUNDS, LONGER = 9, 50
+
+
+def nanoseconds(speed: str, run: instructions.Run, turns: int, path: str) -> float:
+    """The processor's time for a step, the program's start included."""
+    begin = used()
+    done = subprocess.run([speed, run.mode, path, *run.more], capture_output=True, text=True, check=True)
+    return (used() - begin) / instructions.steps_of(run, turns, done.stdout) * 1e9
+
+
+def show_steps(run: instructions.Run, speeds: list[str], folder: str) -> None:
+    turns, path = LONGER * run.turns[1], os.path.join(folder, "run.pl0")
+    with open(path, "w", encoding="ascii") as file:
+        file.write(run.text(turns))
+    rows = [[nanoseconds(speed, run, turns, path) for speed in speeds] for _ in range(ROUNDS)]
+    times = "  ".join(f"{min(one):8.2f} {statistics.median(one):8.2f}" for one in zip(*rows))
+    print(f"{run.name:75} {times}", flush=True)
+
+
+def time_steps(speeds: list[str]) -> int:
+    print(f"load {os.getloadavg()[0]:.2f}; nanoseconds a step\n{'':75} {'one':>17}  {'the other':>17}")
+    with tempfile.TemporaryDirectory() as folder:
+        for run in instructions.runs():
+            show_steps(run, speeds, folder)
+    return 0
+
+
 def main() -> int:
+    if sys.argv[1:2] == ["--steps"] and len(sys.argv) == 4:
+        return time_steps([os.path.abspath(word) for word in sys.argv[2:]])
     if len(sys.argv) != 3:
         raise SystemExit(__doc__)
     programs = [os.path.abspath(word) for word in sys.argv[1:]]

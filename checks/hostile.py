@@ -1,10 +1,12 @@
 #!/usr/bin/env python3
 """Plays hostile input to the adapter, and compares what comes of it with what docs/PROTOCOL.md says.
 
-usage: hostile.py [--stack KIB] PROGRAM [FROM_ZERO]
+usage: hostile.py [--stack KIB] [--listen] PROGRAM [FROM_ZERO]
+       hostile.py --own STACK_ADAPTER
 
 FROM_ZERO is `pl0dap_from_zero`, to which the cases are played as well. Only the `seq` 0 differs there: it is a number
-like any other.
+like any other. With --listen the programs serve behind editors/listen.py, which takes all output. STACK_ADAPTER is the
+example, to which the cases of frames, contents and ends are played, with programs of its own language.
 
 Each case is played to a process of its own, which is first brought into a situation. What must come stands beside each
 case, as the page has it. Then the next request follows, `threads`, and after it `disconnect`: both have to be answered,
@@ -30,8 +32,11 @@ from collections.abc import Callable
 from typing import NamedTuple
 
 from lib import client
-from lib.client import Client, frame, put_files
+from lib.client import LISTEN, Client, frame, listened, put_files
 from lib.notation import said_of
+
+sys.path.append(os.path.dirname(LISTEN))
+import listen  # noqa: E402
 
 FRESH, READY, CONFIGURING, RUNNING, PRINTING, STOPPED, FAULTED, ENDED = (
     "fresh", "ready", "configuring", "running", "printing", "stopped", "faulted", "ended",
@@ -52,6 +57,10 @@ FILES = {
     "longest.pl0": b" " * 65535 + b".",
     "too_long.pl0": b" " * 65536 + b".",
 }
+# What is played to the stack language: the programs of the same names, the cases, and how it names the framing faults.
+STACK_FILES = {"loop.pl0": b"jump 1", "prints.pl0": b"push 1\nprint\njump 1"}
+STACK_TOPICS = ("headers", "contents", "cuts", "ends")
+FRAMING = ("HeaderTooLong", "BadField", "NoLength", "TwoLengths", "BadLength", "TooLarge")
 LAUNCHES = {
     CONFIGURING: '{"program":"stop.pl0"}',
     RUNNING: '{"program":"loop.pl0"}',
@@ -393,6 +402,13 @@ class Play:
             raise Differs(f"nothing and {wanted} must come at the end, and not {left!r} and {tuple(came)}")
 
 
+def stack_ending(after: str | int) -> tuple[int, str]:
+    """The status and the last line on standard error of the stack language's adapter."""
+    if after == NO_OUTPUT:
+        return 1, "stack_adapter: Serve(Output)"
+    return (2, f"stack_adapter: Serve(Framing({FRAMING[after - 1]}))") if isinstance(after, int) else (0, "")
+
+
 def ending(after: str | int) -> tuple[int, str]:
     """The status and the last line on standard error."""
     if after == NO_OUTPUT:
@@ -400,10 +416,27 @@ def ending(after: str | int) -> tuple[int, str]:
     return (2, f"pl0dap: frame {after}") if isinstance(after, int) else (0, "")
 
 
-def difference(program: str, case: Case, adapter: Callable[[str, str], Client] = Client) -> str | None:
+class Listened(Client):
+    """A process behind listen.py, of which what that changes is put back."""
+
+    def __init__(self, program: str, folder: str):
+        super().__init__(listened(program), folder, env={**os.environ, "PATH": os.defpath})
+
+    def content(self) -> bytes | None:
+        content = super().content()
+        if content and b'"seq":0,' in content:
+            return self.content()
+        for code, words in listen.REFUSALS.items():
+            content = content and content.replace(words.encode(), code.encode())
+        return content
+
+
+def difference(
+    program: str, case: Case, adapter: Callable[[str, str], Client] = Client, is_own: bool = False,
+) -> str | None:
     """Plays a case, and says how what comes differs from what must come, or nothing."""
     with tempfile.TemporaryDirectory() as folder:
-        put_files(folder, FILES)
+        put_files(folder, STACK_FILES if is_own else FILES)
         play, found = Play(program, folder, adapter), None
         try:
             play.enter(case.situation)
@@ -414,7 +447,7 @@ def difference(program: str, case: Case, adapter: Callable[[str, str], Client] =
             play.want(case.answers)
             if case.after != END:
                 play.follow(case.situation, case.after == HEARD)
-            play.end(ending(case.after))
+            play.end(stack_ending(case.after) if is_own else ending(case.after))
         except Differs as differs:
             found = str(differs)
         play.adapter.child.kill()
@@ -561,6 +594,25 @@ FROM_ZERO = {
 }
 
 
+def differing_between(program: str, instead: dict[str, Case]) -> int:
+    """How many cases differ behind listen.py, but of paths, which that makes whole, of the stack, and of outputs that
+    nobody takes. Prints them."""
+    cases = [instead.get(case.name, case) for topic in CASES.values() for case in topic
+             if case.after != NO_OUTPUT and case.name != "paths"]
+    found = [f"{case.name}: {differs}" for case in cases if (differs := difference(program, case, Listened))]
+    name = os.path.basename(program)
+    print("\n".join([*found, f"{name} behind listen.py, {len(cases)} hostile cases: {len(found)} differ"]), flush=True)
+    return len(found)
+
+
+def differing_own(program: str) -> int:
+    """How many cases differ of the stack language's adapter. Prints them."""
+    cases = [case for topic in STACK_TOPICS for case in CASES[topic]]
+    found = [f"{case.name}: {differs}" for case in cases if (differs := difference(program, case, is_own=True))]
+    print("\n".join([*found, f"{os.path.basename(program)}, {len(cases)} hostile cases: {len(found)} differ"]), flush=True)
+    return len(found)
+
+
 def differing(program: str, instead: dict[str, Case], stack: int) -> int:
     """How many cases differ, of which some are played instead of those of these names. Prints them."""
     wrong = 0
@@ -588,12 +640,19 @@ def differing(program: str, instead: dict[str, Case], stack: int) -> int:
 def main() -> int:
     parser = argparse.ArgumentParser(usage=__doc__.split("\n\n")[1].replace("usage: ", "", 1))
     parser.add_argument("--stack", type=int, default=STACK)
+    parser.add_argument("--listen", action="store_true")
+    parser.add_argument("--own", action="store_true")
     parser.add_argument("program", type=os.path.abspath)
     parser.add_argument("from_zero", type=os.path.abspath, nargs="?")
     given = parser.parse_args()
-    wrong = differing(given.program, {}, given.stack)
-    if given.from_zero:
-        wrong += differing(given.from_zero, FROM_ZERO, given.stack)
+    wrong = 0
+    for program, instead in ((given.program, {}), (given.from_zero, FROM_ZERO)):
+        if program and given.own:
+            wrong += differing_own(program)
+        elif program and given.listen:
+            wrong += differing_between(program, instead)
+        elif program:
+            wrong += differing(program, instead, given.stack)
     return 1 if wrong else 0
 
 

@@ -19,6 +19,7 @@ import sys
 TOP = os.path.realpath(os.path.join(os.path.dirname(__file__), ".."))
 OUTSIDE = os.path.join(TOP, "checks", "outside")
 DRIVE = os.path.join(TOP, "editors", "drive")
+RECORD = os.path.join(TOP, "tools", "record.py")
 MADE = os.path.join(TOP, "out", "clients")
 GO_PACKAGES, NODE_PACKAGES = "/usr/share/gocode", "/usr/share/nodejs"  # where Debian keeps them
 GO_DAP = os.path.join(GO_PACKAGES, "src", "github.com", "google", "go-dap")
@@ -34,7 +35,7 @@ def recorder(name: str, *program: str) -> tuple[str, list[str]]:
     place = os.path.join(MADE, name)
     if os.path.exists(place):
         os.remove(place)
-    return place, [sys.executable, os.path.join(DRIVE, "proxy.py"), place, *program]
+    return place, [sys.executable, RECORD, place, *program]
 
 
 def script(name: str) -> list[str]:

@@ -5,7 +5,7 @@ usage: pl0_pages.py PL0
 
 Each row of the table of mistakes in docs/PL0.md is tried where its example is a text: the code is the number of the
 fault, and the sentence and the place are what `pl0 check` tells. So is what the list below it says beside a token that
-can't stand where it does, and of each text in checks/mistakes it tells the line of told.txt there. For each of the
+can't stand where it does, and of each text of mistakes.txt what stands there; each hint is told of one. For each of the
 examples `pl0 list` shows the same instructions, and the same steps beside them, as `pl0dap --check` prints, whose
 stored output the gate compares. The table of names in docs/PL0.md is what `pl0 list --names` writes, and the tree what
 `pl0 tree` does. The table of a run in docs/PL0.md is what `pl0 trace` writes, also where it begins later or ends
@@ -24,6 +24,8 @@ import sys
 import threading
 
 TOP = pathlib.Path(__file__).resolve().parent.parent
+MISTAKES = TOP / "crates" / "mistake_runs" / "data" / "mistakes.txt"
+HINTS = TOP / "crates" / "pl0_mistakes" / "src" / "hints.rt"
 ROW = re.compile(r"^\| (\d+) \| \w+ \| (.*) \| `([^`]*)` \| `(\d+) (\d+) (\d+)` \|$")
 HINT = re.compile(r"^- (.*): `([^`]*)`$")
 INSTRUCTION = re.compile(r"^ +(\d+)  ([A-Z]{3}) (\d+) (-?\d+) *((?: -?\d+)*)$")
@@ -38,7 +40,7 @@ LONG = b"var n; while n < 200000 do begin n := n + 1; ! n end.\n"
 
 
 def run(*words: str, text: bytes = b"", **streams: object) -> subprocess.CompletedProcess[bytes]:
-    return subprocess.run(words, input=text, capture_output=not streams, check=False, timeout=60, **streams)
+    return subprocess.run(words, input=text, capture_output=not streams, check=False, timeout=PATIENCE, **streams)
 
 
 def wrong_mistakes(pl0: str):
@@ -72,17 +74,28 @@ def wrong_hints(pl0: str):
         yield f"only {len(rows)} rows of hints were found"
 
 
+def texts() -> list[tuple[bytes, bytes]]:
+    """The texts of mistakes.txt, and what is told of each. `\\0d` stands for the byte with this number."""
+    found = []
+    for block in MISTAKES.read_bytes().split(b"\n\n"):
+        lines = block.rstrip(b"\n").split(b"\n")
+        text = b"\n".join(line for line in lines if not line.startswith(b"-:"))
+        told = b"".join(line + b"\n" for line in lines if line.startswith(b"-:"))
+        found.append((re.sub(rb"\\([0-9a-f]{2})", lambda code: bytes([int(code[1], 16)]), text), told))
+    return found
+
+
 def wrong_texts(pl0: str):
-    """The texts in checks/mistakes of which something else is told than the file there says."""
-    folder = TOP / "checks" / "mistakes"
-    wanted = (folder / "told.txt").read_text(encoding="utf-8").splitlines(keepends=True)
-    if [line.split(":")[0] for line in wanted] != sorted(text.name for text in folder.glob("*.pl0")):
-        yield "told.txt has not one line for each text"
-    for line in wanted:
-        command = [pl0, "check", line.split(":")[0]]
-        told = subprocess.run(command, cwd=folder, capture_output=True, check=False, timeout=60)
-        if (told.stdout, told.stderr, told.returncode) != (b"", line.encode(), 2):
-            yield f"{told}, where {line!r} is wanted"
+    """The texts in mistakes.txt of which something else is told than stands there, and the hints that none is told."""
+    for text, wanted in texts():
+        told = run(pl0, "check", "-", text=text)
+        status = 2 if b": error: " in wanted else 0
+        if (told.stdout, told.stderr, told.returncode) != (b"", wanted, status):
+            yield f"{text!r}: {told}, where {wanted!r} is wanted"
+    for hint in re.findall(r"^[a-z].*say: (.*)$", HINTS.read_text(encoding="utf-8"), re.MULTILINE):
+        said = re.compile(r".*; " + ".*".join(re.escape(part) for part in re.split(r"\{.*?\}", hint)))
+        if not any(said.fullmatch(line) for _, wanted in texts() for line in wanted.decode().splitlines()):
+            yield f"no text is told {hint!r}"
 
 
 def listed(text: bytes) -> list[list[bytes]]:
@@ -231,10 +244,10 @@ def wrong_stops(pl0: str):
     said = b"-:1:19: fault: division by zero\n  in main at -:1:19\npl0: cannot write the output\n"
     if (told.stderr, told.returncode) != (said, 3):
         yield f"a fault, with a full disk: {told}"
-    told = run(pl0, "check", "missing", str(TOP / "docs"), str(TOP / "checks" / "mistakes" / "mod.pl0"))
+    told = run(pl0, "check", "missing", str(TOP / "docs"), str(TOP / "crates" / "pl0_runs" / "data" / "mistake.pl0"))
     said = told.stderr.splitlines()
     if told.returncode != 3 or [line.rsplit(b": ", 1)[1]
-                                for line in said[:2]] != UNREAD or b"error: `mod`" not in said[2]:
+                                for line in said[:2]] != UNREAD or b"error: `=`" not in said[2]:
         yield f"a check of a file that is missing, a folder and a mistake: {told}"
 
 

@@ -1,16 +1,17 @@
 #!/usr/bin/env python3
 """Runs the programs again and again, with calls refused or hindered, and judges how they end.
 
-usage: refusals.py [--speed SPEED] [--pl0 PL0] PROGRAM..
+usage: refusals.py [--speed SPEED] [--pl0 PL0] [--own STACK_ADAPTER] [PROGRAM..]
 
-PROGRAM is pl0dap or pl0dap_from_zero; SPEED is the program `speed`, which runs a text by the machine alone, in slices
-under a plan, and by the runner; PL0 is the program `pl0`. Each allocation is refused in turn, up to the first run that
-asks for none more, and then each thread, read and write; but of SPEED allocations alone. In PROGRAM and PL0 each is
-refused once, and then again with all later ones of its kind. What is written may differ from the whole answer only by
-what is missing at its end, of a session by whole frames, and the program must say why. But a run in slices may also end
-by the report that there was no memory for its first one, and must at least once; and where the file of a launch can't
-be read, the launch must be refused, and the session goes on. At last reads and writes take few bytes, are interrupted
-or would block, by some seeds: nothing may be missing.
+STACK_ADAPTER is the example for another language, which plays its stored session; where a read of a program is refused
+there, its launch is, and so the frames may be others. PROGRAM is pl0dap or pl0dap_from_zero; SPEED is the program
+`speed`, which runs a text by the machine alone, in slices under a plan, and by the runner; PL0 is the program `pl0`.
+Each allocation is refused in turn, up to the first run that asks for none more, and then each thread, read and write;
+but of SPEED allocations alone. In PROGRAM and PL0 each is refused once, and then again with all later ones of its kind.
+What is written may differ from the whole answer only by what is missing at its end, of a session by whole frames, and
+the program must say why. But a run in slices may also end by the report that there was no memory for its first one, and
+must at least once; and where the file of a launch can't be read, the launch must be refused, and the session goes on.
+At last reads and writes take few bytes, are interrupted or would block, by some seeds: nothing may be missing.
 
 The threads of a session take turns as they like, so which call is the Nth differs from one time to the next: each end
 must be one that is allowed, and none must hang. Before a thread was asked for nothing may be written where the session
@@ -57,6 +58,16 @@ SESSION_ENDS = {
 }
 # Where `trace` tells a part of a run, it says where that goes on: a drawing of positions 9 to 11 does.
 GOES_ON = "pl0: the run goes on at position 12"
+
+
+# How a run of the example for another language may end so.
+OWN_THREAD = (4, "stack_adapter: Start(NoThread)")
+OWN_ENDS = {
+    "allocation": [(0, ""), (3, "stack_adapter: Serve(NoMemory)"), (4, "stack_adapter: Start(NoMemory)"), OWN_THREAD],
+    "thread": [OWN_THREAD],
+    "read": [(0, ""), (1, "stack_adapter: Serve(Input)")],
+    "write": [(1, "stack_adapter: Serve(Output)")],
+}
 
 
 def listing_ends(file: str) -> dict[str, list[tuple[int, str]]]:
@@ -136,12 +147,18 @@ class Run:
     instead: tuple[str, list[bytes], str] = ("", [], "")
     # Whether calls are also refused from one on, and hindered.
     is_whole_program: bool = True
+    folder: str = rows.TOP
+    # The kind of which a refusal may change the frames, which are whole then, and numbered.
+    changes: str = ""
 
     def whole(self) -> bytes:
         return b"".join(self.pieces)
 
     def is_beginning(self, written: bytes, kind: str) -> bool:
         """Whether some pieces were written that may be where a call of a kind is refused."""
+        if kind == self.changes:
+            found = feeding.frames_of(written)
+            return all(b'"seq":%d,' % number in one for number, one in enumerate(found, 1))
         lists = [self.pieces, self.instead[1]] if kind == self.instead[0] else [self.pieces]
         return any(written in itertools.accumulate(pieces, initial=b"") for pieces in lists)
 
@@ -158,7 +175,7 @@ class Run:
             return name
         if (status, said) not in self.ends[kind] or not self.is_beginning(written, kind):
             return None
-        if status == 0 and written != self.whole():
+        if status == 0 and written != self.whole() and kind != self.changes:
             return None
         if status != 0 and written and self.ends is SESSION_ENDS and (outcome.early or kind == "thread"):
             return None
@@ -192,6 +209,15 @@ def fed_session(program: str, session: feeding.Session, is_endless: bool = False
     unread = "read", session.unread, UNREAD
     exchanges = session.exchanges
     return Run([program], session.frames(), SESSION_ENDS, exchanges=exchanges, is_endless=is_endless, instead=unread)
+
+
+def runs_of_own(stack: str) -> dict[str, Run]:
+    folder = os.path.join(CRATES, "stack_adapter")
+    with open(os.path.join(folder, "stdout"), "rb") as file:
+        pieces = feeding.frames_of(file.read())
+    source = os.path.join(folder, "stdin")
+    return {"a session of the stack language": Run([stack], pieces, OWN_ENDS, source, folder=os.path.join(folder, "data"),
+                                                   changes="read")}
 
 
 def runs(program: str) -> dict[str, Run]:
@@ -282,7 +308,7 @@ def perform(run: Run, notice: feeding.Notice, patience: int, **settings) -> Outc
     with open(run.source, "rb") as file:
         try:
             limit = feeding.MOST_SECONDS
-            done = subprocess.run(run.command, stdin=file, capture_output=True, cwd=rows.TOP, timeout=limit, **settings)
+            done = subprocess.run(run.command, stdin=file, capture_output=True, cwd=run.folder, timeout=limit, **settings)
         except subprocess.TimeoutExpired:
             return Outcome(b"", -signal.SIGKILL, "it hangs")
     return Outcome(done.stdout, done.returncode, lines_said(done.stderr.decode()))
@@ -372,7 +398,7 @@ def is_good(name: str, run: Run, library: str) -> bool:
 def runs_of_programs(programs: list[str]) -> dict[str, Run]:
     """The runs of each program, with its name before theirs where there is another."""
     if len(programs) == 1:
-        return runs(programs[0])
+        return runs(*programs)
     return {f"{os.path.basename(program)}, {name}": run for program in programs for name, run in runs(program).items()}
 
 
@@ -380,7 +406,8 @@ def main() -> int:
     parser = argparse.ArgumentParser(usage=__doc__.split("\n\n")[1].replace("usage: ", "", 1))
     parser.add_argument("--speed")
     parser.add_argument("--pl0")
-    parser.add_argument("programs", nargs="+")
+    parser.add_argument("--own")
+    parser.add_argument("programs", nargs="*")
     given = parser.parse_args()
     with tempfile.TemporaryDirectory() as folder:
         library = os.path.join(folder, "refuse.so")
@@ -390,6 +417,8 @@ def main() -> int:
             played |= runs_of_texts(os.path.abspath(given.speed))
         if given.pl0:
             played |= runs_of_pl0(os.path.abspath(given.pl0))
+        if given.own:
+            played |= runs_of_own(os.path.abspath(given.own))
         good = [is_good(name, run, library) for name, run in played.items()]
     return 0 if all(good) else 1
 

@@ -34,7 +34,7 @@ EXPRESSIONS = ["n", "a", "b", "c", "z", "n", "a", "", "nn", "N", "1", " n", "é"
 RULES = ["2", "2", "3", "=2", "%2", "%3"]
 OTHER_RULES = ["", "1", "=1", "% 2", " 2 ", "0", "=0", "%0", "x", "-1", "%", "=", "18446744073709551615",
                "18446744073709551616"]
-MESSAGES = ["here", "n is {n}", "{a}{b}", "{", "}", "{zz}", "a { b", "{n} and {n", "", "{}", "é {n}"]
+MESSAGES = ["here", "n is {n}", "{a}{b}", "{", "}", "{zz}", "a { b", "{n} and {n", "", "{}", "é {n}", "x" * 65_535 + "é"]
 SOME_VALUES = [None, True, 0, 1, 2, 17, -1, 1.5, 2**63, 2**64, "", "n", [], {}, [1]]
 
 
@@ -249,6 +249,7 @@ class Player:
         phase = self.make.choice(sorted(self.model.phases()))
         timely = {
             "none": ["launch"],
+            "ended": ["launch", "launch", "setBreakpoints"],
             "configuring": [*["setBreakpoints"] * 3, "configurationDone"],
             "running": ["pause"],
             "stopped": [*["continue", "next", "stepIn"] * 3, *RESUMING, *INSPECTING, "exceptionInfo",
@@ -265,20 +266,27 @@ class Player:
             return make.choice(SOME_VALUES)
         if command == "launch":
             name = make.choice(["p.stk"] * 6 + ["q.stk"] * 3 + ["none.stk", 1])
-            return {"program": name, "stopOnEntry": make.choice([True, True, False, False, 1])}
+            stops = {"program": name, "stopOnEntry": make.choice([True, True, False, False, 1])}
+            return stops | make.choice([{}] * 9 + [{"noDebug": True}, {"noDebug": False}])
         if command == "setBreakpoints":
             here = {"path": make.choice(sorted(world.path for world in self.model.worlds))}
             source = make.choice([here] * 8 + [{"path": "q.stk"}, {}, None])
+            if make.random() < 0.03:
+                return {"source": source, "lines": [1, 2]}
             return {"source": source, "breakpoints": [self.breakpoint() for _ in range(make.randint(0, 8))]}
         if command == "stackTrace":
-            return {"threadId": 1} | self.perhaps("startFrame", [0, 1, 2, 1000]) | self.perhaps("levels", [0, 1, 2, 20])
+            return {"threadId": self.thread()} | self.perhaps("startFrame", [0, 1, 2, 1000]) | self.perhaps("levels", [0, 1, 2, 20])
         if command == "scopes":
             return self.perhaps("frameId", [1, 1, 2, 3])
         if command == "variables":
-            return self.perhaps("variablesReference", [1, 1, 1, 17, 2, 0, 33])
+            page = self.perhaps("start", [0, 1, 25, 26, 2**64 - 1]) | self.perhaps("count", [0, 1, 3, 26, 2**64 - 1])
+            return self.perhaps("variablesReference", [1, 1, 1, 17, 2, 0, 33, 2**30 + 1]) | make.choice([{}, page])
         if command == "evaluate":
             return {"expression": make.choice(EXPRESSIONS)} | self.perhaps("frameId", [1, 2])
-        return make.choice([None, {}, {"threadId": 1}])
+        return make.choice([None, {}, {"threadId": self.thread()}])
+
+    def thread(self) -> object:
+        return self.make.choice([1] * 19 + [2])
 
     def perhaps(self, key: str, values: list) -> dict:
         return {key: self.make.choice(values)} if self.make.random() < 0.8 else {}

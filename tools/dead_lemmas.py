@@ -17,7 +17,7 @@ from typing import Iterator, NamedTuple
 
 TOP = Path(__file__).resolve().parent.parent
 # Lemma files and definitions that state what is checked by computing both sides: nothing has to name them.
-WORKED = re.compile(r"/(?:Worked\w*|pl0_tree/proofs/Rows(?:OfTrees)?|dbg_runner/proofs/Refused)\.antt$")
+WORKED = re.compile(r"/(?:Worked\w*|pl0_tree/proofs/Rows(?:OfTrees|OfLimits)?|dbg_runner/proofs/Refused)\.antt$")
 # Files of which the prover itself reads all, or what is public.
 READ_WHOLE = ("Invariants.antt", "Proof.antt", "Send.antt")
 READ_IN_PART = READ_WHOLE + ("Answers.antt",)

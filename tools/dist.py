@@ -5,8 +5,9 @@ usage: dist.py
 
 `make install` copies the programs into the archive's folder, and editors/vsix.py packs the extension. Its file
 INSTALL.md says how to install it, of which commit and by which kit the programs were proved, and their digests. The
-version is the one that the program's help says. The same programs at the same commit give the same bytes. Prints the
-archive's place and size. Nothing is proved or built.
+version is the one that the program's help says. The same programs at the same commit give the same bytes. Beside the
+archive stands its own digest, as `sha256sum --check` wants it. Prints the archive's place and size. Nothing is proved or
+built.
 """
 from __future__ import annotations
 
@@ -96,6 +97,8 @@ def install_page(folder: pathlib.Path) -> str:
 
 def fill(folder: pathlib.Path) -> None:
     """Makes the archive's folder."""
+    if unknown := said("git", "status", "--porcelain", "--ignored", "--", *FOLDERS, ":!*/__pycache__"):
+        sys.exit(f"not packed, since git doesn't have these as they are:\n{unknown}")
     said("make", "--silent", "install", "DESTDIR=", f"PREFIX={folder}")
     for name in FOLDERS:
         shutil.copytree(TOP / name, folder / name, ignore=LEFT_OUT)
@@ -132,6 +135,8 @@ def main() -> int:
         folder = pathlib.Path(temporary) / name
         fill(folder)
         pack(folder, archive)
+    archive.with_name(f"{archive.name}.sha256").write_text(
+        f"{hashlib.sha256(archive.read_bytes()).hexdigest()}  {archive.name}\n", encoding="ascii")
     print(f"{archive.relative_to(TOP)}: {archive.stat().st_size} bytes")
     return 0
 

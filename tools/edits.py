@@ -6,7 +6,7 @@ usage: edits.py
 Those of the gate are the files of must-fail/. All others are plants, the blocks of plants.txt: a line `plant: NAME`, and
 then what a file of must-fail/ has, lines `file: F`, and after each pairs of lines `old: TEXT` and `new: TEXT`. Each old
 text has to stand exactly once in F, after the pairs before it. Prints what is wrong, also where a crate has more than
-four edits in must-fail/, two plants of one name, or a folder plants/, or where docs/GATE.md counts otherwise, and ends
+four edits in must-fail/, two plants of one name, or a folder plants/, or where docs/CONTRIBUTING.md counts otherwise, and ends
 with status 1 where anything is.
 """
 from __future__ import annotations
@@ -79,10 +79,10 @@ def wrong_plants(name: str) -> Iterator[str]:
 
 
 def miscounted(in_gate: int, plants: int) -> list[str]:
-    """How many edits there are, where docs/GATE.md says otherwise."""
-    page = (TOP / "docs" / "GATE.md").read_text(encoding="utf-8")
+    """How many edits there are, where docs/CONTRIBUTING.md says otherwise."""
+    page = (TOP / "docs" / "CONTRIBUTING.md").read_text(encoding="utf-8")
     counts = [f"{in_gate} together", f"{plants:,}, are plants"]
-    return [f"GATE.md doesn't have: {count}" for count in counts if count not in page]
+    return [f"CONTRIBUTING.md doesn't have: {count}" for count in counts if count not in page]
 
 
 def main() -> int:

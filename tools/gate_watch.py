@@ -25,7 +25,7 @@ TICKS, PAGE = os.sysconf("SC_CLK_TCK"), os.sysconf("SC_PAGE_SIZE")
 # How the kit names the folder in which it tries an edit.
 EDIT_FOLDER = "rt-edit-"
 # The processor minutes that the whole may take, and each crate without its edits, where the computer does nothing else.
-WHOLE_MINUTES, CRATE_MINUTES = 190, 10
+WHOLE_MINUTES, CRATE_MINUTES = 230, 10
 # How many times as many where all cores are busy: cores share the way to memory, and a proof of 58 seconds took 73 then.
 BESIDE = 1.25
 

@@ -1,11 +1,11 @@
 #!/usr/bin/env python3
-"""Counts the lines that one reads to believe the headline, and checks what docs/DEFINITIONS.md says of them.
+"""Counts the lines of each step of docs/DEFINITIONS.md, and of what these rest on, and checks what the page says of them.
 
 usage: reading.py
 
-Counts lines of definitions, and of types that the code declares, without imports, blanks and comments: of each step of
-the page, of what these rest on, and their sums. Prints a count where the page's number is more than a twentieth and
-five lines away, and ends with status 1 where there is one.
+Counts lines of definitions, without imports, blanks and comments. Prints a count where the page's number is more than a
+twentieth and five lines away, and ends with status 1 where there is one. `cited.py` counts what a way to the headline
+takes, with the types that the code declares.
 """
 from __future__ import annotations
 
@@ -35,39 +35,19 @@ STEPS = {
     "8.": "adapter/specs/Serving",
     "9.": "dap_history/specs/Always .Considered .Laws .Stops .Transitions .GoingBack .Runs .Verdicts .Loading"
           " .Interleaving:Interleaves..-Interleaves .Moves .Ends .Taken .Initialized .LineAnswers .Shown .Lines",
-    "10.": "dbg_runner/specs/Laws:taken_by.. adapter/specs/Laws .AllRead .UpTo",
+    "10.": "dbg_runner/specs/Laws:AllButLastGoOn..AllButLastGoOn .Laws:taken_by.. dap_session/specs/Laws:IsOnTheWay..IsReached"
+           " dap_replies/specs/Replied:IsQuiet..IsQuiet adapter/specs/Laws .AllRead .UpTo .Written",
 }
-# This one is to be skipped at first.
-SKIPPED = "3."
 # What they rest on, by the words of the page before the number.
 BELOW = {
-    "`Steps.antt`": "pl0_tree/specs/Tree .Tokens .Reading .Scope .Faults .Steps",
-    "`Runs.antt`": "pl0_meaning/specs/Values .Runs",
-    "`Retreat.antt`": "dbg_plan/specs/Messages .Breakpoints:..plain_breakpoints .Resolutions .Due .Logs .Retreat",
+    "`Steps.antt`": "pl0_tree/specs/Tree .Tokens .Reading .Scope .Faults .Steps .Blocks:procedure_name..",
+    "`Runs.antt`": "pl0_meaning/specs/Values .Runs pl0_machine/specs/Machine:frames_of..frames_of",
+    "`Retreat.antt`": "dbg_plan/specs/Messages .Breakpoints:..plain_breakpoints .Resolutions .Due .Logs .Plans:parts_at..parts_at"
+        " .Values .Retreat",
     "`Frame.antt`": "dap_frame/specs/Header .Frame",
     "`dap_msg/specs`":
         "dap_msg/specs/Request .Commands .Arguments .Questions .Asked .Said .Outgoing .Members .Texts .Lists .Printable"
         " .Initialize .Launch .SetBreakpoints .Resume .Threads .StackTrace .Scopes .Variables .Evaluate .Writing .Laws",
-}
-# The files whose types steps use: all, or these.
-TYPES = {
-    "dbg_runner/src/outcome": "SliceOutcome",
-    "dbg_plan/src/mode": "Mode Reason",
-    "dap_history/src/situation": "",
-    "dap_history/src/ending": "",
-    "dap_history/src/fault": "",
-    "dap_history/src/launch": "",
-    "dap_msg/src/request": "Request FirstSeq",
-    "dap_msg/src/command": "",
-    "dap_msg/src/outgoing": "",
-    "dap_frame/src/fault": "FramingFault",
-    "dap_msg/src/question": "",
-    "dbg_plan/src/resolving": "Resolution",
-    "pl0_meaning/src/lib": "RunFault",
-    "pl0_tree/src/fault": "FaultKind",
-    "dap_session/src/ports": "Event",
-    "dap_wires/src/reading": "ReadEnd",
-    "adapter/src/serving": "Served ServeFault",
 }
 
 
@@ -104,34 +84,17 @@ def definitions(parts: str) -> int:
     return count
 
 
-def types() -> int:
-    """How many lines the types have."""
-    files = [*TYPES.items(), *((f"dap_msg/src/requests/{file.stem}", "")
-                              for file in sorted((TOP / "crates/dap_msg/src/requests").glob("*.rt")))]
-    return sum(bool(name) and (not names or name in names.split())
-               for file, names in files for name, _ in lines_by_name(file + ".rt", TYPE))
-
-
 def said_after(words: str, page: str) -> int:
     """The number in brackets that comes next on the page behind these words."""
     number = re.search(re.escape(words) + r"[^(]*?\((\d+)[,)]", page)
     return int(number[1]) if number else 0
 
 
-def sums_said(page: str) -> list[int]:
-    """The sums that the page says: all, of steps but the third, of what these rest on, and of types."""
-    said = re.search(r"reads some ([\d,]+) lines.*?: ([\d,]+) of.*?, ([\d,]+) of.*? and ([\d,]+) of types", page, re.S)
-    return [int(number.replace(",", "")) for number in said.groups()] if said else [0] * 4
-
-
 def main() -> int:
     page = PAGE.read_text(encoding="utf-8")
     counts = {words: definitions(parts) for words, parts in {**STEPS, **BELOW}.items()}
-    sums = [sum(counts[words] for words in table) for table in (STEPS, BELOW)]
-    sums = [sums[0] - counts[SKIPPED], sums[1], types()]
     compared = [(words, count, said_after(f"\n{words} **" if words in STEPS else words, page))
                 for words, count in counts.items()]
-    compared += zip(("in all", "steps", "below", "types"), (sum(sums), *sums), sums_said(page))
     wrong = [one for one in compared if abs(one[1] - one[2]) > max(5, one[1] / 20)]
     for words, count, said in wrong:
         print(f"docs/DEFINITIONS.md: {words} {count} lines, and it says {said}")

@@ -4,10 +4,10 @@
 usage: tests.py [PART..]
 
 The parts are the crates of tests, which `rt try --test` builds and runs; two programs, which are built as files in
-out/unproved/; the scripts of checks/ that try these; and `make pages`. A part isn't run again while its files are as
-they were when it last passed: the sources of its crate and of the libraries below it, and for a script those of its
-program, and all pages, examples, scripts and stored runs. The pages are looked at each time. With PART only these are
-run, and the programs that they need.
+out/unproved/; the scripts of checks/ that try these; the kit for an adapter of one's own; and `make pages`. A part
+isn't run again while its files are as they were when it last passed: the sources of its crate and of the libraries
+below it, and for a script those of its program, and all pages, examples, scripts and stored runs. The pages are looked
+at each time. With PART only these are run, and the programs that they need.
 
 Prints a line for each part as it ends, every half minute what runs, and all that a part printed that fails. The last
 line is `unproved: N passed, M failed`, where each test of a crate counts, and each other part once. The status is 0
@@ -89,13 +89,11 @@ PARTS = [
     tests("adapter_tests"),
     tests("program_tests"),
     tests("plan_tests"),
-    tests("debuggee_tests"),
     tests("runner_tests"),
     tests("session_tests"),
     program("pl0"),
     program("stack_adapter"),
     tests("message_tests"),
-    tests("mistake_tests"),
     script("sessions", "pl0dap", "60"),
     script("rows", "pl0dap"),
     script("pl0_pages", "pl0"),
@@ -103,7 +101,8 @@ PARTS = [
     script("nonblocking", "pl0dap"),
     script("stack_sessions", "stack_adapter", "40"),
     script("stack_pause", "stack_adapter"),
-    Part("pages", "", ("make", "--no-print-directory", "pages")),
+    Part("adapter_kit", "", (sys.executable, "tools/adapter_kit.py", "--test")),
+    Part("pages", "", ("make", "--no-print-directory", "pages"), needs="pl0"),
 ]
 
 

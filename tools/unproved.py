@@ -13,7 +13,8 @@ counting instructions before anything is proved (`make instructions FAST=1`), an
 other functions may be inlined: the kit drops `inline(always)` from one that would grow very large, and the compiler may
 decide otherwise. That one may be much slower, so what counts is counted once more when all is proved.
 
-Prints how long it takes, and, where the program isn't built, what `rt try` said. The status is 1 where it isn't.
+Prints how long it takes, and, where the program isn't built, what `rt try` said. The status is 1 where it isn't. A signal
+ends what runs, and removes what is half made.
 """
 from __future__ import annotations
 
@@ -22,6 +23,7 @@ import os
 import pathlib
 import re
 import shutil
+import signal
 import subprocess
 import sys
 import tempfile
@@ -88,11 +90,12 @@ def kept_by(tool: str, name: str, folder: pathlib.Path) -> pathlib.Path | None:
         trying = subprocess.Popen(
             [kit / "bin" / "rt", "try", "--steps", "1", "--", "--version"], cwd=TOP / "crates" / name,
             env={**os.environ, "TMPDIR": str(folder)}, stdin=subprocess.DEVNULL, stdout=notes, stderr=notes,
+            start_new_session=True,
         )
         try:
             wait_for(name, trying)
         except BaseException:
-            trying.terminate()
+            os.killpg(trying.pid, signal.SIGKILL)  # with the compilers that it has started
             trying.wait()
             raise
         if kept.exists():
@@ -248,6 +251,8 @@ def main() -> int:
     if shutil.which("rt") is None:
         sys.exit("rt, the command of the Rattle kit, isn't on the path: README.md, Try it")
     given.file.parent.mkdir(parents=True, exist_ok=True)
+    for number in (signal.SIGTERM, signal.SIGHUP):
+        signal.signal(number, lambda *_: sys.exit("broken off"))
     if not build(given.program, given.file, given.fast):
         return 1
     print(f"{given.file}: built{', as fast as a proved one' if given.fast else ''}, and nothing of it is proved")

@@ -18,6 +18,7 @@ from lib.plain_stack import VARIABLES, Mistake, State, read, step
 RESUMING = ("continue", "next", "stepIn", "stepOut")
 INSPECTING = ("stackTrace", "scopes", "variables", "evaluate")
 SCOPES = 16  # of a frame, at most
+MOST_MESSAGE = 65_536  # bytes
 MOST_ARRIVALS = 10**6  # which no breakpoint has in a session
 DECIMAL = re.compile(r"[1-9][0-9]*\Z", re.ASCII)
 BRACES = re.compile(r"([^{]*)\{([^}]*)\}")
@@ -103,7 +104,8 @@ def stopped(reason: str, text: str | None = None) -> dict:
     return event("stopped", body | ({} if text is None else {"text": text}))
 
 
-ENDED = [event("exited", {"exitCode": 0}), event("terminated")]
+TERMINATED = [event("terminated")]
+ENDED = [event("exited", {"exitCode": 0}), *TERMINATED]
 
 
 # ---- a run
@@ -155,8 +157,8 @@ def advance(world: World) -> tuple[list[dict], World]:
 
 
 def gone(world: World) -> World:
-    """The same with no program."""
-    return world.having(phase="none", entry=False, program=NOTHING, state=State(), mode=("continue", 0), fault=None)
+    """The same with a program that has ended."""
+    return world.having(phase="ended", entry=False, state=State(), mode=("continue", 0), fault=None)
 
 
 def silent(worlds: Iterable[World]) -> set[World]:
@@ -229,6 +231,8 @@ def answer(world: World, request: Request, folder: str) -> World:
 
 def grant(world: World, request: Request, folder: str) -> tuple[dict | None, list[dict], World]:
     command, given = request.command, request.given()
+    if (why := refusal(command, given)) is not None:
+        raise Refused(why)
     if command in RESUMING:
         return resume(world, command)
     if command in INSPECTING:
@@ -236,6 +240,17 @@ def grant(world: World, request: Request, folder: str) -> tuple[dict | None, lis
             raise Refused("the program isn't stopped")
         return INSPECTIONS[command](world, given), [], world
     return GRANTS.get(command, unsupported)(world, given, folder)
+
+
+def refusal(command: str, given: dict) -> str | None:
+    """Why a request is refused for its arguments, whatever the program does."""
+    if command == "launch" and given.get("noDebug") is True:
+        return "`noDebug` is unsupported"
+    if command == "setBreakpoints" and "lines" in given and "breakpoints" not in given:
+        return "`breakpoints` is missing"
+    if command in (*RESUMING, "pause", "stackTrace") and whole_at(given, "threadId") not in (None, 1):
+        return "no such thread is there"
+    return None
 
 
 def unsupported(world: World, given: dict, folder: str) -> tuple[dict | None, list[dict], World]:
@@ -319,10 +334,14 @@ def set_one(world: World, asked: dict) -> tuple[dict, Breakpoint | None]:
         rule = rule_of(text_at(asked, "hitCondition") or "")
     except ValueError:
         return unset("a hit condition is N, =N or %N"), None
+    if len((text_at(asked, "logMessage") or "").encode()) > MOST_MESSAGE:
+        return unset("a message has at most 65,536 bytes"), None
+    condition = text_at(asked, "condition") or None
+    if condition is not None and value(world, condition) is None:
+        return unset(NO_VARIABLE), None
     message = text_at(asked, "logMessage")
     parts = parts_of(message) if message else None
-    return ({"line": place + 1, "verified": True},
-            Breakpoint(place, text_at(asked, "condition") or None, rule, 0, parts))
+    return {"line": place + 1, "verified": True}, Breakpoint(place, condition, rule, 0, parts)
 
 
 def rule_of(text: str) -> tuple[str, int] | None:
@@ -371,9 +390,9 @@ def pause(world: World, given: dict, folder: str) -> tuple[dict | None, list[dic
 
 
 def terminate(world: World, given: dict, folder: str) -> tuple[dict | None, list[dict], World]:
-    if world.phase == "none":
+    if world.phase in ("none", "ended"):
         return None, [], world
-    return None, ENDED, gone(world)
+    return None, TERMINATED, gone(world)
 
 
 def threads(world: World, given: dict, folder: str) -> tuple[dict | None, list[dict], World]:
@@ -383,8 +402,15 @@ def threads(world: World, given: dict, folder: str) -> tuple[dict | None, list[d
 def exception_info(world: World, given: dict, folder: str) -> tuple[dict | None, list[dict], World]:
     if world.phase != "stopped" or world.fault is None:
         raise Refused("the program hasn't stopped at a fault")
-    body = {"breakMode": "always", "description": "the next step can't be taken", "exceptionId": world.fault}
-    return body, [], world
+    return {"breakMode": "always", "description": world.fault, "exceptionId": FAULTS[world.fault]}, [], world
+
+
+FAULTS = {
+    "overflow": "Overflow",
+    "division by zero": "DivisionByZero",
+    "a number is missing on the stack": "TooFew",
+    "there are too many numbers or calls": "TooMany",
+}
 
 
 def disconnect(world: World, given: dict, folder: str) -> tuple[dict | None, list[dict], World]:
@@ -400,8 +426,10 @@ GRANTS = {
 
 def stack_trace(world: World, given: dict) -> dict:
     first, levels = whole_at(given, "startFrame") or 0, whole_at(given, "levels") or world.depth()
-    frames = [{"column": 1, "id": index + 1, "line": line + 1, "name": "call" if index < world.depth() - 1 else "main",
-               "source": {"path": world.path}} for index, line in enumerate(world.state.lines())]
+    lines = list(world.state.lines())
+    called = [f"line {world.program[line].operand + 1}" for line in lines[1:]]
+    frames = [{"column": 1, "id": index + 1, "line": line + 1, "name": name, "source": {"path": world.path}}
+              for index, (line, name) in enumerate(zip(lines, [*called, "main"]))]
     return {"stackFrames": frames[first:first + levels], "totalFrames": world.depth()}
 
 
@@ -421,8 +449,10 @@ def variables(world: World, given: dict) -> dict:
     reference = whole_at(given, "variablesReference") or 0
     if reference % SCOPES != 1 or reference // SCOPES >= world.depth():
         raise Refused("no variables have this reference")
-    return {"variables": [{"name": name, "value": str(number), "variablesReference": 0}
-                          for name, number in zip(VARIABLES, world.state.values)]}
+    first, count = whole_at(given, "start") or 0, whole_at(given, "count") or len(VARIABLES)
+    shown_all = [{"name": name, "value": str(number), "variablesReference": 0}
+                 for name, number in zip(VARIABLES, world.state.values)]
+    return {"variables": shown_all[first:first + count]}
 
 
 def evaluate(world: World, given: dict) -> dict:

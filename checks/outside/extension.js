@@ -10,6 +10,7 @@ const fs = require("fs");
 const Module = require("module");
 const os = require("os");
 const path = require("path");
+const util = require("util");
 
 const FOLDER = path.join(__dirname, "..", "..", "editors", "vscode");
 const TEMPORARY = fs.mkdtempSync(path.join(os.tmpdir(), "pl0dap"));
@@ -54,13 +55,21 @@ class Diagnostic {
 }
 
 class DebugAdapterExecutable {
-  constructor(command) {
-    this.command = command;
+  constructor(command, words) {
+    this.words = [command, ...words];
   }
 }
 
 const word = new Range(new Position(2, 8), new Position(2, 12));
-const document = { languageId: "pl0", fileName: "/tmp/a.pl0", save: async () => true, getWordRangeAtPosition: () => word };
+const document = {
+  languageId: "pl0",
+  fileName: "/tmp/a.pl0",
+  uri: "/tmp/a.pl0",
+  version: 1,
+  getText: () => `text ${document.version}`,
+  save: async () => true,
+  getWordRangeAtPosition: () => word,
+};
 const say = (text) => started.push(text);
 const editor = {
   Task,
@@ -75,9 +84,13 @@ const editor = {
   workspace: {
     textDocuments: [document],
     getConfiguration: (section) => ({ get: (name) => settings[`${section}.${name}`] }),
-    onDidSaveTextDocument: (call) => (offered.save = call),
+    onDidOpenTextDocument: (call) => (offered.open = call),
+    onDidChangeTextDocument: (call) => (offered.change = call),
+    onDidCloseTextDocument: (call) => (offered.close = call),
   },
-  languages: { createDiagnosticCollection: () => ({ set: (name, list) => (marked[name] = list) }) },
+  languages: {
+    createDiagnosticCollection: () => ({ set: (name, list) => (marked[name] = list), delete: (name) => delete marked[name] }),
+  },
   window: { activeTextEditor: { document }, showInformationMessage: say, showErrorMessage: say },
   commands: { registerCommand: (name, call) => (offered.commands[name] = call) },
   debug: {
@@ -116,8 +129,6 @@ async function launches() {
   assert.deepStrictEqual(await resolve(launch), launch);
   assert.deepStrictEqual(marked["/tmp/a.pl0"], [new Diagnostic(word, "no statement", 1)]);
   write("3:9: error: no text", 3);
-  await offered.save(document);
-  assert.deepStrictEqual(marked["/tmp/a.pl0"], []);
   assert.deepStrictEqual(await resolve(launch), launch);
   assert.strictEqual(await resolve({ ...launch, noDebug: true }), undefined);
   const said = (name) => `${name}:3:9: error: \`;\` is missing`;
@@ -126,12 +137,46 @@ async function launches() {
   delete settings["pl0.path.pl0"];
 }
 
-/** The adapter, by its setting and without it. */
+/** Waits until this is marked. */
+async function comes(wanted) {
+  const until = Date.now() + 20000;
+  while (!util.isDeepStrictEqual(marked, wanted) && Date.now() < until) {
+    await new Promise((resolve) => setTimeout(resolve, 50));
+  }
+  assert.deepStrictEqual(marked, wanted);
+}
+
+/** What is marked as one types: only the last text is looked at, and the marks go with the mistake, or with the text. */
+async function typing() {
+  settings["pl0.path.pl0"] = CHECKER;
+  const checker = '#!/bin/sh\ntext=$(cat)\n[ "$text" = "text 4" ] || { echo "$2:3:9: error: $text" >&2; exit 2; }\n';
+  fs.writeFileSync(CHECKER, checker, { mode: 0o755 });
+  offered.open(document);
+  document.version = 2;
+  offered.change({ document });
+  document.version = 3;
+  offered.change({ document });
+  offered.change({ document: { ...document, languageId: "c", uri: "/tmp/a.c" } });
+  assert.deepStrictEqual(Object.keys(marked), []);
+  await comes({ "/tmp/a.pl0": [new Diagnostic(word, "text 3", 0)] });
+  document.version = 4;
+  offered.change({ document });
+  await comes({ "/tmp/a.pl0": [] });
+  offered.close(document);
+  assert.deepStrictEqual(marked, {});
+  settings["pl0.path.pl0"] = path.join(TEMPORARY, "nothing");
+  offered.change({ document });
+  await comes({ "/tmp/a.pl0": [] });
+  offered.close(document);
+  delete settings["pl0.path.pl0"];
+}
+
+/** The adapter, by its settings and without them. */
 function adapters() {
-  const command = () => offered["adapter pl0"].createDebugAdapterDescriptor().command;
-  assert.strictEqual(command(), "pl0dap");
+  const words = () => offered["adapter pl0"].createDebugAdapterDescriptor().words;
+  assert.deepStrictEqual(words(), ["pl0dap-listen", "-", "pl0dap"]);
   settings["pl0.path.pl0dap"] = "/opt/pl0dap";
-  assert.strictEqual(command(), "/opt/pl0dap");
+  assert.deepStrictEqual(words(), ["pl0dap-listen", "-", "/opt/pl0dap"]);
   delete settings["pl0.path.pl0dap"];
 }
 
@@ -160,10 +205,11 @@ async function main() {
   assert.deepStrictEqual(resolve({}), launch);
   assert.deepStrictEqual(resolve({ type: undefined, noDebug: true }), { ...launch, noDebug: true });
   assert.deepStrictEqual(resolve({ ...launch, program: "a.pl0", stopOnEntry: true }), { ...launch, program: "a.pl0", stopOnEntry: true });
+  await typing();
   await launches();
   adapters();
   indentation();
-  assert.deepStrictEqual(Object.keys(contributed.configuration.properties), ["pl0.path.pl0dap", "pl0.path.pl0"]);
+  assert.deepStrictEqual(Object.keys(contributed.configuration.properties), ["pl0.path.pl0dap", "pl0.path.pl0dap-listen", "pl0.path.pl0"]);
 
   const tasks = offered["tasks pl0"].provideTasks();
   assert.deepStrictEqual(

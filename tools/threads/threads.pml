@@ -493,7 +493,7 @@ inline let_out() {
     fi
 }
 
-/* @ dap_wires/src/events.rt: EventReceiver::leave
+/* @ dap_wires/src/event_receiver.rt: EventReceiver::leave
  * @ dap_wires/src/window.rt: WindowExit::drop
  * Dropping the session's end of the window opens it for good.
  */
@@ -556,7 +556,9 @@ proctype Session(bool started) {
     fi;
 
 waits:
-    /* @ dap_wires/src/events.rt: EventReceiver::next */
+    /* @ dap_wires/src/session_inbox.rt: SessionInbox::next
+     * @ dap_wires/src/event_receiver.rt: EventReceiver::receive
+     */
 #ifdef LETS_OUT_LATE
     inbox?[_, _, _, _];
 #endif
