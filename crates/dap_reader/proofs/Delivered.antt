@@ -10,8 +10,8 @@ use Rattle.dap_server.specs.Inbox.{PlainItem, plain_item, Gives, Given}
 use Rattle.dap_server.specs.declared.inbox.Item.{Item}
 use Rattle.dap_reader.specs.Arriving.{unread}
 use Rattle.dap_reader.specs.Delivery.{view_of, through, is_taker, is_sender, receives, Comes, Carries, Took}
-use Rattle.dap_reader.specs.declared.place.Place.{Place}
-use Rattle.dap_reader.specs.declared.place.Place.TheVariants.{Unused, Takes, Sends}
+use Rattle.dap_reader.specs.declared.queue_end.QueueEnd.{QueueEnd}
+use Rattle.dap_reader.specs.declared.queue_end.QueueEnd.TheVariants.{Unused, Takes, Sends}
 
 -- ---- the ends
 
@@ -30,10 +30,10 @@ at_two a b v (suc zero) at = inr (refl, some-injective b v at)
 at_two a b v (suc (suc pass)) at = absurd (some-ne-none v (sym at))
 
 -- what one end is, the other isn't
-no : {A : Type 0} (is : Place → Bool) (a v : Place) → a ≡ v → is a ≡ false → is v ≡ true → A
+no : {A : Type 0} (is : QueueEnd → Bool) (a v : QueueEnd) → a ≡ v → is a ≡ false → is v ≡ true → A
 no is a v same other own = absurd (true≢false (sym own ∙ (sym (ap is same) ∙ other)))
 
-abbrev is_new : Place → Bool
+abbrev is_new : QueueEnd → Bool
 is_new Unused = true
 is_new (Takes k many) = false
 is_new (Sends k) = false
@@ -58,7 +58,7 @@ given_then gives a b c [] item before now = (c, subst (λ i. gives i item c) bef
 given_then gives a b c (one ∷ items) item before now =
     (before.0, before.1, given_then gives before.0 b c items item before.2 now)
 
-pub parts : (pass : ℕ) (v : Place) (s : Supply) → v ≡ Unused
+pub parts : (pass : ℕ) (v : QueueEnd) (s : Supply) → v ≡ Unused
     → Forks Carries pass v (Takes (view_of s) 0) (Sends (view_of s))
 parts pass v s unused inside ends (inl new) at =
     let here = at_one Unused v pass (subst (λ l. get_elem? l pass ≡ some v) new.0 at) in
@@ -77,7 +77,7 @@ parts pass v s unused inside ends (inr (taken, sent, many, apart, given)) at =
     no is_new (Sends (view_of sent)) v here.1 refl (ap is_new unused))
     (at_two _ _ v pass (subst (λ l. get_elem? l pass ≡ some v) apart at))
 
-pub pushes : (n pass : ℕ) (v : Place) (x : Item) (s : Supply) → is_sender v ≡ true
+pub pushes : (n pass : ℕ) (v : QueueEnd) (x : Item) (s : Supply) → is_sender v ≡ true
     → Comes (through v) (plain_item x) s → Pushes Carries n pass v x (λ w. w ≡ Sends (view_of s))
 pushes n pass v x s sends now inside ends room (inl new) at =
     let here = at_one Unused v pass (subst (λ l. get_elem? l pass ≡ some v) new.0 at) in
@@ -100,7 +100,7 @@ pushes n pass v x s sends now inside ends room (inr (taken, sent, many, apart, g
     ))
     (at_two _ _ v pass (subst (λ l. get_elem? l pass ≡ some v) apart at))
 
-pub pops : (pass : ℕ) (v : Place) → is_taker v ≡ true → Pops Carries pass v (Took v)
+pub pops : (pass : ℕ) (v : QueueEnd) → is_taker v ≡ true → Pops Carries pass v (Took v)
 pops pass v takes x inside ends (inl new) at = no_item x inside new.1
 pops pass v takes x inside ends (inr (taken, sent, many, apart, (mid, now, later))) at =
     ⊎_elim (λ (here : IsAt pass v 0 (Takes (view_of taken) many)). (
@@ -128,7 +128,7 @@ unread_of_whole None = (None, tt)
 unread_of_whole (Some all) = (Some all, (refl, λ found. absurd (true≢false (sym found))))
 
 -- what holds of an end after a look
-pub looked : {E : Type 0} (P : Type 0) (Holds : Place → Type 0) (found : Result Item E) (before after : Place)
+pub looked : {E : Type 0} (P : Type 0) (Holds : QueueEnd → Type 0) (found : Result Item E) (before after : QueueEnd)
     → MatchResult found (λ x. Took before x after) (λ _. (after ≡ before) × P)
     → ((x : Item) → Took before x after → Holds after) → Holds before → Holds after
 looked P Holds (Ok x) before after rule took same = took x rule

@@ -4,9 +4,9 @@ use Rattle.byte_streams.specs.Streams.{Supply, IsOfWhole}
 use Rattle.dap_server.specs.Inbox.{plain_item, Gives, Given, Reads}
 use Rattle.dap_server.specs.declared.inbox.Item.{Item}
 use Rattle.dap_reader.specs.Arriving.{unread}
-use Rattle.dap_reader.specs.declared.place.SupplyView.{SupplyView}
-use Rattle.dap_reader.specs.declared.place.Place.{Place}
-use Rattle.dap_reader.specs.declared.place.Place.TheVariants.{Unused, Takes, Sends}
+use Rattle.dap_reader.specs.declared.queue_end.SupplyView.{SupplyView}
+use Rattle.dap_reader.specs.declared.queue_end.QueueEnd.{QueueEnd}
+use Rattle.dap_reader.specs.declared.queue_end.QueueEnd.TheVariants.{Unused, Takes, Sends}
 
 abbrev pub view_of : Supply → SupplyView
 view_of s = record { first = s.read.first; bytes = s.read.bytes; ended = s.ended; failures = s.failures }
@@ -15,21 +15,21 @@ abbrev pub supply_of : SupplyView → Supply
 supply_of k = record { read = record { first = k.first; bytes = k.bytes }; ended = k.ended; failures = k.failures }
 
 -- the reads of which all went through this end
-abbrev pub through : Place → Supply
+abbrev pub through : QueueEnd → Supply
 through Unused = unread None
 through (Takes k many) = supply_of k
 through (Sends k) = supply_of k
 
-abbrev pub is_taker : Place → Bool
+abbrev pub is_taker : QueueEnd → Bool
 is_taker (Takes k many) = true
 is_taker _ = false
 
-abbrev pub is_sender : Place → Bool
+abbrev pub is_sender : QueueEnd → Bool
 is_sender (Sends k) = true
 is_sender _ = false
 
 -- how often this end has received an item
-abbrev pub receives : Place → ℕ
+abbrev pub receives : QueueEnd → ℕ
 receives (Takes k many) = many
 receives _ = 0
 
@@ -39,7 +39,7 @@ Comes before item after = Reads before item after × ∥ IsOfWhole after ∥₁
 
 -- The queue is new; or what is inside is what the reads gave after those of which all was taken, up to those of which
 -- all was sent.
-abbrev pub Carries : List Item → List Place → Type 0
+abbrev pub Carries : List Item → List QueueEnd → Type 0
 Carries inside ends =
     ((ends ≡ Unused ∷ []) × (inside ≡ []))
     ⊎ ((taken : Supply) × (sent : Supply) × (many : ℕ)
@@ -47,7 +47,7 @@ Carries inside ends =
     × Given Comes taken (map plain_item inside) sent)
 
 -- an end took an item, by one receive
-abbrev pub Took : Place → Item → Place → Type 0
+abbrev pub Took : QueueEnd → Item → QueueEnd → Type 0
 Took before item after =
     (is_taker after ≡ true) × Comes (through before) (plain_item item) (through after)
     × (receives after ≡ receives before + 1)

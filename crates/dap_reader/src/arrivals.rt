@@ -6,7 +6,7 @@ ghost use Rattle.crossbeam_channel.specs.Claims.{IsSeatAt, view};
 ghost use Rattle.crossbeam_channel.specs.Ends.{receives_on};
 ghost use Rattle.dap_reader.specs.Delivery.{is_taker, through};
 
-use crate::place::Place;
+use crate::queue_end::QueueEnd;
 use crate::rule::{Gets, InOrder};
 use crossbeam_channel::{Pass, RuledReceiver};
 use dap_server::{Inbox, Item, Polled};
@@ -17,8 +17,8 @@ use std::sync::Wait;
 /// last one, which is no `Bytes`, a look finds nothing, and `next` tries again and again: it never returns, and never rests.
 #[derive(Drop)]
 pub struct Arrivals {
-    pub(crate) receiver: RuledReceiver<Item, Place, InOrder>,
-    pub(crate) pass: Pass<Item, Place>,
+    pub(crate) receiver: RuledReceiver<Item, QueueEnd, InOrder>,
+    pub(crate) pass: Pass<Item, QueueEnd>,
     ghost seated: { IsSeatAt (receives_on receiver) pass },
     ghost takes: { is_taker (view pass) ≡ true },
     ghost of_whole: { ∥ IsOfWhole (through (view pass)) ∥₁ },

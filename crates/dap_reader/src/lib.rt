@@ -24,8 +24,8 @@
 #![tactic(auto)]
 
 mod arrivals;
-mod place;
 mod queue;
+mod queue_end;
 mod reader;
 mod rule;
 mod sender;

@@ -1,6 +1,6 @@
 //! The rule of the queue: what is inside is what the reads gave after those of which all was taken.
 
-use crate::place::Place;
+use crate::queue_end::QueueEnd;
 use crossbeam_channel::protocol::{Lesson, Outcome, Protocol, Split};
 use dap_server::Item;
 use std::marker::{Brand, PhantomData};
@@ -22,9 +22,9 @@ impl Reached for Brand {
 /// The rule.
 pub(crate) struct InOrder;
 
-impl Protocol<Item, Place> for InOrder {
+impl Protocol<Item, QueueEnd> for InOrder {
     ghost use Rattle.dap_reader.specs.Delivery.{Carries};
-    ghost use Rattle.dap_reader.specs.declared.place.Place.TheVariants.{Unused};
+    ghost use Rattle.dap_reader.specs.declared.queue_end.QueueEnd.TheVariants.{Unused};
 
     ghost holds = { Carries };
 
@@ -36,9 +36,9 @@ pub(crate) struct Parts<K> {
     of: PhantomData<K>,
 }
 
-impl<K: Reached> Split<Place> for Parts<K> {
+impl<K: Reached> Split<QueueEnd> for Parts<K> {
     ghost use Rattle.dap_reader.specs.Delivery.{view_of};
-    ghost use Rattle.dap_reader.specs.declared.place.Place.TheVariants.{Takes, Sends};
+    ghost use Rattle.dap_reader.specs.declared.queue_end.QueueEnd.TheVariants.{Takes, Sends};
 
     ghost left = { λ _. Takes (view_of K.supply) 0 };
 
@@ -50,15 +50,15 @@ pub(crate) struct Puts<K> {
     of: PhantomData<K>,
 }
 
-impl<K: Reached> Outcome<Item, Place> for Puts<K> {
+impl<K: Reached> Outcome<Item, QueueEnd> for Puts<K> {
     ghost use Rattle.std.specs.Prelude.{◌≡◌};
     ghost use Rattle.dap_reader.specs.Delivery.{view_of};
-    ghost use Rattle.dap_reader.specs.declared.place.Place.TheVariants.{Sends};
+    ghost use Rattle.dap_reader.specs.declared.queue_end.QueueEnd.TheVariants.{Sends};
 
     ghost then = { λ _ _ w. w ≡ Sends (view_of K.supply) };
 }
 
-impl<K> Lesson<Item, Place> for Puts<K> {
+impl<K> Lesson<Item, QueueEnd> for Puts<K> {
     ghost use Rattle.std.specs.Prelude.{⊤};
 
     ghost fact = { λ _ _. ⊤ };
@@ -67,13 +67,13 @@ impl<K> Lesson<Item, Place> for Puts<K> {
 /// The step that takes an item.
 pub(crate) struct Gets;
 
-impl Outcome<Item, Place> for Gets {
+impl Outcome<Item, QueueEnd> for Gets {
     ghost use Rattle.dap_reader.specs.Delivery.{Took};
 
     ghost then = { Took };
 }
 
-impl Lesson<Item, Place> for Gets {
+impl Lesson<Item, QueueEnd> for Gets {
     ghost use Rattle.std.specs.Prelude.{⊤};
 
     ghost fact = { λ _ _. ⊤ };

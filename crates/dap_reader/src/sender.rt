@@ -6,7 +6,7 @@ ghost use Rattle.crossbeam_channel.specs.Ends.{sends_on};
 ghost use Rattle.dap_server.specs.Inbox.{plain_item};
 ghost use Rattle.dap_reader.specs.Delivery.{is_sender, Comes};
 
-use crate::place::Place;
+use crate::queue_end::QueueEnd;
 use crate::rule::{InOrder, Puts, Reached};
 use byte_streams::GuardedSource;
 use crossbeam_channel::{Pass, RuledSender, SendError};
@@ -16,8 +16,8 @@ use std::sync::Wait;
 /// The end of the thread that reads: it sends what reads of a source gave.
 #[derive(Drop)]
 pub(crate) struct ItemSender {
-    pub(crate) sender: RuledSender<Item, Place, InOrder>,
-    pub(crate) pass: Pass<Item, Place>,
+    pub(crate) sender: RuledSender<Item, QueueEnd, InOrder>,
+    pub(crate) pass: Pass<Item, QueueEnd>,
     ghost seated: { IsSeatAt (sends_on sender) pass },
     ghost sends: { is_sender (view pass) ≡ true },
 }

@@ -11,8 +11,8 @@ use Rattle.pl0_meaning.proofs.Linking.{frame_at-top}
 use Rattle.pl0_machine.specs.declared.mark.Operand.{Operand}
 use Rattle.pl0_machine.specs.declared.mark.Operand.TheVariants.{Number, Variable, Main}
 use Rattle.pl0_machine.specs.declared.mark.Comparison.{Comparison}
-use Rattle.pl0_machine.specs.declared.mark.Question.{Question}
-use Rattle.pl0_machine.specs.declared.mark.Question.TheVariants.{Nothing, Comparison as AComparison, Condition as ACondition}
+use Rattle.pl0_machine.specs.declared.mark.Proviso.{Proviso}
+use Rattle.pl0_machine.specs.declared.mark.Proviso.TheVariants.{Nothing, Comparison as AComparison, Condition as ACondition}
 use Rattle.pl0_machine.specs.Machine.{Standing, program, configuration, frames, depth_of, top_of, variables_of, IsNext, number_up}
 use Rattle.pl0_machine.specs.Stretches.{operand_in, answer_in, HasOperand, CanAsk}
 use Rattle.dbg_plan.specs.declared.breakpoint.BoundCondition.{BoundCondition}
@@ -94,22 +94,22 @@ module _ (laws : FramesAreLinked) (m : Standing) (b : Breakpoint) (here : IsMetH
     compared : (c : Comparison) → guard.asked ≡ Some c → guard.located.value ≡ condition_of deep c
     compared c is = grind (arith, common_steps, condition_of)
 
-    can_test : (q : Question) → Asks guard q → CanAsk (frames m) q
+    can_test : (q : Proviso) → Asks guard q → CanAsk (frames m) q
     can_test Nothing asks = absurd asks
     can_test (AComparison c) asks =
         let can = subst (λ k. CanTest (frames m) (depth_of m - 1) k) (compared c asks) tests.0 in
         (has_operand (frames m) _ deep newest up c.left can.0, has_operand (frames m) _ deep newest up c.right can.1)
     can_test (ACondition p) asks = subst (λ k. CanTest (frames m) (depth_of m - 1) k) (sym asks) tests.0
 
-    truth_asked : (q : Question) → Asks guard q
+    truth_asked : (q : Proviso) → Asks guard q
         → answer_in (frames m) q ≡ result_unwrap_or (located_truth (frames m) (depth_of m - 1) guard.located.value) true
     truth_asked Nothing asks = absurd asks
     truth_asked (AComparison c) asks = cc (compared c asks, comparison_truth (frames m) _ deep newest up c)
     truth_asked (ACondition p) asks = cc
 
   -- what the machine is asked for the breakpoint can be asked, and is answered by whether its condition holds
-  pub can_ask : (q : Question) → AsksFor b.condition q → CanAsk (frames m) q
+  pub can_ask : (q : Proviso) → AsksFor b.condition q → CanAsk (frames m) q
   can_ask q asks = grind (arith, common_steps, frames, can_test)
 
-  pub answer_is : (q : Question) → AsksFor b.condition q → answer_in (frames m) q ≡ holds_now m b
+  pub answer_is : (q : Proviso) → AsksFor b.condition q → answer_in (frames m) q ≡ holds_now m b
   answer_is q asks = grind (arith, common_steps, frames, there_at, truth_asked, holds_bound, tests)

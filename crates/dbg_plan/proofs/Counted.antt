@@ -10,7 +10,7 @@ use Rattle.pl0_tree.specs.Steps.{steps}
 use Rattle.pl0_meaning.specs.Laws.{FramesAreLinked}
 use Rattle.pl0_machine.specs.declared.mark.Counter.{Counter}
 use Rattle.pl0_machine.specs.declared.mark.Marks.{Marks}
-use Rattle.pl0_machine.specs.declared.mark.Question.{Question}
+use Rattle.pl0_machine.specs.declared.mark.Proviso.{Proviso}
 use Rattle.pl0_machine.specs.Counting.{counters_of, any_due, passed_at, passed, noted_at, noted, IsCounted}
 use Rattle.pl0_machine.specs.Machine.{Standing, program, configuration, frames, top_of, IsNext, BeginsNext}
 use Rattle.pl0_machine.specs.Stretches.{answer_in, CanCount, IsTable, ArriveAt, Arrive, AreCounted, AreNoted}
@@ -95,7 +95,7 @@ module _ (laws : FramesAreLinked) (m : Standing) (bs : List Breakpoint) (cs : Li
       let c = get_or cs k d in
       let b = has_at bs k (omega (arith, lt, long)) in
       let is = of.each k b.0 c b.1 (slice_get-get_or cs k d lt) in (
-        can_ask laws m b.0 (at_get (λ b. IsMetHere m b) bs k b.0 met b.1) c.question is.asks,
+        can_ask laws m b.0 (at_get (λ b. IsMetHere m b) bs k b.0 met b.1) c.proviso is.asks,
         subst (λ n. n < room) (sym is.number) (at_get (λ b. b.number < room) bs k b.0 numbers b.1),
       )
 
@@ -105,7 +105,7 @@ module _ (laws : FramesAreLinked) (m : Standing) (bs : List Breakpoint) (cs : Li
     each = λ k b c here there.
         let is = of.each k b c here there in
         record {
-          holds = answer_is laws m b (at_get (λ b. IsMetHere m b) bs k b met here) c.question is.asks;
+          holds = answer_is laws m b (at_get (λ b. IsMetHere m b) bs k b met here) c.proviso is.asks;
           number = is.number;
           rule = is.rule;
           starts_over = is.starts_over;
@@ -113,7 +113,7 @@ module _ (laws : FramesAreLinked) (m : Standing) (bs : List Breakpoint) (cs : Li
         };
   }
 
-due_is : (f : Question → Bool) (cs : List Counter) (counts : List ℕ) (due : Bool) (new : List ℕ)
+due_is : (f : Proviso → Bool) (cs : List Counter) (counts : List ℕ) (due : Bool) (new : List ℕ)
     → IsCounted f cs counts due new → any_due f cs counts ≡ due
 due_is f cs counts true new counted = counted.0
 due_is f cs counts false new counted = counted.0
@@ -232,13 +232,13 @@ module _ (laws : FramesAreLinked) (plan : Option Listed) (counts : List ℕ) (ro
 
 -- ---- the counts stay as many
 
-passed_length : (f : Question → Bool) (cs : List Counter) (counts : List ℕ)
+passed_length : (f : Proviso → Bool) (cs : List Counter) (counts : List ℕ)
     → length (passed f cs counts) ≡ length counts
 passed_length f [] counts = refl
 passed_length f (c ∷ cs) counts =
     grind (arith, common_steps, passed_length f cs (passed_at f c counts), length, true, length-set, false)
 
-noted_length : (f : Question → Bool) (cs : List Counter) (counts : List ℕ)
+noted_length : (f : Proviso → Bool) (cs : List Counter) (counts : List ℕ)
     → length (noted f cs counts) ≡ length counts
 noted_length f [] counts = refl
 noted_length f (c ∷ cs) counts =

@@ -7,7 +7,7 @@ use Rattle.std.specs.declared.vec.Vec.{Vec}
 use Rattle.std.proofs.lemmas.Bool.Decides.{nat_tests}
 use Rattle.std.proofs.lemmas.Option.{same_Some, slice_get-get_or}
 use Rattle.pl0_machine.specs.declared.mark.Counter.{Counter}
-use Rattle.pl0_machine.specs.declared.mark.Question.{Question}
+use Rattle.pl0_machine.specs.declared.mark.Proviso.{Proviso}
 use Rattle.pl0_machine.specs.Counting.{counters_of, is_due, any_due, passed_at, passed, counted_on, noted_at, noted, any_stops as any_stops_there}
 use Rattle.dbg_plan.specs.declared.breakpoint.Breakpoint.{Breakpoint}
 use Rattle.dbg_plan.specs.declared.breakpoint.Rule.{Rule}
@@ -71,10 +71,10 @@ read_is bs (x ∷ xs) (suc s) lt each = read_is bs xs s (omega (arith, lt)) each
 
 -- ---- counters and breakpoints that are counted alike
 
--- f says of a counter's question, and g of a breakpoint, whether there is an arrival
-module _ (f : Question → Bool) (g : Breakpoint → Bool) where
+-- f says of a counter's proviso, and g of a breakpoint, whether there is an arrival
+module _ (f : Proviso → Bool) (g : Breakpoint → Bool) where
   pub record IsAlike (b : Breakpoint) (c : Counter) : Type 0 where
-    pub holds : f c.question ≡ g b
+    pub holds : f c.proviso ≡ g b
     pub number : c.number ≡ b.number
     pub rule : c.passes ≡ passes b.rule
     pub starts_over : c.starts_over ≡ starts_over b.rule

@@ -2,8 +2,8 @@
 use Rattle.std.specs.Prelude.{◌≡◌, ℕ, Some}
 use Rattle.dbg_plan.specs.declared.breakpoint.BoundCondition.{BoundCondition}
 use Rattle.pl0_machine.specs.declared.mark.Comparison.{Comparison}
-use Rattle.pl0_machine.specs.declared.mark.Question.{Question}
-use Rattle.pl0_machine.specs.declared.mark.Question.TheVariants.{Nothing, Comparison as AComparison, Condition as ACondition}
+use Rattle.pl0_machine.specs.declared.mark.Proviso.{Proviso}
+use Rattle.pl0_machine.specs.declared.mark.Proviso.TheVariants.{Nothing, Comparison as AComparison, Condition as ACondition}
 use Rattle.pl0_machine.specs.declared.mark.Operand.{Operand}
 use Rattle.pl0_machine.specs.declared.mark.Operand.TheVariants as operand
 use Rattle.pl0_machine.specs.declared.located.LocatedExpression.{LocatedExpression}
@@ -22,7 +22,7 @@ abbrev pub condition_of : ℕ → Comparison → LocatedCondition
 condition_of depth c = Compare c.relation (expression_of depth c.left) (expression_of depth c.right)
 
 -- this is what is asked of the machine for a condition: the comparison that it is, or the condition itself
-abbrev pub Asks : BoundCondition → Question → Type 0
+abbrev pub Asks : BoundCondition → Proviso → Type 0
 Asks condition Nothing = ⊥
 Asks condition (AComparison c) = condition.asked ≡ Some c
 Asks condition (ACondition p) = p.value ≡ condition.located.value

@@ -11,7 +11,7 @@ ghost use Rattle.dbg_plan.specs.Table.{IsCounterOf, AreCountersOf};
 use crate::breakpoint::{BoundCondition, Breakpoint};
 use crate::counting::{passes_of, starts_over};
 use pl0_machine::{
-    Comparison, Counter, LocatedCondition, LocatedExpression, Operand, Question, step_depth,
+    Comparison, Counter, LocatedCondition, LocatedExpression, Operand, Proviso, step_depth,
 };
 use pl0_tree::StepNumber;
 use pl0_unit::Unit;
@@ -42,12 +42,12 @@ pub fn counters_for(alloc: Global, breakpoints: &[Breakpoint]) -> Result<Vec<Cou
 fn counter_for(breakpoint: &Breakpoint) -> Result<Counter, AllocError>
     ensures { IfOk result (IsCounterOf breakpoint.now) }
 {
-    let question = match &breakpoint.condition {
-        None => Question::Nothing,
-        Some(condition) => question_of(condition)?,
+    let proviso = match &breakpoint.condition {
+        None => Proviso::Nothing,
+        Some(condition) => proviso_of(condition)?,
     };
     Ok(Counter {
-        question,
+        proviso,
         number: breakpoint.number,
         passes: passes_of(breakpoint.rule),
         starts_over: starts_over(breakpoint.rule),
@@ -60,12 +60,12 @@ fn counter_for(breakpoint: &Breakpoint) -> Result<Counter, AllocError>
 /// # Errors
 ///
 /// The count of its shares is full.
-fn question_of(condition: &BoundCondition) -> Result<Question, AllocError>
+fn proviso_of(condition: &BoundCondition) -> Result<Proviso, AllocError>
     ensures { IfOk result (Asks condition.now) }
 {
     match condition.asked {
-        Some(comparison) => Ok(Question::Comparison(comparison)),
-        None => Ok(Question::Condition(Arc::try_clone(&condition.located)?)),
+        Some(comparison) => Ok(Proviso::Comparison(comparison)),
+        None => Ok(Proviso::Condition(Arc::try_clone(&condition.located)?)),
     }
 }
 

@@ -11,7 +11,7 @@ pub use Rattle.pl0_code.specs.declared.scope.Declared.TheVariants.{Constant, Var
 pub use Rattle.pl0_names.specs.Blocks.{blocks_of, declared_in, found_at, found_in, Names, or_declared}
 pub use Rattle.pl0_names.specs.Earlier.{AreDeclaredBefore, home_around, home_before}
 pub use Rattle.pl0_names.specs.Numbering.{block_count, numbered_block, numbered_row, numbered_statement, row_count}
-pub use Rattle.pl0_names.specs.declared.scopes.Found.{Found}
+pub use Rattle.pl0_names.specs.declared.open_blocks.Found.{Found}
 pub use Rattle.pl0_tree.specs.Plain.{joined, plain_block, plain_constant, plain_expression, plain_name, plain_procedure, plain_statement}
 pub use Rattle.pl0_tree.proofs.PlainParts.{plain_begin, plain_block_procedures, plain_body, plain_constants, plain_end, plain_variables}
 pub use Rattle.pl0_tree.specs.Scope.{AConstant, Allows, AProcedure, AVariable, block_at, body_uses, condition_uses, Declaration, declarations, expression_uses, first_declaration, Home, home, IsAssigned, IsBefore, IsCalled, IsLawful, IsLawfulUse, IsRead, Meaning, Path, procedure_at, statement_uses, Use, use_of, UseKind}

@@ -1,7 +1,7 @@
 -- The words of a construct are found as what they are used for. Those of a lawful program are.
 use Rattle.std.specs.Prelude.{Option, Some, None}
 use Rattle.pl0_tree.specs.Tree.{Statement, Empty, Assign, Call, Write, Then, If, While, Expression, Variable as Named, Number, Negate, Binary, Condition, Odd, Compare}
-use Rattle.pl0_names.specs.declared.scopes.Found.{Found}
+use Rattle.pl0_names.specs.declared.open_blocks.Found.{Found}
 use Rattle.pl0_code.specs.declared.scope.Declared.{Declared}
 use Rattle.pl0_code.specs.declared.scope.Declared.TheVariants.{Constant, Variable, Procedure as AnEntry}
 use Rattle.pl0_code.specs.Rows.{Resolver}

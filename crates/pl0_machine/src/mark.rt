@@ -33,7 +33,7 @@ pub struct Comparison {
 
 /// What has to hold for an arrival. A condition of another shape than a comparison's holds where it faults.
 #[derive(Drop)]
-pub enum Question {
+pub enum Proviso {
     /// Nothing has to.
     Nothing,
     Comparison(Comparison),
@@ -43,7 +43,7 @@ pub enum Question {
 /// Counts arrivals: what has to hold for one, the number of the count, and how many are passed before one is due.
 #[derive(Drop)]
 pub struct Counter {
-    pub question: Question,
+    pub proviso: Proviso,
     pub number: usize,
     pub passes: u32,
     /// Whether the count starts over after an arrival that is due.
@@ -129,15 +129,15 @@ fn holds_or_faults(cells: &[i64], base: usize, top: usize, asked: &LocatedCondit
 
 /// Whether what is asked holds where the newest frame begins at `base`.
 #[inline(always)]
-fn holds(cells: &[i64], base: usize, top: usize, question: &Question) -> bool
+fn holds(cells: &[i64], base: usize, top: usize, proviso: &Proviso) -> bool
     requires within { top ≤ length cells.now }
-    requires fits { MayBeInFrame cells.now base top question.now }
-    ensures { result ≡ answer_there cells.now base top question.now }
+    requires fits { MayBeInFrame cells.now base top proviso.now }
+    ensures { result ≡ answer_there cells.now base top proviso.now }
 {
-    match question {
-        Question::Nothing => true,
-        Question::Comparison(comparison) => compares(cells, base, comparison),
-        Question::Condition(condition) => holds_or_faults(cells, base, top, condition),
+    match proviso {
+        Proviso::Nothing => true,
+        Proviso::Comparison(comparison) => compares(cells, base, comparison),
+        Proviso::Condition(condition) => holds_or_faults(cells, base, top, condition),
     }
 }
 
@@ -150,7 +150,7 @@ fn arrive(counter: &Counter, counts: &mut [u32], cells: &[i64], base: usize, top
     ensures counts { counts.new ≡ (if result then counts.old
         else passed_at (answer_there cells.now base top) counter.now counts.old) }
 {
-    if !holds(cells, base, top, &counter.question) {
+    if !holds(cells, base, top, &counter.proviso) {
         return false;
     }
     let count = counts[counter.number];
@@ -167,7 +167,7 @@ fn is_due(counter: &Counter, counts: &[u32], cells: &[i64], base: usize, top: us
     requires fits { MayCount cells.now base top (length counts.now) counter.now }
     ensures { result ≡ is_due (answer_there cells.now base top) counts.now counter.now }
 {
-    holds(cells, base, top, &counter.question) && counter.passes <= counts[counter.number]
+    holds(cells, base, top, &counter.proviso) && counter.passes <= counts[counter.number]
 }
 
 /// Whether one of these arrivals is due.
@@ -188,7 +188,7 @@ fn pass(counter: &Counter, counts: &mut [u32], cells: &[i64], base: usize, top: 
     ensures { counts.new ≡ passed_at (answer_there cells.now base top) counter.now counts.old }
 {
     let count = counts[counter.number];
-    if holds(cells, base, top, &counter.question) && count < counter.passes {
+    if holds(cells, base, top, &counter.proviso) && count < counter.passes {
         counts[counter.number] = count + 1;
     }
 }
@@ -243,7 +243,7 @@ fn note(counter: &Counter, counts: &mut [u32], cells: &[i64], base: usize, top: 
     ensures stops { result ≡ stops_at (answer_there cells.now base top) counts.old counter.now }
     ensures counts { counts.new ≡ noted_at (answer_there cells.now base top) counter.now counts.old }
 {
-    let asked = &counter.question;
+    let asked = &counter.proviso;
     if !holds(cells, base, top, asked) {
         return false;
     }

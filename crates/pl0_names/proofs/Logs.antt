@@ -2,7 +2,7 @@
 use Rattle.pl0_names.proofs.Common.{[], add-one, ap, arith, at_level, Bool, both_ways, bytes_eq, bytes_eq-Decides, cases_eq, cond, declared_in, false, find, found_at, found_in, get_or, inl, inr, IsNested, latest, length, List, map, names, nat_eq, None, Option, option_map, option_or, refl, reverse, reverse-append, Some, suc, true, zero, ℕ, ◌++◌, ◌+◌, ◌-◌, ◌<◌, ◌∙◌, ◌∷◌, ◌≡◌, ◌≤◌, ◌⊎◌}
 use Rattle.std.proofs.lemmas.Grind.{common_steps}
 use Rattle.pl0_names.specs.declared.log.Entry.{Entry}
-use Rattle.pl0_names.specs.declared.scopes.Found.{Found}
+use Rattle.pl0_names.specs.declared.open_blocks.Found.{Found}
 use Rattle.pl0_names.specs.Logs.{blocks}
 
 -- ---- levels

@@ -3,7 +3,7 @@ use Rattle.std.specs.Prelude.{ℕ, ◌+◌, List, [], ◌∷◌, map, Option, So
 use Rattle.std.specs.Option.{option_or}
 use Rattle.std.specs.Map.{lookup}
 use Rattle.std.specs.Str.{bytes_eq}
-use Rattle.pl0_names.specs.declared.scopes.Found.{Found}
+use Rattle.pl0_names.specs.declared.open_blocks.Found.{Found}
 
 -- what one block declares each word as
 abbrev pub Names : Type 0 → Type 0

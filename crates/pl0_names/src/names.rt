@@ -11,8 +11,8 @@ ghost use Rattle.pl0_names.specs.Homes.{IsHomeAnswer, meaning_of};
 ghost use Rattle.pl0_names.specs.Judging.{means, IsTableOf};
 
 use crate::block_table::block;
+use crate::open_blocks::OpenBlocks;
 use crate::scope::{Declared, Meaning, enter_block, find};
-use crate::scopes::Scopes;
 use pl0_tree::{Block, Constant, Name, Nesting, Procedure};
 use std::alloc::{AllocError, Global};
 use std::marker::Model;
@@ -34,7 +34,7 @@ pub struct Names<'a> {
     main: &'a Block,
     nestings: &'a [Option<Nesting>],
     // What each block declares, by the block's number.
-    tables: Option<Vec<Scopes<'a, Declared>>>,
+    tables: Option<Vec<OpenBlocks<'a, Declared>>>,
 }
 
 impl<'a> Model for Names<'a> {
@@ -135,10 +135,10 @@ impl<'a> Names<'a> {
 }
 
 /// Returns a table of what a block declares.
-fn table_of<'a>(alloc: Global, block: &'a Block) -> Result<Scopes<'a, Declared>, AllocError>
+fn table_of<'a>(alloc: Global, block: &'a Block) -> Result<OpenBlocks<'a, Declared>, AllocError>
     ensures { IfOk result (IsTableOf (plain_block block.now)) }
 {
-    let mut table = Scopes::new(alloc);
+    let mut table = OpenBlocks::new(alloc);
     enter_block(&mut table, block)?;
     Ok(table)
 }

@@ -11,5 +11,5 @@ block-requires-clause-placed c = ∥∥₁_map c.requires.lawful (λ lawful.
       at = refl;
       begins = sym
           (ap length c.new.ensures);
-      among = sym c.new-scopes.ensures;
+      among = sym c.new-open_blocks.ensures;
     })

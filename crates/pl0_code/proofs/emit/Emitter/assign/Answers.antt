@@ -4,12 +4,12 @@ use Rattle.pl0_code.proofs.emit.Emitter.assign.Goals as goal
 
 pub store_to-requires : goal.store_to-requires
 store_to-requires c =
-    let r = found_in 0 (blocks_of c.args.scopes.now) in
+    let r = found_in 0 (blocks_of c.args.open_blocks.now) in
     subst (λ o. IsFoundTo CanBeAssigned o) (sym (c.find-found.ensures ∙ ap r c.as_str.ensures.value)) c.requires.0
 
 pub returns : goal.returns
 returns c =
-    let r = found_in 0 (blocks_of c.args.scopes.now) in
+    let r = found_in 0 (blocks_of c.args.open_blocks.now) in
     let l0 = c.args.self.now.listing in
     let taken = c.in_ok-step.ensures in
     let e = plain_expression c.args.value.now in

@@ -1,6 +1,6 @@
 use Rattle.pl0_names.proofs.Common.{arith, reverse, sym, ◌∙◌}
 use Rattle.pl0_names.proofs.Tables.{has_place, found_none, found_some, level_below}
-use Rattle.pl0_names.proofs.scopes.Scopes.find.Goals as goal
+use Rattle.pl0_names.proofs.open_blocks.OpenBlocks.find.Goals as goal
 
 pub returns-in_err-at : goal.returns-in_err-at
 returns-in_err-at g c =

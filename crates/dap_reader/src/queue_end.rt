@@ -4,7 +4,7 @@ use std::collections::LinkedList;
 
 /// What an end of the queue may do, and which reads gave what went through it. Only proofs read it: no value of it is ever
 /// made.
-pub enum Place {
+pub enum QueueEnd {
     /// The queue is new, and its ends aren't apart yet.
     Unused,
     /// It takes, and took all that these reads gave, by so many receives.

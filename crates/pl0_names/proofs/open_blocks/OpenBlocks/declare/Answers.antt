@@ -2,8 +2,8 @@ use Rattle.pl0_names.proofs.Common.{arith, at_level, IsNested, latest, names, No
 use Rattle.std.proofs.lemmas.Result.{on_ok_weaker}
 use Rattle.pl0_names.proofs.Logs.{named_at, declared_old, declared_new, not_at, unnamed_at, none_latest}
 use Rattle.pl0_names.proofs.Tables.{has_place, latest_read}
-use Rattle.pl0_names.proofs.scopes.Scopes.declare.Goals.{in_default-via-in-None-1, in_default-via-in-Some+else-index-level}
-use Rattle.pl0_names.proofs.scopes.Scopes.declare.Goals as goal
+use Rattle.pl0_names.proofs.open_blocks.OpenBlocks.declare.Goals.{in_default-via-in-None-1, in_default-via-in-Some+else-index-level}
+use Rattle.pl0_names.proofs.open_blocks.OpenBlocks.declare.Goals as goal
 
 pub index-requires : goal.index-requires
 index-requires g c =

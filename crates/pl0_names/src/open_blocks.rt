@@ -17,13 +17,13 @@ pub struct Found<T> {
 
 /// The words that the open blocks declare, in one table.
 #[derive(Drop)]
-pub struct Scopes<'a, T: Copy> {
+pub struct OpenBlocks<'a, T: Copy> {
     log: Vec<Entry<'a, T>>,
     index: HashMap<&'a str, usize>,
     depth: usize,
 }
 
-impl<'a, T: Copy> Model for Scopes<'a, T> {
+impl<'a, T: Copy> Model for OpenBlocks<'a, T> {
     ghost use Rattle.std.specs.Prelude.{ℕ, List, reverse};
 
     ghost Value = { List (List (List ℕ × T)) };
@@ -35,12 +35,12 @@ impl<'a, T: Copy> Model for Scopes<'a, T> {
     ghost invariant = { λ s. IsTable s.depth s.index (reverse s.log.items) };
 }
 
-impl<'a, T: Copy> Scopes<'a, T> {
+impl<'a, T: Copy> OpenBlocks<'a, T> {
     /// Returns a table in which no block is open.
-    pub fn new(alloc: Global) -> Scopes<'a, T>
+    pub fn new(alloc: Global) -> OpenBlocks<'a, T>
         ensures { blocks_of result ≡ [] }
     {
-        Scopes {
+        OpenBlocks {
             log: Vec::new(alloc),
             index: HashMap::new(alloc),
             depth: 0,

@@ -1,6 +1,6 @@
 use Rattle.pl0_names.proofs.Common.{arith, length, refl, reverse, ◌+◌}
 use Rattle.pl0_names.proofs.Logs.{nested_more, none_at, blocks_more, blocks_length}
-use Rattle.pl0_names.proofs.scopes.Scopes.enter.Goals as goal
+use Rattle.pl0_names.proofs.open_blocks.OpenBlocks.enter.Goals as goal
 use Rattle.std.proofs.lemmas.Grind.{common_steps}
 
 pub invariant_of-self : goal.invariant_of-self
