@@ -70,7 +70,7 @@ def wrong_hints(pl0: str):
         told = run(pl0, "check", "-", text=text.encode())
         if not told.stderr.endswith(f"` can't stand here; {hint}\n".encode()):
             yield f"of {text!r} is told {told.stderr!r}, where {hint!r} is wanted"
-    if len(rows) < 14:
+    if len(rows) < 6:
         yield f"only {len(rows)} rows of hints were found"
 
 
