@@ -104,7 +104,7 @@ def stack_loop(turns: int) -> str:
 
 
 def in_stack_slices(count: int) -> Run:
-    """That loop in slices of `debuggee`, with so many breakpoints behind it."""
+    """The loop of `stack_loop` in slices of `debuggee`, with so many breakpoints behind it."""
     return Run(f"a step of the stack language, in slices, breakpoints elsewhere: {count:,}", "language", stack_loop,
                (2_000, 6_000), ("10", str(count)), 7)
 

@@ -25,8 +25,8 @@ PROGRAMS = ("count", "links", "divide", "primes", "nested")
 
 def interpreter(room: str, name: str = "interpreter", compiler: str = "clang") -> str:
     """Builds an interpreter in C into a folder. At -O2, clang 14's plain one runs six of the seven programs of
-    bench/programs faster than gcc 12's, by up to 28 per cent; gcc's runs `fib` faster, by 8. Of the fused one gcc's
-    needs fewer instructions in most."""
+    bench/programs faster than gcc 12's, by up to 28 per cent; gcc's runs `fib` faster, by 8. gcc's
+    build of the fused one needs fewer instructions in most."""
     path = os.path.join(room, name)
     subprocess.run([compiler, "-O2", "-o", path, os.path.join(HERE, f"{name}.c")], check=True)
     return path

@@ -8,7 +8,7 @@ With --steps the programs are two builds of `speed`, and what is timed is each s
 in nanoseconds of the processor: a goal in instructions is met if no step takes longer, too. Else what is timed is what
 `session.py` times of starts, questions at a stop, ways to a stop and runs of a loop. Each request goes to one program
 and then to the other, beside `answer.c` where it can, so that whatever else the computer does slows all of them. The
-times of requests are in microseconds. Of each the best and the median are told.
+times of requests are in microseconds. The best and the median of each are told.
 """
 from __future__ import annotations
 

@@ -11,7 +11,7 @@ With --fast the program is about as fast as the proved one, since it is compiled
 out, and functions are inlined as their sources say. Where a check would have stopped it, it goes wrong. It is for
 counting instructions before anything is proved (`make instructions FAST=1`), and never for use. In a proved program
 other functions may be inlined: the kit drops `inline(always)` from one that would grow very large, and the compiler may
-decide otherwise. That one may be much slower, so what counts is counted once more when all is proved.
+decide otherwise. It may be much slower, so what counts is counted once more when all is proved.
 
 Prints how long it takes, and, where the program isn't built, what `rt try` said. The status is 1 where it isn't. A signal
 ends what runs, and removes what is half made.
