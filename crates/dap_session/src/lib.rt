@@ -1,5 +1,18 @@
 //! A session of the Debug Adapter Protocol: events in, frames and orders out.
 //!
+//! A session is driven over its ports until something closes it:
+//!
+//! ```
+//! use dap_session::{Closed, FirstSeq, drive};
+//!
+//! let first = FirstSeq::One;
+//! match drive(&rt, rt.alloc(), first, &mut inbox, &mut loader, &mut out, &mut orders) {
+//!     Ok(Closed::Disconnected) => println!(rt; "the client asked for it")?,
+//!     Ok(Closed::InputEnded | Closed::ReadFailed) => println!(rt; "no more comes from the client")?,
+//!     Err(fault) => println!(rt; "the session gave up: {fault:?}")?,
+//! }
+//! ```
+//!
 //! The one contract is that of [`drive`]: for every interleaving of the events of an inbox and the files of a loader, the
 //! frames put are those of the messages that the events cause, numbered from 1, the orders pushed are those that the events
 //! cause, and the result says what closed the session. [`Session::take`] has the same contract for one event. What events
