@@ -24,6 +24,10 @@ impl LoadLog {
     }
 
     /// Notes what a loader answers for a path, and returns that answer.
+    ///
+    /// # Errors
+    ///
+    /// The answer, if it is a fault.
     pub fn note(
         &mut self,
         path: &str,
