@@ -1,6 +1,24 @@
 //! The history of a session: which items its events give, what each item is answered with and causes, and the laws of
 //! all that a session sends.
 //!
+//! A client asks for the capabilities, and launches a program (`specs/WorkedSessions`). Each step of the history is an item
+//! with its answer and its effect, and what the history says of the present is computed:
+//!
+//! ```text
+//! begun : History
+//! begun =
+//!     taken 1 (command.Initialize from_one) (answered body.Capabilities)
+//!     ∷ record {
+//!       item = Loaded (record { seq = 2; arguments = arguments }) (Some text);
+//!       answer = Some (Answer 2 (name.Supported supported.Launch) (Ok body.None));
+//!       effect = launches arguments text program;
+//!     }
+//!     ∷ []
+//!
+//! configuring : situation begun ≡ Configuring
+//! configuring = refl
+//! ```
+//!
 //! The contracts are those of [`history_laws`], [`run_laws`] and [`command_laws`]. The definitions are in `specs`, in the
 //! order of `specs/Lib.antt`: what a step is (`History`), the readings of the items so far (`Readings`), a file for each
 //! topic of commands (`Launching` to `Inspection`), the reaction to each command (`Reactions`), reports (`Reports`), what
