@@ -1,5 +1,22 @@
 //! A program under a debugger, of any language: what the language gives, and a run that stops where it is first due.
 //!
+//! ```
+//! use debuggee::{Debuggee, Mode, Output, run};
+//! use std::alloc::{AllocError, Global};
+//!
+//! /// Runs a program to its end, or up to a step that fails, and returns what it prints.
+//! fn printed<D: Debuggee>(alloc: Global, program: &mut D) -> Result<Vec<Output>, AllocError> {
+//!     let mut told = Vec::new(alloc);
+//!     for _ in 0..u64::MAX {
+//!         match run(alloc, program, &mut Vec::new(alloc), Mode::Continue, &mut told)? {
+//!             None => {}
+//!             Some(_) => break,
+//!         }
+//!     }
+//!     Ok(told)
+//! }
+//! ```
+//!
 //! [`run`] promises (`Runs` in `specs/Runs.antt`), of each language and by the language's own steps: it takes one step at
 //! least, and halts at the first state in which a breakpoint stops the program (its condition holds or has no value, and its
 //! rule accepts the arrival) or that the mode asks for; or at the program's end; or at its fault. What the steps print and
