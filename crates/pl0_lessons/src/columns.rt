@@ -9,6 +9,10 @@ use std::alloc::AllocError;
 const GAP: usize = 2;
 
 /// Appends a text as [`put_right`] does, and the space to the next column.
+///
+/// # Errors
+///
+/// An allocation failed; a part of it may be appended.
 pub fn put_right_column(page: &mut Vec<u8>, width: usize, text: &[u8]) -> Result<(), AllocError>
     ensures { OnOk result (page.new.items ≡ page.old.items ++ column (right width text.now)) }
 {
@@ -17,6 +21,10 @@ pub fn put_right_column(page: &mut Vec<u8>, width: usize, text: &[u8]) -> Result
 }
 
 /// Appends a text as [`put_left`] does, and the space to the next column.
+///
+/// # Errors
+///
+/// An allocation failed; a part of it may be appended.
 pub fn put_left_column(page: &mut Vec<u8>, width: usize, text: &[u8]) -> Result<(), AllocError>
     ensures { OnOk result (page.new.items ≡ page.old.items ++ column (left width text.now)) }
 {
@@ -25,6 +33,10 @@ pub fn put_left_column(page: &mut Vec<u8>, width: usize, text: &[u8]) -> Result<
 }
 
 /// Appends a text at the right of a column of this width.
+///
+/// # Errors
+///
+/// An allocation failed; a part of it may be appended.
 pub fn put_right(page: &mut Vec<u8>, width: usize, text: &[u8]) -> Result<(), AllocError>
     ensures { OnOk result (page.new.items ≡ page.old.items ++ right width text.now) }
 {
@@ -33,6 +45,10 @@ pub fn put_right(page: &mut Vec<u8>, width: usize, text: &[u8]) -> Result<(), Al
 }
 
 /// Appends a text at the left of a column of this width.
+///
+/// # Errors
+///
+/// An allocation failed; a part of it may be appended.
 pub fn put_left(page: &mut Vec<u8>, width: usize, text: &[u8]) -> Result<(), AllocError>
     ensures { OnOk result (page.new.items ≡ page.old.items ++ left width text.now) }
 {
