@@ -11,6 +11,10 @@ use pl0_unit::Unit;
 use std::alloc::{AllocError, Global};
 
 /// Checks a program: it tells the warnings of its text, and ends with success.
+///
+/// # Errors
+///
+/// An allocation failed.
 pub fn check_program(alloc: Global, file: &str, unit: &Unit) -> Result<Report, AllocError>
     ensures { IfOk result (IsReport [] (warning_lines file.now unit.now.tree.text.items) Success) }
 {
