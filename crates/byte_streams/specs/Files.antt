@@ -19,8 +19,8 @@ abbrev pub plain_text : Result (Vec ℕ Global) FileFault → Result (List ℕ) 
 plain_text (Ok text) = Ok text.items
 plain_text (Err fault) = Err fault
 
--- Of each file, what was read up to the limit is given. By `opens` files are opened by their names, by `closes` they
--- are given back, and by `supply_of` it is known what was read of one until then.
+-- Files are read up to the limit. By `opens` they are opened by their names, by `closes` they are given back, and by
+-- `supply_of` it is known what was read of one until then.
 module _ {Files File : Type 0} (limit : ℕ) (opens : Files → List ℕ → Result File FileFault → Files → Type 0)
     (closes : Files → File → Files → Type 0) (supply_of : File → Supply) where
   -- The file of this name was opened, read and given back.
