@@ -41,8 +41,9 @@ left out, and the order is kept. This is passed on otherwise than it came:
 - The paths of the program and of breakpoints are made whole, by the launch's `cwd` or by the folder of this process,
   and steps `/./` are taken out.
 - Outputs that wait are joined, up to 128 KiB, those of several categories to one of `stdout`. After each stands a rest:
-  an editor gets at most 20 of them a second, and the adapter waits meanwhile. CodeLite takes no click before it has
-  shown all that it was sent.
+  an editor gets at most 20 of them a second, fewer the longer they come without a break, at least one, and again 20
+  once it sends something. The adapter waits meanwhile. CodeLite takes no click before it has shown all that it was
+  sent, and Kate keeps it all.
 
 With a PORT, moreover:
 
@@ -63,8 +64,10 @@ CHECKER, CHECKING = "pl0", 10  # the program, and the seconds that it gets
 IS_RIGHT, HAS_MISTAKE = 0, 2  # its status
 STANDARD = "-"
 WRONG_USAGE, NO_PORT, NO_ADAPTER = 4, 5, 6
-# How many frames wait at most, up to how many bytes of them are joined, and the rest after an output, in seconds.
-WAITING, JOINED, REST = 1024, 131_072, 0.05
+# How many frames wait at most, and up to how many bytes of them are joined.
+WAITING, JOINED = 1024, 131_072
+# The rest after an output in seconds, what part is added of the time for which outputs have come, and at most how much.
+REST, PART, MOST_ADDED = 0.05, 0.05, 1.0
 MIXED = "stdout"  # the category of outputs of several
 # The system's tables of connections, and how each writes the address 127.0.0.1.
 CONNECTIONS = {"/proc/net/tcp": "0100007F", "/proc/net/tcp6": "0000000000000000FFFF00000100007F"}
@@ -132,10 +135,12 @@ class Session:
         self.is_codelite = is_codelite
         self.program, self.folder = "", os.getcwd()
         self.asked: dict[int, dict] = {}  # the arguments of each request `setBreakpoints` that isn't answered yet
+        self.heard = threading.Event()  # whether the editor has sent something
         self.numbers = itertools.count(1)
 
     def to_adapter(self, content: bytes) -> list[bytes]:
         """A content of the editor's as the adapter gets it."""
+        self.heard.set()
         request = read_object(content)
         command, arguments = request.get("command"), request.get("arguments")
         if not isinstance(arguments, dict):
@@ -275,17 +280,24 @@ def together(waiting: queue.Queue[Frame | None]) -> list[Frame | None]:
     return some
 
 
-def joined(waiting: queue.Queue[Frame | None]) -> Iterator[Frame]:
-    """What comes through a queue up to None, where outputs that wait together are one, with a rest after it."""
+def joined(waiting: queue.Queue[Frame | None], heard: threading.Event) -> Iterator[Frame]:
+    """What comes through a queue up to None, where outputs that wait together are one, with a rest after it. It grows
+    until nothing waits, or the editor is heard, which also ends it."""
     some: list[Frame | None] = []
+    begin = time.monotonic()
     while None not in some:
+        is_new = waiting.empty() or heard.is_set()
         some = together(waiting)
+        if is_new:
+            heard.clear()
+            begin = time.monotonic()
         for are_outputs, group in itertools.groupby(filter(None, some), is_output):
             if not are_outputs:
                 yield from group
             else:
                 yield one_output(list(group))
                 time.sleep(REST)
+                heard.wait(min(PART * (time.monotonic() - begin), MOST_ADDED))
 
 
 def fetch(stream: BinaryIO, waiting: queue.Queue[Frame | None]) -> None:
@@ -326,7 +338,7 @@ def serve(editor: BinaryIO, output: BinaryIO, session: Session, command: list[st
     waiting: queue.Queue[Frame | None] = queue.Queue(WAITING)
     threading.Thread(target=take, args=(editor, adapter.stdin, session), daemon=True).start()
     threading.Thread(target=fetch, args=(adapter.stdout, waiting), daemon=True).start()
-    pass_on(joined(waiting), output, session.to_editor)
+    pass_on(joined(waiting, session.heard), output, session.to_editor)
     return adapter.wait()
 
 

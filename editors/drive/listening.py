@@ -25,6 +25,7 @@ import struct
 import subprocess
 import sys
 import tempfile
+import threading
 import time
 from collections.abc import Callable, Iterable, Iterator
 
@@ -228,11 +229,12 @@ def wrong_pace() -> Iterator[str]:
             waiting.put(listen.Frame(frame(content), content))
         waiting.put(None)
         begin = time.monotonic()
-        found = [json.loads(one.content) for one in listen.joined(waiting)]
+        found = [json.loads(one.content) for one in listen.joined(waiting, threading.Event())]
         yield from different("outputs, joined", (joined, PACED, "stdout"),
                              (len(found), found[-1]["seq"], found[-1]["body"]["category"]))
         yield from different("their text", True, "".join(one["body"]["output"] for one in found) == text * PACED)
-        yield from different("at most 20 outputs a second", True, time.monotonic() - begin >= joined / 20)
+        rests = joined / 20 + listen.PART * sum(turn / 20 for turn in range(joined))
+        yield from different("at most 20 outputs a second, and fewer with time", True, time.monotonic() - begin >= rests)
 
 
 def follow(session: str, got: str) -> None:
