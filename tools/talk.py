@@ -33,7 +33,11 @@ def main() -> int:
     if len(sys.argv) < 2:
         print(__doc__)
         return 1
-    client = Client(sys.argv[1:], stderr=None)
+    try:
+        client = Client(sys.argv[1:], stderr=None)
+    except OSError as error:
+        print(f"{sys.argv[1]} can't be started: {error.strerror}", file=sys.stderr)
+        return 1
     try:
         for line in sys.stdin:
             name, _, rest = line.strip().partition(" ")
