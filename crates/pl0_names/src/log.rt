@@ -1,39 +1,54 @@
-//! The declarations of the open blocks in their order, and the latest of each word.
+//! The declarations of the open blocks in their order, and what each word means.
 
 ghost use Rattle.std.specs.Prelude.{◌≡◌, ℕ, ◌+◌, ◌∷◌, List, reverse, IsSome, IsOk, OnOk, OnErr};
 ghost use Rattle.std.specs.Map.{update};
 ghost use Rattle.std.specs.Str.{bytes_eq};
-ghost use Rattle.pl0_names.specs.Logs.{blocks, latest, ends_at, index_of, IsNested, IsIndexed};
+ghost use Rattle.pl0_names.specs.Logs.{blocks, ends_at, is_at, index_of, IsNested, IsIndexed};
 
 use std::alloc::AllocError;
 use std::collections::HashMap;
 
-/// A declaration: its word and meaning, how many blocks are around its block, and the index of the declaration that it
-/// hides.
+/// What a word means: what it is declared as, and how many blocks are around the one that declares it.
+#[derive(Clone, Copy)]
+pub(crate) struct Placed<T: Copy> {
+    pub(crate) level: usize,
+    pub(crate) meaning: T,
+}
+
+/// A declaration: its word, what it means, and what it meant before.
 #[derive(Clone, Copy)]
 pub(crate) struct Entry<'a, T: Copy> {
     pub(crate) word: &'a str,
-    pub(crate) meaning: T,
-    pub(crate) level: usize,
-    pub(crate) hidden: Option<usize>,
+    pub(crate) placed: Placed<T>,
+    pub(crate) hidden: Option<Placed<T>>,
+}
+
+/// Whether the block with `level` blocks around it declares what a word means.
+pub(crate) fn is_at<T: Copy>(placed: &Option<Placed<T>>, level: usize) -> bool
+    ensures { result ≡ is_at level placed.now }
+{
+    match placed {
+        None => false,
+        Some(placed) => placed.level == level,
+    }
 }
 
 /// Adds a declaration. An error, out of memory, leaves the log as it was.
 pub(crate) fn put<'a, T: Copy>(
     log: &mut Vec<Entry<'a, T>>,
-    index: &mut HashMap<&'a str, usize>,
+    index: &mut HashMap<&'a str, Placed<T>>,
     entry: Entry<'a, T>,
 ) -> Result<(), AllocError>
-    requires indexed { IsIndexed index.old (reverse log.old.items) }
-    requires hidden { entry.hidden ≡ latest (reverse log.old.items) entry.word.now }
-    ensures indexed { IsIndexed index.new (reverse log.new.items) }
+    requires indexed { IsIndexed (entry.placed.level + 1) index.old (reverse log.old.items) }
+    requires hidden { entry.hidden ≡ index_of index.old entry.word.now }
+    ensures indexed { IsIndexed (entry.entry.placed.level + 1) index.new (reverse log.new.items) }
     ensures ok { OnOk result (reverse log.new.items ≡ entry.entry ∷ reverse log.old.items) }
     ensures err { OnErr result (log.new.items ≡ log.old.items) }
 {
-    let at = log.len();
     let word = entry.word;
+    let placed = entry.placed;
     log.push(entry)?;
-    match index.insert(word, at) {
+    match index.insert(word, placed) {
         Ok(_) => Ok(()),
         Err(_) => {
             let _ = log.pop();
@@ -45,12 +60,12 @@ pub(crate) fn put<'a, T: Copy>(
 /// Removes the declarations of the innermost block, which has `level` blocks around it.
 pub(crate) fn cut<'a, T: Copy>(
     log: &mut Vec<Entry<'a, T>>,
-    index: &mut HashMap<&'a str, usize>,
+    index: &mut HashMap<&'a str, Placed<T>>,
     level: usize,
 )
-    requires indexed { IsIndexed index.old (reverse log.old.items) }
+    requires indexed { IsIndexed (level + 1) index.old (reverse log.old.items) }
     requires nested { IsNested (level + 1) (reverse log.old.items) }
-    ensures indexed { IsIndexed index.new (reverse log.new.items) }
+    ensures indexed { IsIndexed level index.new (reverse log.new.items) }
     ensures nested { IsNested level (reverse log.new.items) }
     ensures outer { blocks level (reverse log.new.items) ≡ blocks level (reverse log.old.items) }
 {
@@ -67,22 +82,23 @@ fn ends_at<T: Copy>(log: &[Entry<T>], level: usize) -> bool
 {
     match log.last() {
         None => false,
-        Some(entry) => entry.level == level,
+        Some(entry) => entry.placed.level == level,
     }
 }
 
-/// Removes a declaration, the latest of its word, from the index: the one that it hides is the latest then.
-fn restore<'a, T: Copy>(index: &mut HashMap<&'a str, usize>, entry: Entry<'a, T>)
+/// Removes a declaration from the index: its word means again what it meant before.
+fn restore<'a, T: Copy>(index: &mut HashMap<&'a str, Placed<T>>, entry: Entry<'a, T>)
     requires { IsSome (index_of index.old entry.word.now) }
     ensures { (w : List ℕ) → index_of index.new w
         ≡ update bytes_eq (index_of index.old) entry.entry.word.now entry.entry.hidden w }
 {
+    let word = entry.word;
     match entry.hidden {
         None => {
-            let _ = index.remove(entry.word);
+            let _ = index.remove(word);
         }
-        Some(at) => {
-            let _ = index.insert(entry.word, at);
+        Some(placed) => {
+            let _ = index.insert(word, placed);
         }
     }
 }

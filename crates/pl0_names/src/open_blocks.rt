@@ -3,7 +3,7 @@
 ghost use Rattle.std.specs.Prelude.{◌≡◌, ◌+◌, ◌<◌, ◌^◌, [], ◌∷◌, IsOk, OnOk, OnErr, drop, length};
 ghost use Rattle.pl0_names.specs.Blocks.{blocks_of, found_in, no_names, declared_in};
 
-use crate::log::{Entry, cut, put};
+use crate::log::{Entry, Placed, cut, is_at, put};
 use std::alloc::{AllocError, Global};
 use std::collections::HashMap;
 use std::marker::Model;
@@ -19,7 +19,7 @@ pub struct Found<T> {
 #[derive(Drop)]
 pub struct OpenBlocks<'a, T: Copy> {
     log: Vec<Entry<'a, T>>,
-    index: HashMap<&'a str, usize>,
+    index: HashMap<&'a str, Placed<T>>,
     depth: usize,
 }
 
@@ -79,15 +79,13 @@ impl<'a, T: Copy> OpenBlocks<'a, T> {
         }
         let level = self.depth - 1;
         let hidden = self.index.get(word).copied();
-        if let Some(at) = hidden
-            && self.log[at].level == level
-        {
+        if is_at(&hidden, level) {
             return Ok(());
         }
+        let placed = Placed { level, meaning };
         let entry = Entry {
             word,
-            meaning,
-            level,
+            placed,
             hidden,
         };
         put(&mut self.log, &mut self.index, entry)
@@ -97,12 +95,11 @@ impl<'a, T: Copy> OpenBlocks<'a, T> {
     pub fn find(&self, word: &str) -> Option<Found<T>>
         ensures { result ≡ found_in 0 (blocks_of self.now) word.now }
     {
-        let at = *self.index.get(word)?;
-        let entry = &self.log[at];
-        let level = self.depth - (entry.level + 1);
+        let placed = *self.index.get(word)?;
+        let level = self.depth - (placed.level + 1);
         Some(Found {
             level,
-            declared: entry.meaning,
+            declared: placed.meaning,
         })
     }
 
