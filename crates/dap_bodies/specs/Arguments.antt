@@ -15,9 +15,13 @@ text_at key arguments = option_and_then as_str (member_at key arguments)
 abbrev pub whole_at : List ℕ → Option Data → Option ℕ
 whole_at key arguments = option_and_then (λ v. option_and_then as_u64 (as_number v)) (member_at key arguments)
 
+-- the truth value at a key, or the one that stands for none
+abbrev pub truth_or : Bool → List ℕ → Option Data → Bool
+truth_or none key arguments = unwrap_or (option_and_then as_bool (member_at key arguments)) none
+
 -- the truth value at a key; false where there is none
 abbrev pub truth_at : List ℕ → Option Data → Bool
-truth_at key arguments = unwrap_or (option_and_then as_bool (member_at key arguments)) false
+truth_at key arguments = truth_or false key arguments
 
 -- the list at a key; an empty one where there is none
 abbrev pub list_at : List ℕ → Option Data → Items

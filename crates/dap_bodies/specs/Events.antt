@@ -2,6 +2,7 @@
 use Rattle.std.specs.Prelude.{ℕ, true, List, codes, Option, None, Some}
 use Rattle.serde_json.specs.Data.{Data, boolean, number, unsigned, string, object, Members, no_members, member}
 use Rattle.dap_server.specs.Messages.{PlainEvent}
+use Rattle.dap_bodies.specs.Sizes.{shown_text}
 
 -- the number of the one thread
 abbrev pub thread : ℕ
@@ -24,7 +25,7 @@ output category text = record {
 abbrev pub stop_end : Option (List ℕ) → Members
 stop_end None = member (codes "threadId") (number (unsigned thread)) no_members
 stop_end (Some text) =
-    member (codes "text") (string text) (member (codes "threadId") (number (unsigned thread)) no_members)
+    member (codes "text") (string (shown_text text)) (member (codes "threadId") (number (unsigned thread)) no_members)
 
 -- the body of a stop: its reason, and perhaps a text that says more
 abbrev pub stop_body : List ℕ → Option (List ℕ) → Data

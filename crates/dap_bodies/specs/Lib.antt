@@ -1,3 +1,5 @@
+-- how much of a text and of a list is shown
+pub mod Sizes
 -- events of a debuggee with one thread
 pub mod Events
 -- bodies of responses

@@ -2,7 +2,7 @@
 
 ghost use Rattle.std.specs.Prelude.{◌≡◌, option_map, unwrap_or};
 ghost use Rattle.serde_json.specs.View.{view, items_view};
-ghost use Rattle.dap_bodies.specs.Arguments.{list_at, member_at, text_at, truth_at, whole_at};
+ghost use Rattle.dap_bodies.specs.Arguments.{list_at, member_at, text_at, truth_at, truth_or, whole_at};
 
 use serde_json::Value;
 
@@ -31,9 +31,16 @@ pub fn whole(arguments: Option<&Value>, key: &str) -> Option<u64>
 pub fn truth(arguments: Option<&Value>, key: &str) -> bool
     ensures { result ≡ truth_at key.now (option_map (λ v. view v.now) arguments.entry) }
 {
+    truth_or(arguments, key, false)
+}
+
+/// Returns the truth value at a key; `none` where there is none.
+pub fn truth_or(arguments: Option<&Value>, key: &str, none: bool) -> bool
+    ensures { result ≡ truth_or none key.now (option_map (λ v. view v.now) arguments.entry) }
+{
     member(arguments, key)
         .and_then(Value::as_bool)
-        .unwrap_or(false)
+        .unwrap_or(none)
 }
 
 /// Returns the list at a key; an empty one where there is none.

@@ -5,6 +5,7 @@ ghost use Rattle.serde_json.specs.View.{view};
 ghost use Rattle.dap_server.specs.Messages.{plain_event};
 ghost use Rattle.dap_bodies.specs.Events.{initialized, output, stopped, stop_body, exited, terminated};
 
+use crate::cutting::shown_text;
 use dap_server::Event;
 use serde_json::{Value, json};
 use std::alloc::{AllocError, Global};
@@ -43,12 +44,15 @@ fn stop_body(alloc: Global, reason: &str, text: Option<&str>) -> Result<Value, A
         view body ≡ stop_body reason.now (option_map (λ t. t.now) text.entry)) }
 {
     match text {
-        Some(text) => json!(in alloc; {
-            "allThreadsStopped": true,
-            "reason": reason,
-            "text": text,
-            "threadId": THREAD
-        }),
+        Some(text) => {
+            let text = shown_text(String::from_str(alloc, text)?)?;
+            json!(in alloc; {
+                "allThreadsStopped": true,
+                "reason": reason,
+                "text": text,
+                "threadId": THREAD
+            })
+        }
         None => json!(in alloc; {
             "allThreadsStopped": true,
             "reason": reason,

@@ -24,13 +24,15 @@
 #![tactic(auto)]
 
 mod arguments;
+mod cutting;
 mod events;
 mod laws;
 mod placing;
 mod showing;
 mod values;
 
-pub use arguments::{list, member, text, truth, whole};
+pub use arguments::{list, member, text, truth, truth_or, whole};
+pub use cutting::{shown_text, split_text};
 pub use events::{THREAD, exited, initialized, output, stopped, terminated};
 pub use laws::worked_bodies;
 pub use placing::{Breakpoint, breakpoints};

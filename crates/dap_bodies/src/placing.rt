@@ -4,9 +4,13 @@ ghost use Rattle.std.specs.Prelude.{◌≡◌, IfOk, codes, map};
 ghost use Rattle.serde_json.specs.View.{view};
 ghost use Rattle.dap_bodies.specs.Bodies.{plain_shown_breakpoint, breakpoints, body_of};
 
-use crate::values::{Shown, array_of};
+use crate::cutting::shown_text;
+use crate::values::{Row, Shown, list_of};
 use serde_json::{Value, json};
 use std::alloc::{AllocError, Global};
+
+/// How many bytes a row takes at most where it is written, without those of its text.
+const BREAKPOINT_SIZE: usize = 107;
 
 /// What became of a breakpoint that was asked for.
 #[derive(Drop)]
@@ -22,10 +26,18 @@ impl Shown for Breakpoint {
 
     ghost shown = { λ breakpoint. breakpoint_value (plain_shown_breakpoint breakpoint) };
 
-    fn into_value(self, alloc: Global) -> Result<Value, AllocError> {
+    fn into_row(self, alloc: Global) -> Result<Row, AllocError> {
         match self {
-            Breakpoint::SetAt(line) => json!(in alloc; {"line": line, "verified": true}),
-            Breakpoint::Refused(why) => json!(in alloc; {"message": why, "verified": false}),
+            Breakpoint::SetAt(line) => Ok(Row {
+                value: json!(in alloc; {"line": line, "verified": true})?,
+                size: BREAKPOINT_SIZE,
+            }),
+            Breakpoint::Refused(why) => {
+                let why = shown_text(why)?;
+                let size = BREAKPOINT_SIZE + 6 * why.len();
+                let value = json!(in alloc; {"message": why, "verified": false})?;
+                Ok(Row { value, size })
+            }
         }
     }
 }
@@ -34,7 +46,7 @@ impl Shown for Breakpoint {
 pub fn breakpoints(alloc: Global, all: Vec<Breakpoint>) -> Result<Value, AllocError>
     ensures { IfOk result (λ body. view body ≡ breakpoints (map plain_shown_breakpoint all.items)) }
 {
-    breakpoints_body(alloc, array_of(alloc, all)?)
+    breakpoints_body(alloc, list_of(alloc, all)?)
 }
 
 /// Returns the body with this array of breakpoints.

@@ -2,12 +2,20 @@
 
 ghost use Rattle.std.specs.Prelude.{◌≡◌, IfOk, codes, map, string_bytes};
 ghost use Rattle.serde_json.specs.View.{view};
-ghost use Rattle.dap_bodies.specs.Bodies.{plain_shown_frame, stack_trace, plain_shown_scope, scopes, plain_shown_variable, variables, evaluated, exception_info, threads, body_of, stack_body};
+ghost use Rattle.dap_bodies.specs.Bodies.{frame_members, plain_shown_frame, stack_trace, plain_shown_scope, scopes, plain_shown_variable, variables, evaluated, exception_info, threads, body_of, stack_body};
 
+use crate::cutting::shown_text;
 use crate::events::THREAD;
-use crate::values::{Shown, array_of};
+use crate::values::{Row, Shown, list_of};
 use serde_json::{Value, json};
 use std::alloc::{AllocError, Global};
+
+/// How many bytes a row takes at most where it is written, without those of its texts.
+const FRAME_SIZE: usize = 248;
+
+const SCOPE_SIZE: usize = 227;
+
+const VARIABLE_SIZE: usize = 200;
 
 /// A frame of the stack.
 #[derive(Drop)]
@@ -27,29 +35,50 @@ impl Shown for StackFrame {
 
     ghost shown = { λ frame. frame_value (plain_shown_frame frame) };
 
-    fn into_value(self, alloc: Global) -> Result<Value, AllocError> {
-        let StackFrame {
-            id,
-            name,
-            path,
-            line,
-            column,
-        } = self;
-        json!(in alloc; {
-            "column": column,
-            "id": id,
-            "line": line,
-            "name": name,
-            "source": {"path": path}
-        })
+    fn into_row(self, alloc: Global) -> Result<Row, AllocError> {
+        let name = shown_text(self.name)?;
+        let path = shown_text(self.path)?;
+        let size = FRAME_SIZE + 6 * (name.len() + path.len());
+        let (id, line, column) = (self.id, self.line, self.column);
+        let value = frame_members(
+            alloc,
+            StackFrame {
+                id,
+                name,
+                path,
+                line,
+                column,
+            },
+        )?;
+        Ok(Row { value, size })
     }
+}
+
+/// Returns a frame as a value, with whole texts.
+fn frame_members(alloc: Global, frame: StackFrame) -> Result<Value, AllocError>
+    ensures { IfOk result (λ value. view value ≡ frame_members (plain_shown_frame frame)) }
+{
+    let StackFrame {
+        id,
+        name,
+        path,
+        line,
+        column,
+    } = frame;
+    json!(in alloc; {
+        "column": column,
+        "id": id,
+        "line": line,
+        "name": name,
+        "source": {"path": path}
+    })
 }
 
 /// Returns the body for `stackTrace`: these frames, of this many in all.
 pub fn stack_trace(alloc: Global, frames: Vec<StackFrame>, total: u64) -> Result<Value, AllocError>
     ensures { IfOk result (λ body. view body ≡ stack_trace (map plain_shown_frame frames.items) total) }
 {
-    stack_body(alloc, array_of(alloc, frames)?, total)
+    stack_body(alloc, list_of(alloc, frames)?, total)
 }
 
 /// Returns the body with this array of frames.
@@ -73,13 +102,15 @@ impl Shown for Scope {
 
     ghost shown = { λ scope. scope_value (plain_shown_scope scope) };
 
-    fn into_value(self, alloc: Global) -> Result<Value, AllocError> {
-        let Scope { name, reference } = self;
-        json!(in alloc; {
+    fn into_row(self, alloc: Global) -> Result<Row, AllocError> {
+        let name = shown_text(self.name)?;
+        let size = SCOPE_SIZE + 6 * name.len();
+        let value = json!(in alloc; {
             "expensive": false,
             "name": name,
-            "variablesReference": reference
-        })
+            "variablesReference": self.reference
+        })?;
+        Ok(Row { value, size })
     }
 }
 
@@ -87,7 +118,7 @@ impl Shown for Scope {
 pub fn scopes(alloc: Global, all: Vec<Scope>) -> Result<Value, AllocError>
     ensures { IfOk result (λ body. view body ≡ scopes (map plain_shown_scope all.items)) }
 {
-    scopes_body(alloc, array_of(alloc, all)?)
+    scopes_body(alloc, list_of(alloc, all)?)
 }
 
 /// Returns the body with this array of scopes.
@@ -111,17 +142,20 @@ impl Shown for Variable {
 
     ghost shown = { λ variable. variable_value (plain_shown_variable variable) };
 
-    fn into_value(self, alloc: Global) -> Result<Value, AllocError> {
+    fn into_row(self, alloc: Global) -> Result<Row, AllocError> {
         let Variable {
             name,
             value,
             reference,
         } = self;
-        json!(in alloc; {
+        let (name, value) = (shown_text(name)?, shown_text(value)?);
+        let size = VARIABLE_SIZE + 6 * (name.len() + value.len());
+        let value = json!(in alloc; {
             "name": name,
             "value": value,
             "variablesReference": reference
-        })
+        })?;
+        Ok(Row { value, size })
     }
 }
 
@@ -129,7 +163,7 @@ impl Shown for Variable {
 pub fn variables(alloc: Global, all: Vec<Variable>) -> Result<Value, AllocError>
     ensures { IfOk result (λ body. view body ≡ variables (map plain_shown_variable all.items)) }
 {
-    variables_body(alloc, array_of(alloc, all)?)
+    variables_body(alloc, list_of(alloc, all)?)
 }
 
 /// Returns the body with this array of variables.
@@ -144,6 +178,7 @@ fn variables_body(alloc: Global, all: Value) -> Result<Value, AllocError>
 pub fn evaluated(alloc: Global, value: String, reference: u64) -> Result<Value, AllocError>
     ensures { IfOk result (λ body. view body ≡ evaluated (string_bytes value) reference) }
 {
+    let value = shown_text(value)?;
     json!(in alloc; {"result": value, "variablesReference": reference})
 }
 
@@ -151,6 +186,8 @@ pub fn evaluated(alloc: Global, value: String, reference: u64) -> Result<Value, 
 pub fn exception_info(alloc: Global, id: &str, description: &str) -> Result<Value, AllocError>
     ensures { IfOk result (λ body. view body ≡ exception_info id.now description.now) }
 {
+    let description = shown_text(String::from_str(alloc, description)?)?;
+    let id = shown_text(String::from_str(alloc, id)?)?;
     json!(in alloc; {"breakMode": "always", "description": description, "exceptionId": id})
 }
 

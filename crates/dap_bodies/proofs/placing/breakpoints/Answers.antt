@@ -8,5 +8,5 @@ use Rattle.dap_bodies.proofs.placing.breakpoints.Goals as goal
 pub returns : goal.returns
 returns c =
     subst (λ d. IfOk c.breakpoints_body.result (λ body. view body ≡ body_of (codes "breakpoints") d))
-    (all_shown breakpoint_value plain_shown_breakpoint c.args.all.items _ c.in_ok-array_of.ensures)
+    (all_shown breakpoint_value plain_shown_breakpoint c.args.all.items _ c.in_ok-list_of.ensures)
     c.breakpoints_body.ensures

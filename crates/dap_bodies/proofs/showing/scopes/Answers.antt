@@ -8,4 +8,4 @@ use Rattle.dap_bodies.proofs.showing.scopes.Goals as goal
 pub returns : goal.returns
 returns c =
     subst (λ d. IfOk c.scopes_body.result (λ body. view body ≡ body_of (codes "scopes") d))
-    (all_shown scope_value plain_shown_scope c.args.all.items _ c.in_ok-array_of.ensures) c.scopes_body.ensures
+    (all_shown scope_value plain_shown_scope c.args.all.items _ c.in_ok-list_of.ensures) c.scopes_body.ensures

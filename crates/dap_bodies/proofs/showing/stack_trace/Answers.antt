@@ -8,4 +8,4 @@ use Rattle.dap_bodies.proofs.showing.stack_trace.Goals as goal
 pub returns : goal.returns
 returns c =
     subst (λ d. IfOk c.stack_body.result (λ body. view body ≡ stack_body d c.args.total))
-    (all_shown frame_value plain_shown_frame c.args.frames.items _ c.in_ok-array_of.ensures) c.stack_body.ensures
+    (all_shown frame_value plain_shown_frame c.args.frames.items _ c.in_ok-list_of.ensures) c.stack_body.ensures

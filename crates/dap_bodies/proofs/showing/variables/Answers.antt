@@ -8,4 +8,4 @@ use Rattle.dap_bodies.proofs.showing.variables.Goals as goal
 pub returns : goal.returns
 returns c =
     subst (λ d. IfOk c.variables_body.result (λ body. view body ≡ body_of (codes "variables") d))
-    (all_shown variable_value plain_shown_variable c.args.all.items _ c.in_ok-array_of.ensures) c.variables_body.ensures
+    (all_shown variable_value plain_shown_variable c.args.all.items _ c.in_ok-list_of.ensures) c.variables_body.ensures
