@@ -90,6 +90,7 @@ rows: $(PROGRAM) $(FROM_ZERO) $(PL0) $(STACK)
 	diff -r -x fault.pl0 -x mistake.pl0 -x procedures.pl0 examples crates/check_runs/data
 	python3 checks/pl0_pages.py $(PL0)
 	python3 checks/stack_pause.py $(STACK)
+	python3 checks/stack_sizes.py $(STACK)
 
 # Hostile headers, contents, types, numbers, sizes, situations, cuts and ends, with what docs/PROTOCOL.md says of each, also behind
 # editors/listen.py; those of frames to the example stack_adapter; and strangers, lengths and floods that come to listen.py.

@@ -34,7 +34,8 @@ EXPRESSIONS = ["n", "a", "b", "c", "z", "n", "a", "", "nn", "N", "1", " n", "é"
 RULES = ["2", "2", "3", "=2", "%2", "%3"]
 OTHER_RULES = ["", "1", "=1", "% 2", " 2 ", "0", "=0", "%0", "x", "-1", "%", "=", "18446744073709551615",
                "18446744073709551616"]
-MESSAGES = ["here", "n is {n}", "{a}{b}", "{", "}", "{zz}", "a { b", "{n} and {n", "", "{}", "é {n}", "x" * 65_535 + "é"]
+MESSAGES = ["here", "n is {n}", "{a}{b}", "{", "}", "{zz}", "a { b", "{n} and {n", "", "{}", "é {n}", "x" * 65_535 + "é",
+            "x" * 65_533 + "é{"]
 SOME_VALUES = [None, True, 0, 1, 2, 17, -1, 1.5, 2**63, 2**64, "", "n", [], {}, [1]]
 
 
@@ -179,7 +180,7 @@ class Player:
 
     def play(self) -> str | None:
         """Plays a session, and says what is wrong, if anything is."""
-        wrong = self.send(("initialize", {"adapterID": "stack"})) or self.receive()
+        wrong = self.send(("initialize", self.greeting())) or self.receive()
         for _ in range(self.make.randint(5, 40)):
             wrong = wrong or self.send(*self.some()) or self.receive()
         wrong = wrong or self.send(("disconnect", None))
@@ -187,6 +188,11 @@ class Player:
             wrong = self.next()
         end = self.client.end()
         return wrong or (None if end == (b"", 0, "") else f"the end is {end}")
+
+    def greeting(self) -> dict:
+        """What `initialize` says: how the client counts, or nothing of that."""
+        counts = {key: self.make.choice([True, False]) for key in ("linesStartAt1", "columnsStartAt1")}
+        return {"adapterID": "stack"} | self.make.choice([{}, {}, counts, {"linesStartAt1": 0}])
 
     def send(self, *requests: tuple) -> str | None:
         """Sends requests by one write."""
@@ -274,6 +280,8 @@ class Player:
             if make.random() < 0.03:
                 return {"source": source, "lines": [1, 2]}
             return {"source": source, "breakpoints": [self.breakpoint() for _ in range(make.randint(0, 8))]}
+        if command == "initialize":
+            return self.greeting()
         if command == "stackTrace":
             return {"threadId": self.thread()} | self.perhaps("startFrame", [0, 1, 2, 1000]) | self.perhaps("levels", [0, 1, 2, 20])
         if command == "scopes":

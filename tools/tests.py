@@ -101,6 +101,7 @@ PARTS = [
     script("nonblocking", "pl0dap"),
     script("stack_sessions", "stack_adapter", "40"),
     script("stack_pause", "stack_adapter"),
+    script("stack_sizes", "stack_adapter"),
     Part("adapter_kit", "", (sys.executable, "tools/adapter_kit.py", "--test")),
     Part("pages", "", ("make", "--no-print-directory", "pages"), needs="pl0"),
 ]

@@ -19,6 +19,9 @@ RESUMING = ("continue", "next", "stepIn", "stepOut")
 INSPECTING = ("stackTrace", "scopes", "variables", "evaluate")
 SCOPES = 16  # of a frame, at most
 MOST_MESSAGE = 65_536  # bytes
+MOST_OUTPUT = 65_536  # bytes of one event
+LARGEST = 2**64 - 1
+LIST, FRAME = 1_000_000, 248  # bytes of a list, and of a frame's row without its texts, at most
 MOST_ARRIVALS = 10**6  # which no breakpoint has in a session
 DECIMAL = re.compile(r"[1-9][0-9]*\Z", re.ASCII)
 BRACES = re.compile(r"([^{]*)\{([^}]*)\}")
@@ -71,6 +74,7 @@ class World(NamedTuple):
     mode: tuple[str, int] = ("continue", 0)
     fault: str | None = None
     breakpoints: tuple[Breakpoint, ...] = ()
+    less: tuple[int, int] = (0, 0)  # than from 1 the client counts lines and columns
     pending: tuple[str, ...] = ()
 
     def having(self, **changes: object) -> World:
@@ -258,7 +262,8 @@ def unsupported(world: World, given: dict, folder: str) -> tuple[dict | None, li
 
 
 def initialize(world: World, given: dict, folder: str) -> tuple[dict | None, list[dict], World]:
-    return CAPABILITIES, [], world
+    less = tuple(int(given.get(key) is False) for key in ("linesStartAt1", "columnsStartAt1"))
+    return CAPABILITIES, [], world.having(less=less)
 
 
 CAPABILITIES = {
@@ -297,7 +302,7 @@ def launch(world: World, given: dict, folder: str) -> tuple[dict | None, list[di
         raise Refused("the program isn't UTF-8") from None
     except Mistake as mistake:
         raise Refused(f"line {mistake} is no instruction") from None
-    loaded = World("configuring", given.get("stopOnEntry") is True, path, program)
+    loaded = World("configuring", given.get("stopOnEntry") is True, path, program, less=world.less)
     return None, [event("initialized")], loaded
 
 
@@ -326,7 +331,7 @@ def set_one(world: World, asked: dict) -> tuple[dict, Breakpoint | None]:
     asked_line = whole_at(asked, "line")
     if asked_line is None:
         return unset("`line` is missing"), None
-    line = max(asked_line - 1, 0)
+    line = max(min(asked_line + world.less[0], LARGEST) - 1, 0)
     place = next((at for at in range(line, len(world.program)) if world.program[at] is not None), None)
     if place is None:
         return unset("no place is at this line or after it"), None
@@ -341,7 +346,7 @@ def set_one(world: World, asked: dict) -> tuple[dict, Breakpoint | None]:
         return unset(NO_VARIABLE), None
     message = text_at(asked, "logMessage")
     parts = parts_of(message) if message else None
-    return {"line": place + 1, "verified": True}, Breakpoint(place, condition, rule, 0, parts)
+    return {"line": place + 1 - world.less[0], "verified": True}, Breakpoint(place, condition, rule, 0, parts)
 
 
 def rule_of(text: str) -> tuple[str, int] | None:
@@ -428,9 +433,20 @@ def stack_trace(world: World, given: dict) -> dict:
     first, levels = whole_at(given, "startFrame") or 0, whole_at(given, "levels") or world.depth()
     lines = list(world.state.lines())
     called = [f"line {world.program[line].operand + 1}" for line in lines[1:]]
-    frames = [{"column": 1, "id": index + 1, "line": line + 1, "name": name, "source": {"path": world.path}}
-              for index, (line, name) in enumerate(zip(lines, [*called, "main"]))]
-    return {"stackFrames": frames[first:first + levels], "totalFrames": world.depth()}
+    frames = [{"column": 1 - world.less[1], "id": index + 1, "line": line + 1 - world.less[0], "name": name,
+               "source": {"path": world.path}} for index, (line, name) in enumerate(zip(lines, [*called, "main"]))]
+    return {"stackFrames": fitting(frames[first:first + levels]), "totalFrames": world.depth()}
+
+
+def fitting(frames: list[dict]) -> list[dict]:
+    """As many frames as fit into an answer, by six bytes for each of a text's."""
+    room = LIST
+    for index, one in enumerate(frames):
+        size = FRAME + 6 * len((one["name"] + one["source"]["path"]).encode())
+        if size >= room:
+            return frames[:index]
+        room -= size + 1
+    return frames
 
 
 def scopes(world: World, given: dict) -> dict:
@@ -487,6 +503,7 @@ class Session:
         self.worlds = {World()}
         self.asked: collections.deque[Request] = collections.deque()
         self.sent = 0
+        self.cut = ""  # what was told of a text whose end follows in the next event
 
     def phases(self) -> set[str]:
         return {world.phase for world in self.worlds}
@@ -503,6 +520,15 @@ class Session:
         self.sent += 1
         if message.get("seq") != self.sent:
             return f"number {self.sent} must leave, and not {message}"
+        if message.get("event") == "output":
+            body = message["body"]
+            if len(body["output"].encode()) > MOST_OUTPUT:
+                return f"an output has more than {MOST_OUTPUT} bytes"
+            if not body["output"].endswith("\n") and len(body["output"].encode()) > MOST_OUTPUT - 4:
+                self.cut += body["output"]
+                return None
+            message = message | {"body": body | {"output": self.cut + body["output"]}}
+            self.cut = ""
         wrong = (self.take_piece(piece) for piece in pieces(message))
         return next(filter(None, wrong), None)
 

@@ -2,6 +2,7 @@
 use Rattle.std.specs.Prelude.{min, slice_get, codes, Result, Ok, Err}
 use Rattle.std.proofs.Common.{◌≡◌, ◌+◌, ℕ, Bool, true, false, List, [], ◌∷◌, ◌++◌, ◌∙◌, refl, sym, ap, map, arith, Option, None, Some, inl, inr}
 use Rattle.serde_json.specs.Data.{Data}
+use Rattle.dap_bodies.specs.Events.{output}
 use Rattle.dap_server.specs.Messages.{PlainEvent, PlainReply}
 use Rattle.debuggee.specs.Plain.{PlainBreakpoint, PlainEvaluated, PlainFault, Value, NoValue, PlainHalt, AtBreakpoint, AtStep, AtEnd, AtFault, PlainOutput, Printed, Logged}
 use Rattle.debuggee.specs.Due.{Sight}
@@ -14,6 +15,7 @@ use Rattle.dap_debug.specs.declared.command.Resume.{Resume}
 use Rattle.dap_debug.specs.declared.command.Question.{Question}
 use Rattle.dap_debug.specs.declared.command.Question.TheVariants as question
 use Rattle.dap_debug.specs.declared.launching.Unread.{Unread}
+use Rattle.dap_debug.specs.declared.state.Counting.{Counting}
 use Rattle.dap_debug.specs.declared.state.Phase.{Phase}
 use Rattle.dap_debug.specs.declared.state.Phase.TheVariants as phase
 use Rattle.dap_debug.specs.Breakpoints.{SetsIn, Own, Other, SetsOnly, SetsFrom}
@@ -26,17 +28,25 @@ use Rattle.dap_debug.specs.Commands.{checked}
 use Rattle.dap_debug.specs.Replies.{Answers, Known, RepliesTo}
 use Rattle.dap_debug.specs.Running.{EntersFrom, GoesFrom, GoesOn, WorksOn, StartsFrom, ResumesFrom, PausesFrom, TerminatesFrom, IsRefused, ended, mode_of, phase_after}
 use Rattle.dap_debug.specs.Standings.{Standing, program_in}
-use Rattle.dap_debug.specs.Telling.{event_of, merged, told_end, told_of}
+use Rattle.dap_debug.specs.Telling.{TellAll, Tells, category_of, merged, told_end}
 use Rattle.dap_debug.specs.Laws.{ends_told, owed, asks}
 
 ends_append : (xs ys : List PlainEvent) → ends_told (xs ++ ys) ≡ ends_told xs + ends_told ys
 ends_append [] ys = omega arith
 ends_append (x ∷ xs) ys = let more = ends_append xs ys in omega (arith, more)
 
-none_in_outputs : (texts : List PlainOutput) → ends_told (map event_of texts) ≡ 0
-none_in_outputs [] = refl
-none_in_outputs (Printed text ∷ texts) = let more = none_in_outputs texts in omega (arith, more)
-none_in_outputs (Logged text ∷ texts) = let more = none_in_outputs texts in omega (arith, more)
+none_in_pieces : (category : List ℕ) (pieces : List (List ℕ)) → ends_told (map (output category) pieces) ≡ 0
+none_in_pieces category [] = refl
+none_in_pieces category (piece ∷ pieces) = let more = none_in_pieces category pieces in omega (arith, more)
+
+none_in_texts : (told : List PlainOutput) (events : List PlainEvent) → TellAll told events → ends_told events ≡ 0
+none_in_texts [] events is = ap ends_told is
+none_in_texts (text ∷ told) events is =
+    let first = ap ends_told is.2.2 ∙ none_in_pieces (category_of text) is.2.0 in
+    let more = none_in_texts told is.1 is.3 in
+    let both = ends_append is.0 is.1 in
+    let all = ap ends_told is.4 in
+    omega (arith, first, more, both, all)
 
 one_end : {S : Type 0} (halt : Option PlainHalt) (a : S) (how : Mode)
     → owed (phase_after halt a how) + ends_told (told_end halt) ≡ 1
@@ -46,13 +56,14 @@ one_end (Some AtStep) a how = refl
 one_end (Some (AtFault why)) a how = refl
 one_end (Some (AtEnd status)) a how = refl
 
-told_once : {S : Type 0} (told : List PlainOutput) (halt : Option PlainHalt) (a : S) (how : Mode)
-    → owed (phase_after halt a how) + ends_told (told_of told halt) ≡ 1
-told_once told halt a how =
-    let both = ends_append (map event_of (merged told)) (told_end halt) in
-    let none = none_in_outputs (merged told) in
+told_once : {S : Type 0} (told : List PlainOutput) (halt : Option PlainHalt) (events : List PlainEvent) (a : S)
+    (how : Mode) → Tells told halt events → owed (phase_after halt a how) + ends_told events ≡ 1
+told_once told halt events a how is =
+    let both = ends_append is.0 (told_end halt) in
+    let none = none_in_texts (merged told) is.0 is.1 in
     let one = one_end halt a how in
-    omega (arith, both, none, one)
+    let all = ap ends_told is.2 in
+    omega (arith, both, none, one, all)
 
 -- nothing is told, and the session stands as before
 still : {S : Type 0} (stood stands : Standing S) (events : List PlainEvent) (p : Phase S) → events ≡ [] → stands ≡ stood
@@ -66,10 +77,9 @@ worked : {S : Type 0} (takes : Meaning S) (sees : Sight S) (p : Phase S) (stood 
     (events : List PlainEvent) → stood.phase ≡ p → GoesFrom takes sees p stood events stands
     → owed stands.phase + ends_told events ≡ owed p
 worked takes sees (phase.Running a how) stood stands events at is =
-    let once = told_once is.0.2 is.0.0 is.0.1 how in
-    let told = ap ends_told is.0.4 in
+    let once = told_once is.0.2 is.0.0 events is.0.1 how is.0.4 in
     let so = ap owed is.0.5 in
-    omega (arith, once, told, so)
+    omega (arith, once, so)
 worked takes sees (phase.Configuring a stop_on_entry) stood stands events at is =
     still stood stands events _ is.0 is.1 at
 worked takes sees (phase.Stopped a) stood stands events at is = still stood stands events _ is.0 is.1 at
@@ -121,14 +131,13 @@ started : {S : Type 0} (takes : Meaning S) (sees : Sight S) (p : Phase S) (stood
     → owed stands.phase + ends_told reply.events ≡ owed p + asks command.ConfigurationDone p
 started takes sees (phase.Configuring a stop_on_entry) stood stands reply at is =
     let begun = is.1 in
-    let once = told_once begun.arrives.1 begun.arrives.0 a mode.Continue in
-    let first = ap ends_told begun.arrives.3 in
+    let once = told_once begun.arrives.1 begun.arrives.0 begun.first a mode.Continue begun.arrives.3 in
     let owes = ap owed begun.arrives.4 in
     let later = goes_on takes sees stop_on_entry begun.there stands begun.more begun.goes in
     let both = ends_append begun.first begun.more in
     let all = ap ends_told begun.events_are in
     let told = ap (λ (r : PlainReply). ends_told r.events) is.2 in
-    omega (arith, once, first, owes, later, both, all, told)
+    omega (arith, once, owes, later, both, all, told)
 started takes sees (phase.Running a how) stood stands reply at is =
     let so = refused stood stands reply _ is at in omega (arith, so)
 started takes sees (phase.Stopped a) stood stands reply at is =
@@ -142,10 +151,9 @@ resumes : {S : Type 0} (takes : Meaning S) (sees : Sight S) (p : Phase S) (how :
     (reply : PlainReply) → stood.phase ≡ p → ResumesFrom takes sees p how stood reply stands
     → owed stands.phase + ends_told reply.events ≡ owed p + asks (command.Resume how) p
 resumes takes sees (phase.Stopped a) how stood stands reply at is =
-    let once = told_once is.1.0.2 is.1.0.0 is.1.0.1 (mode_of how (sees.depth_of a)) in
-    let told = ap ends_told is.1.0.4 in
+    let once = told_once is.1.0.2 is.1.0.0 reply.events is.1.0.1 (mode_of how (sees.depth_of a)) is.1.0.4 in
     let so = ap owed is.1.0.5 in
-    omega (arith, once, told, so)
+    omega (arith, once, so)
 resumes takes sees (phase.Configuring a stop_on_entry) how stood stands reply at is =
     let so = refused stood stands reply _ is at in omega (arith, so)
 resumes takes sees (phase.Running a before) how stood stands reply at is =
@@ -182,7 +190,7 @@ loaded_as : {S : Type 0} (arguments : Option Data) (loaded : Result S (List ℕ)
     (stood stands : Standing S) (reply : PlainReply) → stood.phase ≡ p → owed p ≡ 0
     → LoadsAs arguments loaded stood reply stands → owed stands.phase + ends_told reply.events ≡ owed p
 loaded_as arguments (Ok program) p stood stands reply at none is =
-    replied stands _ reply _ 0 is.reply_is is.phase_is refl ∙ sym none
+    replied stands _ reply _ 0 is.0.reply_is is.0.phase_is refl ∙ sym none
 loaded_as arguments (Err mistake) p stood stands reply at none is = quiet stood stands reply _ p is.0 refl is.1 at
 
 loaded_given : {S : Type 0} (reads_as : List ℕ → Result S (List ℕ) → Type 0) (arguments : Option Data)
@@ -219,19 +227,19 @@ loaded reads_as phase.NoProgram arguments stood stands reply at is =
 loaded reads_as (phase.Ended a) arguments stood stands reply at is =
     loaded_at reads_as arguments (text_at (codes "program") arguments) _ stood stands reply at refl is
 
-set_in : {S : Type 0} (shows : Shows S) (a : S) (arguments : Option Data)
+set_in : {S : Type 0} (shows : Shows S) (less : ℕ) (a : S) (arguments : Option Data)
     (path : List ℕ) (old new : List PlainBreakpoint) (reply : PlainReply)
-    → SetsIn shows arguments a path old reply new → ends_told reply.events ≡ 0
-set_in shows a arguments path old new reply (Own source answers are is) =
+    → SetsIn shows less arguments a path old reply new → ends_told reply.events ≡ 0
+set_in shows less a arguments path old new reply (Own source answers are is) =
     ap (λ (r : PlainReply). ends_told r.events) is
-set_in shows a arguments path old new reply (Other source answers are is same) =
+set_in shows less a arguments path old new reply (Other source answers are is same) =
     ap (λ (r : PlainReply). ends_told r.events) is
 
 set_only : {S : Type 0} (shows : Shows S) (p : Phase S) (a : S)
     (arguments : Option Data) (stood stands : Standing S) (reply : PlainReply) → stood.phase ≡ p
     → SetsOnly shows arguments a stood reply stands → owed stands.phase + ends_told reply.events ≡ owed p
 set_only shows p a arguments stood stands reply at is =
-    let told = set_in shows a arguments _ _ _ reply is.0 in
+    let told = set_in shows _ a arguments _ _ _ reply is.0 in
     let owes = ap (λ (s : Standing _). owed s.phase) is.1 ∙ ap owed at in
     omega (arith, told, owes)
 
@@ -281,29 +289,31 @@ evaluate_quiet sees (Some expression) None a reply is = no_events reply _ is.1 r
 evaluate_quiet sees None frame a reply is = no_events reply _ is.1 refl
 
 question_quiet : {S : Type 0} (sees : Sight S) (shows : Shows S) (asked : Question) (arguments : Option Data)
-    (path : List ℕ) (a : S) (reply : PlainReply) → AnswersQuestion sees shows asked arguments path a reply
+    (counting : Counting) (path : List ℕ) (a : S) (reply : PlainReply)
+    → AnswersQuestion sees shows asked arguments counting path a reply
     → reply.events ≡ []
-question_quiet sees shows question.StackTrace arguments path a reply is = no_events reply _ is.reply_is refl
-question_quiet sees shows question.Scopes arguments path a reply is =
+question_quiet sees shows question.StackTrace arguments counting path a reply is = no_events reply _ is.reply_is refl
+question_quiet sees shows question.Scopes arguments counting path a reply is =
     scopes_quiet shows (frame_asked (min (sees.depth_of a) frame_limit) arguments) a reply is
-question_quiet sees shows question.Variables arguments path a reply is =
+question_quiet sees shows question.Variables arguments counting path a reply is =
     variables_quiet shows (number_of_reference (reference_asked arguments))
     (frame_of_reference (sees.depth_of a) (reference_asked arguments))
     (index_of_reference (reference_asked arguments)) (page_asked arguments) a reply is
-question_quiet sees shows question.Evaluate arguments path a reply is =
+question_quiet sees shows question.Evaluate arguments counting path a reply is =
     evaluate_quiet sees (text_at (codes "expression") arguments) (frame_to_evaluate (sees.depth_of a) arguments) a reply
     is
 
 inspects_quiet : {S : Type 0} (sees : Sight S) (shows : Shows S) (p : Phase S) (asked : Question)
-    (arguments : Option Data) (path : List ℕ) (reply : PlainReply) → ShowsFrom sees shows p asked arguments path reply
+    (arguments : Option Data) (counting : Counting) (path : List ℕ) (reply : PlainReply)
+    → ShowsFrom sees shows p asked arguments counting path reply
     → reply.events ≡ []
-inspects_quiet sees shows (phase.Stopped a) asked arguments path reply is =
-    question_quiet sees shows asked arguments path a reply is
-inspects_quiet sees shows (phase.Running a how) asked arguments path reply is = no_events reply _ is.1 refl
-inspects_quiet sees shows (phase.Configuring a stop_on_entry) asked arguments path reply is =
+inspects_quiet sees shows (phase.Stopped a) asked arguments counting path reply is =
+    question_quiet sees shows asked arguments counting path a reply is
+inspects_quiet sees shows (phase.Running a how) asked arguments counting path reply is = no_events reply _ is.1 refl
+inspects_quiet sees shows (phase.Configuring a stop_on_entry) asked arguments counting path reply is =
     no_events reply _ is.1 refl
-inspects_quiet sees shows (phase.Ended a) asked arguments path reply is = no_events reply _ is.1 refl
-inspects_quiet sees shows phase.NoProgram asked arguments path reply is = no_events reply _ is.1 refl
+inspects_quiet sees shows (phase.Ended a) asked arguments counting path reply is = no_events reply _ is.1 refl
+inspects_quiet sees shows phase.NoProgram asked arguments counting path reply is = no_events reply _ is.1 refl
 
 explains_quiet : {S : Type 0} (p : Phase S) (fault : Option PlainFault) (reply : PlainReply)
     → ExplainsFrom p fault reply → reply.events ≡ []
@@ -320,7 +330,9 @@ answers_balanced : {S : Type 0} (known : Known S) (asked : Command) (arguments :
     (stood stands : Standing S) (reply : PlainReply) → Answers known asked arguments stood reply stands
     → owed stands.phase + ends_told reply.events ≡ owed stood.phase + asks asked stood.phase
 answers_balanced known command.Initialize arguments stood stands reply is =
-    let so = quiet stood stands reply _ stood.phase is.0 refl is.1 refl in omega (arith, so)
+    let so = replied stands stood.phase reply _ (owed stood.phase + 0) is.0 (ap (λ (s : Standing _). s.phase) is.1) refl
+    in
+    omega (arith, so)
 answers_balanced known command.Launch arguments stood stands reply is =
     let so = loaded known.shows.reads_as stood.phase arguments stood stands reply refl is in omega (arith, so)
 answers_balanced known command.SetBreakpoints arguments stood stands reply is =
@@ -336,7 +348,7 @@ answers_balanced known command.Pause arguments stood stands reply is =
 answers_balanced known command.Terminate arguments stood stands reply is =
     terminated stood.phase stood stands reply refl is
 answers_balanced known (command.Inspect asked) arguments stood stands reply is =
-    let none = inspects_quiet known.sees known.shows stood.phase asked arguments stood.path reply is.0 in
+    let none = inspects_quiet known.sees known.shows stood.phase asked arguments stood.counting stood.path reply is.0 in
     let so = still stood stands reply.events stood.phase none is.1 refl in
     omega (arith, so)
 answers_balanced known command.ExceptionInfo arguments stood stands reply is =

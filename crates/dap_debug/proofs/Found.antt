@@ -4,6 +4,7 @@ use Rattle.std.proofs.Common.{◌≡◌, ◌<◌, ◌≤◌, ◌+◌, ◌-◌, �
 use Rattle.std.proofs.lemmas.Bool.{le-leb, le-ltb, lt-ltb, ne_eqb}
 use Rattle.std.proofs.lemmas.Nat.{div-mul-add, mod-mul-add}
 use Rattle.dap_debug.specs.Inspecting.{frame_of_reference, frame_with, index_of_reference, scope_limit, shown_frame, shown_scope, frame_limit, inside_base, number_limit, number_of_reference, reference_inside}
+use Rattle.dap_debug.specs.declared.state.Counting.{Counting}
 use Rattle.debuggee.specs.Shown.{PlainFrame}
 
 frame_found : (many index : ℕ) → index < many → frame_with many (index + 1) ≡ Some index
@@ -15,9 +16,9 @@ frame_found many index inside =
     ∙ ap (λ b. if b then Some (index + 1 - 1) else None) (le-leb (index + 1) many low)
     ∙ ap (λ n. Some n) back
 
-pub frames_found : (path : List ℕ) (many index : ℕ) (frame : PlainFrame) → index < many
-    → frame_with many (shown_frame path index frame).id ≡ Some index
-frames_found path many index frame inside = frame_found many index inside
+pub frames_found : (counting : Counting) (path : List ℕ) (many index : ℕ) (frame : PlainFrame) → index < many
+    → frame_with many (shown_frame counting path index frame).id ≡ Some index
+frames_found counting path many index frame inside = frame_found many index inside
 
 pub scopes_found : (many frame index : ℕ) (name : List ℕ) → frame < many → frame < frame_limit → index < scope_limit
     → (number_of_reference (shown_scope frame index name).reference ≡ None)

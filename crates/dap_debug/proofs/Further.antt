@@ -14,7 +14,8 @@ use Rattle.dap_bodies.specs.declared.placing.Breakpoint.{Breakpoint as AnswerVal
 use Rattle.dap_server.specs.Messages.{PlainReply}
 use Rattle.debuggee.specs.Plain.{PlainBreakpoint}
 use Rattle.std.specs.declared.alloc.Global.{Global}
-use Rattle.dap_debug.specs.Standings.{Standing, program_in}
+use Rattle.dap_debug.specs.declared.state.Counting.{Counting}
+use Rattle.dap_debug.specs.Standings.{Standing, line_offset, program_in}
 use Rattle.dap_bodies.specs.Arguments.{list_at}
 use Rattle.debuggee.specs.Shown.{PlainFrame, Shows}
 use Rattle.dap_debug.specs.Inspecting.{ShowsFrame, ShowFrames, shown_scope, shown_scopes}
@@ -22,25 +23,27 @@ use Rattle.dap_debug.specs.Breakpoints.{IsSet, AreSet, AreUnset, SetsIn, Own, Ot
 
 -- ---- frames
 
-shows_more : {S : Type 0} (frame_of : S → ℕ → PlainFrame → Type 0) (path : List ℕ) (a : S) (first index : ℕ)
-    (shown : List ShownFrame) (one : ShownFrame) → ShowFrames frame_of path a first shown → length shown + first ≡ index
-    → ShowsFrame frame_of path a index one → ShowFrames frame_of path a first (shown ++ one ∷ [])
-shows_more frame_of path a first index [] one are at is =
-    let e : index ≡ first = omega (arith, at) in (subst (λ n. ShowsFrame frame_of path a n one) e is, tt)
-shows_more frame_of path a first index (x ∷ shown) one are at is =
-    (are.0, shows_more frame_of path a (first + 1) index shown one are.1 (omega (arith, at)) is)
+shows_more : {S : Type 0} (frame_of : S → ℕ → PlainFrame → Type 0) (counting : Counting)
+    (path : List ℕ) (a : S) (first index : ℕ)
+    (shown : List ShownFrame) (one : ShownFrame) → ShowFrames frame_of counting path a first shown → length shown + first ≡ index
+    → ShowsFrame frame_of counting path a index one → ShowFrames frame_of counting path a first (shown ++ one ∷ [])
+shows_more frame_of counting path a first index [] one are at is =
+    let e : index ≡ first = omega (arith, at) in (subst (λ n. ShowsFrame frame_of counting path a n one) e is, tt)
+shows_more frame_of counting path a first index (x ∷ shown) one are at is =
+    (are.0, shows_more frame_of counting path a (first + 1) index shown one are.1 (omega (arith, at)) is)
 
-pub one_frame : {S : Type 0} (frame_of : S → ℕ → PlainFrame → Type 0) (path : List ℕ) (a : S) (first index : ℕ)
+pub one_frame : {S : Type 0} (frame_of : S → ℕ → PlainFrame → Type 0) (counting : Counting)
+    (path : List ℕ) (a : S) (first index : ℕ)
     (values new : List StackFrame) (value : StackFrame) → new ≡ values ++ value ∷ []
-    → ShowFrames frame_of path a first (map plain_shown_frame values)
+    → ShowFrames frame_of counting path a first (map plain_shown_frame values)
     → length (map plain_shown_frame values) + first ≡ index
-    → ShowsFrame frame_of path a index (plain_shown_frame value)
-    → ShowFrames frame_of path a first (map plain_shown_frame new)
+    → ShowsFrame frame_of counting path a index (plain_shown_frame value)
+    → ShowFrames frame_of counting path a first (map plain_shown_frame new)
     × (length (map plain_shown_frame new) + first ≡ index + 1)
-one_frame frame_of path a first index values new value grown are at is =
+one_frame frame_of counting path a first index values new value grown are at is =
     let all = ap (map plain_shown_frame) grown ∙ map-append plain_shown_frame values (value ∷ []) in
     let long = ap length all ∙ length_push (map plain_shown_frame values) (plain_shown_frame value) in (
-      subst (ShowFrames frame_of path a first) (sym all) (shows_more frame_of path a first index _ _ are at is),
+      subst (ShowFrames frame_of counting path a first) (sym all) (shows_more frame_of counting path a first index _ _ are at is),
       omega (arith, long, at),
     )
 
@@ -80,30 +83,34 @@ pub on_ok : {A E : Type 0} (P Q : A → Type 0) (r : Result A E) → IfOk r P �
 on_ok P Q (Ok a) is so = so a is
 on_ok P Q (Err e) is so = tt
 
-pub set_own : {S : Type 0} (shows : Shows S) (arguments : Option Data) (program : S)
+pub set_own : {S : Type 0} (shows : Shows S) (less : ℕ) (arguments : Option Data) (program : S)
     (path : List ℕ) (old new : List PlainBreakpoint) (reply : PlainReply) (asked : Items)
     (answers : List ShownBreakpoint)
     → asked ≡ list_at (codes "breakpoints") arguments → source_asked arguments ≡ Some path
-    → AreSet shows program asked answers new → reply ≡ answers_reply answers
-    → SetsIn shows arguments program path old reply new
-set_own shows arguments program path old new reply asked answers at own are is =
-    Own own answers (subst (λ l. AreSet shows program l answers new) at are) is
+    → AreSet shows less program asked answers new → reply ≡ answers_reply answers
+    → SetsIn shows less arguments program path old reply new
+set_own shows less arguments program path old new reply asked answers at own are is =
+    Own own answers (subst (λ l. AreSet shows less program l answers new) at are) is
 
-pub refuse_other : {S : Type 0} (shows : Shows S) (arguments : Option Data)
+pub refuse_other : {S : Type 0} (shows : Shows S) (less : ℕ) (arguments : Option Data)
     (program : S) (path : List ℕ) (old : List PlainBreakpoint) (reply : PlainReply) (asked : Items)
     (answers : List ShownBreakpoint)
     → asked ≡ list_at (codes "breakpoints") arguments → source_asked arguments ≢ Some path → AreUnset asked answers
-    → reply ≡ answers_reply answers → SetsIn shows arguments program path old reply old
-refuse_other shows arguments program path old reply asked answers at other are is =
+    → reply ≡ answers_reply answers → SetsIn shows less arguments program path old reply old
+refuse_other shows less arguments program path old reply asked answers at other are is =
     Other other answers (subst (λ l. AreUnset l answers) at are) is refl
 
 pub set_within : {S : Type 0} (shows : Shows S) (arguments : Option Data) (program : S)
-    (path : List ℕ) (stood stands : Standing S) (reply : PlainReply) → path ≡ stood.path
-    → stands ≡ record stood { breakpoints = stands.breakpoints }
-    → SetsIn shows arguments program path stood.breakpoints reply stands.breakpoints
+    (path : List ℕ) (less : ℕ) (stood stands : Standing S) (reply : PlainReply) → path ≡ stood.path
+    → less ≡ line_offset stood.counting → stands ≡ record stood { breakpoints = stands.breakpoints }
+    → SetsIn shows less arguments program path stood.breakpoints reply stands.breakpoints
     → SetsOnly shows arguments program stood reply stands
-set_within shows arguments program path stood stands reply at only is =
-    (subst (λ p. SetsIn shows arguments program p stood.breakpoints reply stands.breakpoints) at is, only)
+set_within shows arguments program path less stood stands reply at so only is = (
+  subst (λ p. SetsIn shows (line_offset stood.counting) arguments program p stood.breakpoints reply stands.breakpoints)
+      at
+      (subst (λ n. SetsIn shows n arguments program path stood.breakpoints reply stands.breakpoints) so is),
+  only,
+)
 
 pub sets_from : {S : Type 0} (shows : Shows S) (arguments : Option Data) (program : S)
     (stood stands : Standing S) (reply : PlainReply) → Some program ≡ program_in stood.phase
@@ -111,22 +118,22 @@ pub sets_from : {S : Type 0} (shows : Shows S) (arguments : Option Data) (progra
 sets_from shows arguments program stood stands reply at is =
     subst (λ found. SetsFrom shows found arguments stood reply stands) at is
 
-set_more : {S : Type 0} (shows : Shows S) (a : S) (asked : List Data)
+set_more : {S : Type 0} (shows : Shows S) (less : ℕ) (a : S) (asked : List Data)
     (answers : List ShownBreakpoint) (set : List PlainBreakpoint) (more : Option PlainBreakpoint) (one : Data)
     (answer : ShownBreakpoint)
-    → AreSet shows a (items_of asked) answers set → IsSet shows a one answer more
-    → AreSet shows a (items_of (asked ++ one ∷ [])) (answers ++ answer ∷ [])
+    → AreSet shows less a (items_of asked) answers set → IsSet shows less a one answer more
+    → AreSet shows less a (items_of (asked ++ one ∷ [])) (answers ++ answer ∷ [])
     (set ++ option_to_list more)
-set_more shows a [] [] set more one answer are is =
+set_more shows less a [] [] set more one answer are is =
     (more, [], ap (λ l. l ++ option_to_list more) are ∙ sym (append-nil (option_to_list more)), is, refl)
-set_more shows a [] (x ∷ answers) set more one answer are is = absurd are
-set_more shows a (x ∷ asked) [] set more one answer are is = absurd are
-set_more shows a (x ∷ asked) (y ∷ answers) set more one answer are is = (
+set_more shows less a [] (x ∷ answers) set more one answer are is = absurd are
+set_more shows less a (x ∷ asked) [] set more one answer are is = absurd are
+set_more shows less a (x ∷ asked) (y ∷ answers) set more one answer are is = (
   are.0,
   are.1 ++ option_to_list more,
   ap (λ l. l ++ option_to_list more) are.2 ∙ append_assoc (option_to_list are.0) are.1 (option_to_list more),
   are.3,
-  set_more shows a asked answers are.1 more one answer are.4 is,
+  set_more shows less a asked answers are.1 more one answer are.4 is,
 )
 
 unset_more : (asked : List Data) (answers : List ShownBreakpoint) (one : Data) (answer : ShownBreakpoint)
@@ -150,21 +157,21 @@ grown_to : (answers new : List AnswerValue) (answer : AnswerValue) → new ≡ a
 grown_to answers new answer grown =
     ap (map plain_shown_breakpoint) grown ∙ map-append plain_shown_breakpoint answers (answer ∷ [])
 
-pub one_set : {S : Type 0} (shows : Shows S) (a : S) (asked : List Value) (i : ℕ)
+pub one_set : {S : Type 0} (shows : Shows S) (less : ℕ) (a : S) (asked : List Value) (i : ℕ)
     (one : Value) (answers new : List AnswerValue) (answer : AnswerValue) (set all : List PlainBreakpoint)
     (more : Option PlainBreakpoint) → i < length asked
     → one ≡ get_or asked i one → new ≡ answers ++ answer ∷ [] → all ≡ set ++ option_to_list more
-    → AreSet shows a (items_of (map view (take i asked))) (map plain_shown_breakpoint answers) set
-    → IsSet shows a (view one) (plain_shown_breakpoint answer) more
-    → AreSet shows a (items_of (map view (take (i + 1) asked))) (map plain_shown_breakpoint new) all
-one_set shows a asked i one answers new answer set all more within here grown kept are is =
-    subst (λ l. AreSet shows a (items_of l) (map plain_shown_breakpoint new) all)
+    → AreSet shows less a (items_of (map view (take i asked))) (map plain_shown_breakpoint answers) set
+    → IsSet shows less a (view one) (plain_shown_breakpoint answer) more
+    → AreSet shows less a (items_of (map view (take (i + 1) asked))) (map plain_shown_breakpoint new) all
+one_set shows less a asked i one answers new answer set all more within here grown kept are is =
+    subst (λ l. AreSet shows less a (items_of l) (map plain_shown_breakpoint new) all)
     (sym (taken asked i one within here))
-    (subst (λ l. AreSet shows a (items_of (map view (take i asked) ++ view one ∷ [])) l all)
+    (subst (λ l. AreSet shows less a (items_of (map view (take i asked) ++ view one ∷ [])) l all)
     (sym (grown_to answers new answer grown))
-    (subst (AreSet shows a (items_of (map view (take i asked) ++ view one ∷ []))
+    (subst (AreSet shows less a (items_of (map view (take i asked) ++ view one ∷ []))
     (map plain_shown_breakpoint answers ++ plain_shown_breakpoint answer ∷ [])) (sym kept)
-    (set_more shows a (map view (take i asked)) (map plain_shown_breakpoint answers) set more (view one)
+    (set_more shows less a (map view (take i asked)) (map plain_shown_breakpoint answers) set more (view one)
     (plain_shown_breakpoint answer) are is)))
 
 pub one_unset : (asked : List Value) (i : ℕ) (one : Value) (answers new : List AnswerValue) (answer : AnswerValue)

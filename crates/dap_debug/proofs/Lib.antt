@@ -10,6 +10,8 @@ mod Further
 mod Loaded
 -- Texts of one kind that follow each other are one; for `telling` and `debug_laws`.
 mod Merging
+-- Texts are told in pieces; for `telling` and `debug_laws`.
+mod Pieces
 -- What a conversation keeps of what is seen of a session; for `serve_language_inbox`.
 mod Seeing
 -- Each run of a conversation ends once; for `conversation_laws`.

@@ -1,5 +1,5 @@
 -- Defines which breakpoints are set, and what is answered.
-use Rattle.std.specs.Prelude.{◌≡◌, ◌≢◌, ◌⊎◌, ◌<◌, ◌≤◌, ◌^◌, ℕ, length, All, List, [], ◌∷◌, ◌++◌, codes, decimal, Option, None, Some, unwrap_or}
+use Rattle.std.specs.Prelude.{◌≡◌, ◌≢◌, ◌⊎◌, ◌<◌, ◌≤◌, ◌^◌, ◌-◌, ℕ, length, All, List, [], ◌∷◌, ◌++◌, codes, decimal, Option, None, Some, option_map, unwrap_or}
 use Rattle.std.specs.Option.{option_to_list}
 use Rattle.serde_json.specs.Data.{Data, Items, no_items, item}
 use Rattle.dap_bodies.specs.Bodies.{ShownBreakpoint, SetAt, Refused, breakpoints}
@@ -11,7 +11,7 @@ use Rattle.debuggee.specs.Shown.{Shows}
 use Rattle.debuggee.specs.declared.language.Location.{Location}
 use Rattle.dap_bodies.specs.Arguments.{list_at, member_at, text_at, whole_at}
 use Rattle.dap_debug.specs.Running.{success, IsRefused}
-use Rattle.dap_debug.specs.Standings.{Standing, program_in}
+use Rattle.dap_debug.specs.Standings.{Standing, from_client, line_offset, program_in}
 
 -- ---- texts
 
@@ -79,9 +79,13 @@ message_limit = 65536
 
 -- ---- one breakpoint
 
--- the line that a breakpoint is asked for
-abbrev pub line_of : Data → Option ℕ
-line_of asked = whole_at (codes "line") (Some asked)
+-- the line that a breakpoint is asked for, counted from 1, of a client whose lines are so much less
+abbrev pub line_of : ℕ → Data → Option ℕ
+line_of less asked = option_map (from_client less) (whole_at (codes "line") (Some asked))
+
+-- a place with its line as the client counts
+abbrev pub counted_at : ℕ → Location → Location
+counted_at less location = record location { line = location.line - less }
 
 -- the condition that is asked for, if there is one
 abbrev pub condition_of : Data → Option (List ℕ)
@@ -127,21 +131,19 @@ abbrev pub IsFirst : {S : Type 0} → Shows S → S → Option ℕ → Option Lo
 IsFirst shows program None first = first ≡ None
 IsFirst shows program (Some line) first = shows.first_place program line first
 
--- what is answered to a breakpoint, and what is set for it
-abbrev pub IsSet : {S : Type 0} → Shows S → S → Data → ShownBreakpoint
-    → Option PlainBreakpoint → Type 0
-IsSet shows program asked answer set =
-    (first : Option Location) × IsFirst shows program (line_of asked) first
-    × IsAnswered shows program asked first answer set
+-- what is answered to a breakpoint, and what is set for it; lines are asked for and told as the client counts
+abbrev pub IsSet : {S : Type 0} → Shows S → ℕ → S → Data → ShownBreakpoint → Option PlainBreakpoint → Type 0
+IsSet shows less program asked answer set =
+    (first : Option Location) × IsFirst shows program (line_of less asked) first
+    × IsAnswered shows program asked (option_map (counted_at less) first) answer set
 
 -- each is answered, in order, and what is set is just those that are
-abbrev pub AreSet : {S : Type 0} → Shows S → S → Items → List ShownBreakpoint
-    → List PlainBreakpoint → Type 0
-AreSet shows program no_items [] set = set ≡ []
-AreSet shows program (item asked more) (answer ∷ others) set =
+abbrev pub AreSet : {S : Type 0} → Shows S → ℕ → S → Items → List ShownBreakpoint → List PlainBreakpoint → Type 0
+AreSet shows less program no_items [] set = set ≡ []
+AreSet shows less program (item asked more) (answer ∷ others) set =
     (one : Option PlainBreakpoint) × (rest : List PlainBreakpoint) × (set ≡ option_to_list one ++ rest)
-    × IsSet shows program asked answer one × AreSet shows program more others rest
-AreSet shows program _ _ set = ⊥
+    × IsSet shows less program asked answer one × AreSet shows less program more others rest
+AreSet shows less program _ _ set = ⊥
 
 -- ---- replies
 
@@ -161,20 +163,20 @@ answers_reply answers = success (Some (breakpoints answers)) []
 
 -- In the program's own source each is set or not, as it is answered, and no other is left. In another source none is
 -- set, and those of the program are left.
-pub data SetsIn {S : Type 0} (shows : Shows S) (arguments : Option Data) (program : S)
+pub data SetsIn {S : Type 0} (shows : Shows S) (less : ℕ) (arguments : Option Data) (program : S)
     (path : List ℕ) (old : List PlainBreakpoint) (reply : PlainReply) (new : List PlainBreakpoint) : Type 0 where
   Own : source_asked arguments ≡ Some path → (answers : List ShownBreakpoint)
-      → AreSet shows program (list_at (codes "breakpoints") arguments) answers new
-      → reply ≡ answers_reply answers → SetsIn shows arguments program path old reply new
+      → AreSet shows less program (list_at (codes "breakpoints") arguments) answers new
+      → reply ≡ answers_reply answers → SetsIn shows less arguments program path old reply new
   Other : source_asked arguments ≢ Some path → (answers : List ShownBreakpoint)
       → AreUnset (list_at (codes "breakpoints") arguments) answers → reply ≡ answers_reply answers → new ≡ old
-      → SetsIn shows arguments program path old reply new
+      → SetsIn shows less arguments program path old reply new
 
 -- nothing but the breakpoints changes
 abbrev pub SetsOnly : {S : Type 0} → Shows S → Option Data → S → Standing S → PlainReply
     → Standing S → Type 0
 SetsOnly shows arguments program stood reply stands =
-    SetsIn shows arguments program stood.path stood.breakpoints reply stands.breakpoints
+    SetsIn shows (line_offset stood.counting) arguments program stood.path stood.breakpoints reply stands.breakpoints
     × (stands ≡ record stood { breakpoints = stands.breakpoints })
 
 -- breakpoints are set in a program that there is, also while it runs

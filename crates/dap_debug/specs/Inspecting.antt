@@ -2,41 +2,45 @@
 use Rattle.std.specs.Prelude.{◌≡◌, ◌⊎◌, ◌+◌, ◌-◌, ◌*◌, ◌/◌, ◌%◌, ◌^◌, ◌&&◌, ℕ, min, nat_eq, nat_le, nat_lt, List, [], ◌∷◌, map, length, take, slice_get, codes, if◌then◌else◌, Option, None, Some, option_and_then, unwrap_or}
 use Rattle.serde_json.specs.Data.{Data}
 use Rattle.dap_bodies.specs.Bodies.{ShownFrame, stack_trace, ShownScope, scopes, ShownVariable, variables, evaluated, exception_info}
+use Rattle.dap_bodies.specs.Sizes.{shown_text}
 use Rattle.dap_server.specs.Messages.{PlainReply}
 use Rattle.debuggee.specs.Plain.{PlainEvaluated, PlainFault, Value, NoValue}
 use Rattle.debuggee.specs.Due.{Sight}
 use Rattle.dap_debug.specs.declared.command.Question.{Question}
 use Rattle.dap_debug.specs.declared.command.Question.TheVariants as question
+use Rattle.dap_debug.specs.declared.state.Counting.{Counting}
 use Rattle.dap_debug.specs.declared.state.Phase.{Phase}
 use Rattle.dap_debug.specs.declared.state.Phase.TheVariants as phase
 use Rattle.dap_bodies.specs.Arguments.{text_at, whole_at}
 use Rattle.dap_debug.specs.Running.{success, refusal, Refuses}
 use Rattle.debuggee.specs.Shown.{IsPage, PlainFrame, PlainVariable, Shows}
 use Rattle.debuggee.specs.declared.language.Page.{Page}
-use Rattle.dap_debug.specs.Standings.{Standing}
+use Rattle.dap_debug.specs.Standings.{Standing, column_offset, line_offset}
 
 -- ---- frames
 
--- what is shown of the frame with this index, of which the newest is 0, of a program at this path
-abbrev pub shown_frame : List ℕ → ℕ → PlainFrame → ShownFrame
-shown_frame path index frame = record {
+-- what is shown of the frame with this index, of which the newest is 0, of a program at this path, to a client that counts
+-- so
+abbrev pub shown_frame : Counting → List ℕ → ℕ → PlainFrame → ShownFrame
+shown_frame counting path index frame = record {
   id = index + 1;
   name = frame.name;
   path = path;
-  line = frame.line;
-  column = frame.column;
+  line = frame.line - line_offset counting;
+  column = frame.column - column_offset counting;
 }
 
 -- the frame with this index is shown so
-abbrev pub ShowsFrame : {S : Type 0} → (S → ℕ → PlainFrame → Type 0) → List ℕ → S → ℕ → ShownFrame → Type 0
-ShowsFrame frame_of path program index shown =
-    (frame : PlainFrame) × frame_of program index frame × (shown ≡ shown_frame path index frame)
+abbrev pub ShowsFrame : {S : Type 0} → (S → ℕ → PlainFrame → Type 0) → Counting → List ℕ → S → ℕ → ShownFrame → Type 0
+ShowsFrame frame_of counting path program index shown =
+    (frame : PlainFrame) × frame_of program index frame × (shown ≡ shown_frame counting path index frame)
 
 -- the frames from this index on are shown so
-abbrev pub ShowFrames : {S : Type 0} → (S → ℕ → PlainFrame → Type 0) → List ℕ → S → ℕ → List ShownFrame → Type 0
-ShowFrames frame_of path program index [] = Unit {0}
-ShowFrames frame_of path program index (shown ∷ others) =
-    ShowsFrame frame_of path program index shown × ShowFrames frame_of path program (index + 1) others
+abbrev pub ShowFrames : {S : Type 0} → (S → ℕ → PlainFrame → Type 0) → Counting → List ℕ → S → ℕ → List ShownFrame
+    → Type 0
+ShowFrames frame_of counting path program index [] = Unit {0}
+ShowFrames frame_of counting path program index (shown ∷ others) =
+    ShowsFrame frame_of counting path program index shown × ShowFrames frame_of counting path program (index + 1) others
 
 -- the first frame that is asked for; where it isn't alive, there is none
 abbrev pub first_frame : Option Data → ℕ → ℕ
@@ -49,10 +53,10 @@ frame_count arguments many =
     else min (unwrap_or (whole_at (codes "levels") arguments) 0) many
 
 -- the frames that are asked for, and how many there are
-pub record ShowsStack {S : Type 0} (sees : Sight S) (frame_of : S → ℕ → PlainFrame → Type 0) (path : List ℕ)
-    (arguments : Option Data) (program : S) (reply : PlainReply) : Type 0 where
+pub record ShowsStack {S : Type 0} (sees : Sight S) (frame_of : S → ℕ → PlainFrame → Type 0) (counting : Counting)
+    (path : List ℕ) (arguments : Option Data) (program : S) (reply : PlainReply) : Type 0 where
   pub shown : List ShownFrame
-  pub frames : ShowFrames frame_of path program (first_frame arguments (sees.depth_of program)) shown
+  pub frames : ShowFrames frame_of counting path program (first_frame arguments (sees.depth_of program)) shown
   pub count :
       length shown
       ≡ frame_count arguments (sees.depth_of program - first_frame arguments (sees.depth_of program))
@@ -174,7 +178,7 @@ index_of_reference reference = (reference - 1) % scope_limit
 -- what is replied to an expression that evaluates so
 abbrev pub reply_of : PlainEvaluated → PlainReply
 reply_of (Value text holds) = success (Some (evaluated text 0)) []
-reply_of (NoValue why) = refusal why
+reply_of (NoValue why) = refusal (shown_text why)
 
 -- the frame in which an expression is evaluated: where none is asked for, the newest
 abbrev pub frame_to_evaluate : ℕ → Option Data → Option ℕ
@@ -200,27 +204,27 @@ Explains stood reply = ExplainsFrom stood.phase stood.fault reply
 -- ---- all questions
 
 -- what is shown of a program that is stopped
-abbrev pub AnswersQuestion : {S : Type 0} → Sight S → Shows S → Question → Option Data → List ℕ → S → PlainReply
-    → Type 0
-AnswersQuestion sees shows question.StackTrace arguments path program reply =
-    ShowsStack sees shows.frame_of path arguments program reply
-AnswersQuestion sees shows question.Scopes arguments path program reply =
+abbrev pub AnswersQuestion : {S : Type 0} → Sight S → Shows S → Question → Option Data → Counting → List ℕ → S
+    → PlainReply → Type 0
+AnswersQuestion sees shows question.StackTrace arguments counting path program reply =
+    ShowsStack sees shows.frame_of counting path arguments program reply
+AnswersQuestion sees shows question.Scopes arguments counting path program reply =
     ShowsScopes shows (frame_asked (min (sees.depth_of program) frame_limit) arguments) program reply
-AnswersQuestion sees shows question.Variables arguments path program reply =
+AnswersQuestion sees shows question.Variables arguments counting path program reply =
     ShowsVariables shows (number_of_reference (reference_asked arguments))
     (frame_of_reference (sees.depth_of program) (reference_asked arguments))
     (index_of_reference (reference_asked arguments)) (page_asked arguments) program reply
-AnswersQuestion sees shows question.Evaluate arguments path program reply =
+AnswersQuestion sees shows question.Evaluate arguments counting path program reply =
     Evaluates sees (text_at (codes "expression") arguments) (frame_to_evaluate (sees.depth_of program) arguments)
     program reply
 
 -- a question is answered where the program is stopped, and refused elsewhere
-abbrev pub ShowsFrom : {S : Type 0} → Sight S → Shows S → Phase S → Question → Option Data → List ℕ → PlainReply
+abbrev pub ShowsFrom : {S : Type 0} → Sight S → Shows S → Phase S → Question → Option Data → Counting → List ℕ → PlainReply
     → Type 0
-ShowsFrom sees shows (phase.Stopped program) asked arguments path reply =
-    AnswersQuestion sees shows asked arguments path program reply
-ShowsFrom sees shows _ asked arguments path reply = Refuses reply
+ShowsFrom sees shows (phase.Stopped program) asked arguments counting path reply =
+    AnswersQuestion sees shows asked arguments counting path program reply
+ShowsFrom sees shows _ asked arguments counting path reply = Refuses reply
 
 abbrev pub Inspects : {S : Type 0} → Sight S → Shows S → Question → Option Data → Standing S → PlainReply → Type 0
 Inspects sees shows asked arguments stood reply =
-    ShowsFrom sees shows stood.phase asked arguments stood.path reply
+    ShowsFrom sees shows stood.phase asked arguments stood.counting stood.path reply

@@ -1,15 +1,17 @@
 -- States what holds of each session: each run ends once; each byte that is printed or said is told, in order; and the
 -- identifiers and references that are shown lead back to what they were shown of.
-use Rattle.std.specs.Prelude.{◌≡◌, ◌<◌, ◌+◌, ◌||◌, ℕ, Bool, true, false, List, [], ◌∷◌, map, codes, Option, None, Some, if◌then◌else◌}
-use Rattle.std.specs.List.{flat_map}
+use Rattle.std.specs.Prelude.{◌≡◌, ◌<◌, ◌≤◌, ◌+◌, All, length, ◌||◌, ℕ, Bool, true, false, List, [], ◌∷◌, map, codes, Option, None, Some, if◌then◌else◌}
+use Rattle.std.specs.List.{concat, flat_map}
 use Rattle.std.specs.Str.{bytes_eq}
 use Rattle.serde_json.specs.Data.{Data}
+use Rattle.dap_bodies.specs.Sizes.{text_limit}
 use Rattle.dap_server.specs.Messages.{PlainEvent, PlainReply}
 use Rattle.debuggee.specs.Due.{Sight}
 use Rattle.debuggee.specs.Plain.{PlainOutput, Printed, Logged}
 use Rattle.debuggee.specs.Runs.{Meaning}
 use Rattle.dap_debug.specs.declared.command.Command.{Command}
 use Rattle.dap_debug.specs.declared.command.Command.TheVariants as command
+use Rattle.dap_debug.specs.declared.state.Counting.{Counting}
 use Rattle.dap_debug.specs.declared.state.Phase.{Phase}
 use Rattle.dap_debug.specs.declared.state.Phase.TheVariants as phase
 use Rattle.dap_debug.specs.Commands.{checked}
@@ -18,7 +20,7 @@ use Rattle.dap_debug.specs.Replies.{Known, RepliesTo}
 use Rattle.dap_debug.specs.Running.{WorksOn}
 use Rattle.debuggee.specs.Shown.{PlainFrame}
 use Rattle.dap_debug.specs.Standings.{Standing}
-use Rattle.dap_debug.specs.Telling.{merged}
+use Rattle.dap_debug.specs.Telling.{AreCut, merged}
 
 -- the event tells that the program has stopped, or that it is gone
 abbrev pub is_end : PlainEvent → Bool
@@ -79,13 +81,19 @@ abbrev pub TextsAreKept : Type 0
 TextsAreKept =
     (told : List PlainOutput) → (flat_map bytes_of (merged told) ≡ flat_map bytes_of told) × Alternates (merged told)
 
+-- The pieces in which a text is told are that text, and each has at most 65,536 bytes.
+abbrev pub PiecesAreKept : Type 0
+PiecesAreKept =
+    (text : List ℕ) (pieces : List (List ℕ)) → AreCut text pieces
+    → (concat pieces ≡ text) × All (λ piece. length piece ≤ text_limit) pieces
+
 -- ---- identifiers and references
 
 -- the identifier that is shown of a frame is that frame's
 abbrev pub FramesAreFound : Type 0
 FramesAreFound =
-    (path : List ℕ) (many index : ℕ) (frame : PlainFrame) → index < many
-    → frame_with many (shown_frame path index frame).id ≡ Some index
+    (counting : Counting) (path : List ℕ) (many index : ℕ) (frame : PlainFrame) → index < many
+    → frame_with many (shown_frame counting path index frame).id ≡ Some index
 
 -- the reference that is shown of a scope is that of its frame and its index, and of nothing else
 abbrev pub ScopesAreFound : Type 0

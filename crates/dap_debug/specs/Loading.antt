@@ -3,6 +3,7 @@ use Rattle.std.specs.Prelude.{◌≡◌, ◌⊎◌, ℕ, List, [], ◌∷◌, co
 use Rattle.std.specs.Str.{IsUtf8}
 use Rattle.serde_json.specs.Data.{Data}
 use Rattle.dap_bodies.specs.Events.{initialized}
+use Rattle.dap_bodies.specs.Sizes.{shown_text}
 use Rattle.dap_server.specs.Messages.{PlainReply}
 use Rattle.dap_debug.specs.declared.launching.Unread.{Unread}
 use Rattle.dap_debug.specs.declared.launching.Unread.TheVariants.{Missing, Folder, Forbidden, Failed}
@@ -24,8 +25,9 @@ pub record IsLoaded {S : Type 0} (arguments : Option Data) (program : S) (reply 
 
 -- what a text is, by its language: a program, or a mistake, with which the launch is refused
 abbrev pub LoadsAs : {S : Type 0} → Option Data → Result S (List ℕ) → Standing S → PlainReply → Standing S → Type 0
-LoadsAs arguments (Ok program) stood reply stands = IsLoaded arguments program reply stands
-LoadsAs arguments (Err mistake) stood reply stands = IsQuiet (refusal mistake) stood reply stands
+LoadsAs arguments (Ok program) stood reply stands =
+    IsLoaded arguments program reply stands × (stands.counting ≡ stood.counting)
+LoadsAs arguments (Err mistake) stood reply stands = IsQuiet (refusal (shown_text mistake)) stood reply stands
 
 -- why a file gave nothing, as far as it is known
 abbrev pub unread_text : Unread → List ℕ

@@ -1,7 +1,9 @@
 -- Defines what is replied to each command: the contract of a session.
 use Rattle.std.specs.Prelude.{◌≡◌, true, [], codes, Option, None, Some}
+use Rattle.dap_debug.specs.declared.state.Counting.{Counting}
 use Rattle.serde_json.specs.Data.{Data, boolean, object, no_members, member}
 use Rattle.dap_server.specs.Messages.{PlainReply}
+use Rattle.dap_bodies.specs.Arguments.{truth_or}
 use Rattle.dap_bodies.specs.Bodies.{threads}
 use Rattle.debuggee.specs.Due.{Sight}
 use Rattle.debuggee.specs.Runs.{Meaning}
@@ -35,10 +37,17 @@ capabilities =
     (member (codes "supportsLogPoints") (boolean true)
     (member (codes "supportsTerminateRequest") (boolean true) no_members)))))))
 
+-- how the client counts, as `initialize` says; from 1 where it doesn't
+abbrev pub counting_asked : Option Data → Counting
+counting_asked arguments = record {
+  lines_start_at_1 = truth_or true (codes "linesStartAt1") arguments;
+  columns_start_at_1 = truth_or true (codes "columnsStartAt1") arguments;
+}
+
 -- what is replied to a command that isn't refused for its arguments
 abbrev pub Answers : {S : Type 0} → Known S → Command → Option Data → Standing S → PlainReply → Standing S → Type 0
 Answers known command.Initialize arguments stood reply stands =
-    IsQuiet (success (Some capabilities) []) stood reply stands
+    (reply ≡ success (Some capabilities) []) × (stands ≡ record stood { counting = counting_asked arguments })
 Answers known command.Launch arguments stood reply stands = Loads known.shows.reads_as arguments stood reply stands
 Answers known command.SetBreakpoints arguments stood reply stands =
     Sets known.shows arguments stood reply stands

@@ -10,10 +10,11 @@ use Rattle.debuggee.specs.declared.mode.Mode.{Mode}
 use Rattle.debuggee.specs.declared.mode.Mode.TheVariants as mode
 use Rattle.dap_debug.specs.declared.command.Resume.{Resume}
 use Rattle.dap_debug.specs.declared.command.Resume.TheVariants as resume
+use Rattle.dap_debug.specs.declared.state.Counting.{Counting}
 use Rattle.dap_debug.specs.declared.state.Phase.{Phase}
 use Rattle.dap_debug.specs.declared.state.Phase.TheVariants as phase
 use Rattle.dap_debug.specs.Standings.{Standing, program_in}
-use Rattle.dap_debug.specs.Telling.{told_of}
+use Rattle.dap_debug.specs.Telling.{Tells}
 
 -- In what follows `stood` says how the session stood before, and `stands` how it does after.
 
@@ -41,13 +42,13 @@ abbrev pub Slice : {S : Type 0} → Meaning S → Sight S → S → Mode → Lis
 Slice {S} takes sees program how old events now fault new =
     (halt : Option PlainHalt) × (there : S) × (told : List PlainOutput)
     × Runs takes sees how program old halt there new [] told
-    × (events ≡ told_of told halt) × (now ≡ phase_after halt there how) × (fault ≡ fault_of halt)
+    × Tells told halt events × (now ≡ phase_after halt there how) × (fault ≡ fault_of halt)
 
 -- the same of the program of a session
 abbrev pub Goes : {S : Type 0} → Meaning S → Sight S → S → Mode → Standing S → List PlainEvent → Standing S → Type 0
 Goes takes sees program how stood events stands =
     Slice takes sees program how stood.breakpoints events stands.phase stands.fault stands.breakpoints
-    × (stands.path ≡ stood.path)
+    × (stands.path ≡ stood.path) × (stands.counting ≡ stood.counting)
 
 -- the same of a program that runs; another takes no step
 abbrev pub GoesFrom : {S : Type 0} → Meaning S → Sight S → Phase S → Standing S → List PlainEvent → Standing S
@@ -84,7 +85,7 @@ abbrev pub Arrival : {S : Type 0} → Sight S → S → List PlainBreakpoint →
     → Option PlainFault → List PlainBreakpoint → Type 0
 Arrival sees program old events now fault new =
     (halt : Option PlainHalt) × (told : List PlainOutput) × Arrives sees mode.Continue program old halt new [] told
-    × (events ≡ told_of told halt) × (now ≡ phase_after halt program mode.Continue) × (fault ≡ fault_of halt)
+    × Tells told halt events × (now ≡ phase_after halt program mode.Continue) × (fault ≡ fault_of halt)
 
 -- a program that still runs stops where it begins
 abbrev pub EntersFrom : {S : Type 0} → Phase S → Standing S → List PlainEvent → Standing S → Type 0
@@ -99,20 +100,22 @@ GoesOn takes sees false stood events stands = WorksOn takes sees stood events st
 
 -- First it arrives. What is told of its entry, or of its first slice, follows.
 pub record ArrivesAndGoesOn {S : Type 0} (takes : Meaning S) (sees : Sight S) (stop_on_entry : Bool) (program : S)
-    (old : List PlainBreakpoint) (path : List ℕ) (events : List PlainEvent) (stands : Standing S) : Type 0 where
+    (old : List PlainBreakpoint) (path : List ℕ) (counting : Counting) (events : List PlainEvent) (stands : Standing S)
+    : Type 0 where
   pub there : Standing S
   pub more : List PlainEvent
   pub goes : GoesOn takes sees stop_on_entry there more stands
   pub first : List PlainEvent
   pub arrives : Arrival sees program old first there.phase there.fault there.breakpoints
   pub path_is : there.path ≡ path
+  pub counting_is : there.counting ≡ counting
   pub events_are : events ≡ first ++ more
 
 -- a program that waits is started
 abbrev pub StartsFrom : {S : Type 0} → Meaning S → Sight S → Phase S → Standing S → PlainReply → Standing S → Type 0
 StartsFrom takes sees (phase.Configuring program stop_on_entry) stood reply stands =
     (events : List PlainEvent)
-    × ArrivesAndGoesOn takes sees stop_on_entry program stood.breakpoints stood.path events stands
+    × ArrivesAndGoesOn takes sees stop_on_entry program stood.breakpoints stood.path stood.counting events stands
     × (reply ≡ success None events)
 StartsFrom takes sees _ stood reply stands = IsRefused stood reply stands
 

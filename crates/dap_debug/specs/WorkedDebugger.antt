@@ -1,7 +1,8 @@
 -- Worked examples: commands, modes, what is told of a run, hit conditions, messages, identifiers and references,
 -- computed.
-use Rattle.std.specs.Prelude.{◌≡◌, ℕ, true, false, List, [], ◌∷◌, ◌++◌, codes, map, Option, None, Some}
+use Rattle.std.specs.Prelude.{◌≡◌, ℕ, Bool, true, false, List, [], ◌∷◌, ◌++◌, codes, map, Option, None, Some}
 use Rattle.serde_json.specs.Written.{compact_text}
+use Rattle.dap_bodies.specs.Arguments.{truth_at}
 use Rattle.dap_server.specs.Messages.{PlainEvent, events_from}
 use Rattle.debuggee.specs.Due.{Sight}
 use Rattle.debuggee.specs.Plain.{NoValue, AtBreakpoint, AtStep, AtEnd, AtFault, Printed, Logged, Text, Expression}
@@ -9,6 +10,7 @@ use Rattle.debuggee.specs.Runs.{Meaning}
 use Rattle.debuggee.specs.declared.breakpoint.Rule.{Rule}
 use Rattle.debuggee.specs.declared.breakpoint.Rule.TheVariants.{From, Exactly, Every}
 use Rattle.debuggee.specs.declared.mode.Mode.TheVariants as mode
+use Rattle.dap_debug.specs.declared.command.Command.{Command}
 use Rattle.dap_debug.specs.declared.command.Command.TheVariants as command
 use Rattle.dap_debug.specs.declared.command.Question.TheVariants as question
 use Rattle.dap_debug.specs.declared.command.Refusal.TheVariants as refusal
@@ -20,8 +22,8 @@ use Rattle.dap_debug.specs.Commands.{command_of}
 use Rattle.dap_debug.specs.Inspecting.{frame_of_reference, frame_with, index_of_reference, number_of_reference, reference_inside, shown_frame, shown_scope}
 use Rattle.dap_debug.specs.Replies.{capabilities}
 use Rattle.dap_debug.specs.Running.{GoesOn, PausesFrom, ended, mode_of, success}
-use Rattle.dap_debug.specs.Standings.{Standing}
-use Rattle.dap_debug.specs.Telling.{told_of}
+use Rattle.dap_debug.specs.Standings.{Standing, from_one}
+use Rattle.dap_debug.specs.Telling.{Tells, told_end}
 
 abbrev pub CommandsAreNamed : Type 0
 CommandsAreNamed =
@@ -48,10 +50,11 @@ texts events = map compact_text (events_from 1 events)
 -- two texts that were printed, and one that a breakpoint says
 abbrev pub TextsAreTold : Type 0
 TextsAreTold =
-    texts (told_of (Printed (codes "1") ∷ (Printed (codes "2") ∷ (Logged (codes "n") ∷ []))) None)
-    ≡ codes "{\"body\":{\"category\":\"stdout\",\"output\":\"12\"},\"event\":\"output\",\"seq\":1,\"type\":\"event\"}"
+    (events : List PlainEvent)
+    × Tells (Printed (codes "1") ∷ (Printed (codes "2") ∷ (Logged (codes "n") ∷ []))) None events
+    × (texts events ≡ codes "{\"body\":{\"category\":\"stdout\",\"output\":\"12\"},\"event\":\"output\",\"seq\":1,\"type\":\"event\"}"
     ∷ codes "{\"body\":{\"category\":\"console\",\"output\":\"n\"},\"event\":\"output\",\"seq\":2,\"type\":\"event\"}"
-    ∷ []
+    ∷ [])
 
 -- a stop for this reason, and perhaps with a text
 abbrev pub a_stop : List ℕ → List ℕ → List ℕ
@@ -61,7 +64,7 @@ a_stop reason text =
 
 abbrev pub HaltsAreTold : Type 0
 HaltsAreTold =
-    map (λ halt. texts (told_of [] halt)) (Some AtBreakpoint ∷ Some AtStep
+    map (λ halt. texts (told_end halt)) (Some AtBreakpoint ∷ Some AtStep
     ∷ Some (AtFault (record { name = codes "No"; text = codes "no" })) ∷ Some (AtEnd 3) ∷ None ∷ [])
     ≡ (a_stop (codes "breakpoint") [] ∷ []) ∷ (a_stop (codes "step") [] ∷ [])
     ∷ (a_stop (codes "exception") (codes "\"text\":\"no\",") ∷ [])
@@ -82,7 +85,7 @@ nowhere = record {
 }
 
 abbrev pub stood : Phase (Unit {0}) → Standing (Unit {0})
-stood now = record { phase = now; path = []; fault = None; breakpoints = [] }
+stood now = record { phase = now; path = []; fault = None; breakpoints = []; counting = from_one }
 
 -- an event that tells a stop for this reason
 abbrev pub stop_event : List ℕ → PlainEvent → Type 0
@@ -116,6 +119,39 @@ CapabilitiesAre =
     ++ (codes "\"supportsEvaluateForHovers\":true,\"supportsExceptionInfoRequest\":true,"
     ++ codes "\"supportsHitConditionalBreakpoints\":true,\"supportsLogPoints\":true,\"supportsTerminateRequest\":true}")
 
+-- the protocol's requests that an adapter may leave out, each after the capability that announces it
+abbrev pub optional_requests : List (List ℕ × List ℕ)
+optional_requests =
+    (codes "supportsConfigurationDoneRequest", codes "configurationDone")
+    ∷ (codes "supportsExceptionInfoRequest", codes "exceptionInfo")
+    ∷ (codes "supportsTerminateRequest", codes "terminate") ∷ (codes "supportsCancelRequest", codes "cancel")
+    ∷ (codes "supportsRestartRequest", codes "restart") ∷ (codes "supportsModulesRequest", codes "modules")
+    ∷ (codes "supportsLoadedSourcesRequest", codes "loadedSources")
+    ∷ (codes "supportsTerminateThreadsRequest", codes "terminateThreads")
+    ∷ (codes "supportsStepBack", codes "stepBack") ∷ (codes "supportsStepBack", codes "reverseContinue")
+    ∷ (codes "supportsRestartFrame", codes "restartFrame") ∷ (codes "supportsGotoTargetsRequest", codes "gotoTargets")
+    ∷ (codes "supportsStepInTargetsRequest", codes "stepInTargets")
+    ∷ (codes "supportsSetVariable", codes "setVariable") ∷ (codes "supportsSetExpression", codes "setExpression")
+    ∷ (codes "supportsCompletionsRequest", codes "completions")
+    ∷ (codes "supportsFunctionBreakpoints", codes "setFunctionBreakpoints")
+    ∷ (codes "supportsDataBreakpoints", codes "setDataBreakpoints")
+    ∷ (codes "supportsInstructionBreakpoints", codes "setInstructionBreakpoints")
+    ∷ (codes "supportsBreakpointLocationsRequest", codes "breakpointLocations")
+    ∷ (codes "supportsReadMemoryRequest", codes "readMemory")
+    ∷ (codes "supportsWriteMemoryRequest", codes "writeMemory")
+    ∷ (codes "supportsDisassembleRequest", codes "disassemble") ∷ []
+
+-- a command is served unless it is refused whatever its arguments are
+abbrev pub is_served : Command → Bool
+is_served (command.Refused why) = false
+is_served _ = true
+
+-- Just those of them are served that are announced.
+abbrev pub AnnouncedAreServed : Type 0
+AnnouncedAreServed =
+    map (λ request. is_served (command_of request.1)) optional_requests
+    ≡ map (λ request. truth_at request.0 (Some capabilities)) optional_requests
+
 -- `03` is no rule
 abbrev pub RulesAreRead : Type 0
 RulesAreRead =
@@ -133,7 +169,7 @@ MessagesAreRead =
 -- frame, follow; those of what is inside variables come after all of them
 abbrev pub ShownAreNumbered : Type 0
 ShownAreNumbered =
-    ((shown_frame [] 0 (record { name = []; line = 4; column = 1 })).id ≡ 1) × ((shown_scope 0 0 []).reference ≡ 1)
+    ((shown_frame from_one [] 0 (record { name = []; line = 4; column = 1 })).id ≡ 1) × ((shown_scope 0 0 []).reference ≡ 1)
     × ((shown_scope 1 2 []).reference ≡ 19)
     × (map reference_inside (None ∷ Some 0 ∷ Some 5 ∷ Some 1073741823 ∷ []) ≡ 0 ∷ 1073741825 ∷ 1073741830 ∷ 0 ∷ [])
 

@@ -14,9 +14,11 @@ use Rattle.dap_debug.specs.declared.command.Resume.TheVariants as resume
 use Rattle.dap_debug.specs.Commands.{checked}
 use Rattle.dap_debug.specs.declared.state.Phase.TheVariants as phase
 use Rattle.dap_debug.specs.Breakpoints.{IsSet, SetsIn, answers_reply}
-use Rattle.dap_debug.specs.Inspecting.{AnswersQuestion, first_frame, frame_asked, frame_count, page_asked, reference_asked}
+use Rattle.dap_debug.specs.Inspecting.{AnswersQuestion, first_frame, frame_asked, frame_count, page_asked, reference_asked, shown_frame}
 use Rattle.dap_debug.specs.Loading.{IsLoaded}
+use Rattle.dap_debug.specs.Replies.{counting_asked}
 use Rattle.dap_debug.specs.Running.{success}
+use Rattle.dap_debug.specs.Standings.{from_one}
 
 -- a breakpoint that is asked for
 abbrev pub breakpoint : Data
@@ -65,7 +67,7 @@ sees = record {
 -- the answer to `evaluate` with these arguments
 abbrev pub ShowsValue : Option Data → List ℕ → Type 0
 ShowsValue asked text =
-    AnswersQuestion sees nothing_shown question.Evaluate asked [] tt (success (Some (evaluated text 0)) [])
+    AnswersQuestion sees nothing_shown question.Evaluate asked from_one [] tt (success (Some (evaluated text 0)) [])
 
 -- in the frame that is asked for, or else in the newest
 abbrev pub ExpressionsAreEvaluated : Type 0
@@ -76,7 +78,7 @@ ExpressionsAreEvaluated =
 abbrev pub ProgramIsLoaded : Type 0
 ProgramIsLoaded =
     IsLoaded arguments (tt {0}) (success None (initialized ∷ []))
-    (record { phase = phase.Configuring (tt {0}) true; path = codes "a"; fault = None; breakpoints = [] })
+    (record { phase = phase.Configuring (tt {0}) true; path = codes "a"; fault = None; breakpoints = []; counting = from_one })
 
 -- the breakpoint that is set for it at place 7
 abbrev pub placed : PlainBreakpoint
@@ -97,23 +99,36 @@ shows = record nothing_shown {
 
 abbrev pub BreakpointIsSet : Type 0
 BreakpointIsSet =
-    SetsIn shows arguments (tt {0}) (codes "b") [] (answers_reply (SetAt 4 ∷ [])) (placed ∷ [])
+    SetsIn shows 0 arguments (tt {0}) (codes "b") [] (answers_reply (SetAt 4 ∷ [])) (placed ∷ [])
 
 -- none is set with a condition that has a mistake, which is told
 abbrev pub MistakeIsTold : Type 0
 MistakeIsTold =
-    IsSet shows (tt {0})
+    IsSet shows 0 (tt {0})
     (object (member (codes "condition") (string (codes "j")) (member (codes "line") (number (unsigned 3)) no_members)))
     (Refused (codes "no j")) None
 
 -- without a line that is a number none is set, though each line has a first place
 abbrev pub LineIsAsked : Type 0
 LineIsAsked =
-    IsSet shows (tt {0})
+    IsSet shows 0 (tt {0})
     (object (member (codes "line") (string (codes "3")) no_members)) (Refused (codes "no")) None
 
 abbrev pub asking : List ℕ → Data → Option Data
 asking key value = Some (object (member key value no_members))
+
+-- How a client counts that says nothing of it, or that it counts lines, or columns, from 0. Where it counts both so, line 2
+-- is the third, the first place for it is on the fourth, which is line 3; and so is a frame there, in column 0.
+abbrev pub CountingIsAsked : Type 0
+CountingIsAsked =
+    (map counting_asked (arguments ∷ asking (codes "linesStartAt1") (boolean false)
+    ∷ asking (codes "columnsStartAt1") (boolean false) ∷ [])
+    ≡ from_one ∷ record from_one { lines_start_at_1 = false } ∷ record from_one { columns_start_at_1 = false } ∷ [])
+    × IsSet shows 1 (tt {0}) (object (member (codes "line") (number (unsigned 2)) no_members)) (SetAt 3)
+    (Some (record { place = 7; condition = None; rule = None; arrivals = 0; message = None }))
+    × (shown_frame (record { lines_start_at_1 = false; columns_start_at_1 = false }) [] 0
+    (record { name = []; line = 4; column = 1 })
+    ≡ record { id = 1; name = []; path = []; line = 3; column = 0 })
 
 -- what is refused for its arguments: a launch without a debugger, another thread, and lines alone
 abbrev pub CommandsAreChecked : Type 0

@@ -9,7 +9,7 @@ ghost use Rattle.dap_server.specs.Messages.{plain_reply};
 ghost use Rattle.debuggee.specs.Plain.{Text, Expression, plain_breakpoint, plain_part};
 ghost use Rattle.dap_bodies.specs.Arguments.{list_at};
 ghost use Rattle.dap_debug.specs.Standings.{standing};
-ghost use Rattle.dap_debug.specs.Breakpoints.{AreParts, AreSet, AreUnset, HasExpression, HasMistake, IsAnswered, IsBreakpoint, IsCount, IsMessage, IsUnclosed, IsRule, IsSet, Sets, SetsIn, answers_reply, condition_of, message_limit, source_asked, text_of, unless_empty};
+ghost use Rattle.dap_debug.specs.Breakpoints.{AreParts, AreSet, AreUnset, HasExpression, HasMistake, IsAnswered, IsBreakpoint, IsCount, IsMessage, IsUnclosed, IsRule, IsSet, Sets, SetsIn, answers_reply, condition_of, counted_at, message_limit, source_asked, text_of, unless_empty};
 
 use crate::state::State;
 use dap_bodies::{list, member, text, whole};
@@ -52,28 +52,31 @@ impl<L: Language> State<L> {
         match self.phase.program() {
             Some(program) => {
                 let path = self.path.as_str();
-                set_in(alloc, program, path, arguments, &mut self.breakpoints)
+                let less = self.counting.line_offset();
+                set_in(alloc, program, path, less, arguments, &mut self.breakpoints)
             }
             None => Reply::refused(alloc, "no program is loaded"),
         }
     }
 }
 
-/// Sets the breakpoints of a program with this path, if they are those that are asked for.
+/// Sets the breakpoints of a program with this path, if they are those that are asked for. The client's lines are so much
+/// less than those counted from 1.
 fn set_in<L: Language>(
     alloc: Global,
     program: &L,
     path: &str,
+    less: u64,
     arguments: Option<&Value>,
     breakpoints: &mut Vec<Breakpoint>,
 ) -> Result<Reply, AllocError>
-    ensures { IfOk result (λ reply. SetsIn L.shows (option_map (λ v. view v.now) arguments.entry) program.now
+    ensures { IfOk result (λ reply. SetsIn L.shows less (option_map (λ v. view v.now) arguments.entry) program.now
         path.now (map plain_breakpoint breakpoints.old.items) (plain_reply reply)
         (map plain_breakpoint breakpoints.new.items)) }
 {
     let asked = list(arguments, "breakpoints");
     if is_source(arguments, path) {
-        let set = set_all(alloc, program, asked)?;
+        let set = set_all(alloc, program, less, asked)?;
         *breakpoints = set.breakpoints;
         reply_with(alloc, set.answers)
     } else {
@@ -115,15 +118,16 @@ fn refuse_all(alloc: Global, asked: &[Value]) -> Result<Vec<dap_bodies::Breakpoi
 fn set_all<L: Language>(
     alloc: Global,
     program: &L,
+    less: u64,
     asked: &[Value],
 ) -> Result<AllAnswered, AllocError>
-    ensures { IfOk result (λ set. AreSet L.shows program.now (items_view asked.now)
+    ensures { IfOk result (λ set. AreSet L.shows less program.now (items_view asked.now)
         (map plain_shown_breakpoint set.answers.items) (map plain_breakpoint set.breakpoints.items)) }
 {
     let mut breakpoints = Vec::new(alloc);
     let mut answers = Vec::new(alloc);
     for one in asked {
-        let Answered { breakpoint, answer } = set_one(alloc, program, one)?;
+        let Answered { breakpoint, answer } = set_one(alloc, program, less, one)?;
         keep(&mut breakpoints, breakpoint)?;
         answers.push(answer)?;
     }
@@ -146,17 +150,38 @@ fn keep(breakpoints: &mut Vec<Breakpoint>, breakpoint: Option<Breakpoint>) -> Re
 }
 
 /// Sets a breakpoint.
-fn set_one<L: Language>(alloc: Global, program: &L, asked: &Value) -> Result<Answered, AllocError>
-    ensures { IfOk result (λ set. IsSet L.shows program.now (view asked.now) (plain_shown_breakpoint set.answer)
+fn set_one<L: Language>(
+    alloc: Global,
+    program: &L,
+    less: u64,
+    asked: &Value,
+) -> Result<Answered, AllocError>
+    ensures { IfOk result (λ set. IsSet L.shows less program.now (view asked.now) (plain_shown_breakpoint set.answer)
         (option_map plain_breakpoint set.breakpoint)) }
 {
     match whole(Some(asked), "line") {
-        Some(line) => set_at(alloc, program, asked, program.place_for(line)),
+        Some(line) => {
+            let first = program.place_for(line.saturating_add(less));
+            set_at(alloc, program, asked, counted_at(less, first))
+        }
         None => refuse(alloc, "`line` is missing"),
     }
 }
 
-/// Sets a breakpoint where the first place for its line is this one.
+/// Returns a place, if there is one, with its line as the client counts.
+fn counted_at(less: u64, first: Option<Location>) -> Option<Location>
+    ensures { result ≡ option_map (counted_at less) first }
+{
+    match first {
+        Some(Location { place, line }) => Some(Location {
+            place,
+            line: line.saturating_sub(less),
+        }),
+        None => None,
+    }
+}
+
+/// Sets a breakpoint where the first place for its line is this one, with its line as the client counts.
 fn set_at<L: Language>(
     alloc: Global,
     program: &L,

@@ -10,8 +10,8 @@ ghost use Rattle.dap_debug.specs.Standings.{standing};
 ghost use Rattle.dap_debug.specs.Inspecting.{Inspects, AnswersQuestion, ShowsFrame, ShowsInside, ShowsPage, ShowsScopes, ShowsStack, ShowsVariables, Evaluates, Explains, frame_asked, frame_count, frame_limit, frame_of_reference, frame_to_evaluate, frame_with, first_frame, index_of_reference, number_of_reference, page_asked, reference_asked, reference_inside, scope_limit, scopes_reply, shown_scope, shown_scopes, shown_variable, variables_reply};
 
 use crate::command::Question;
-use crate::state::{Phase, State};
-use dap_bodies::{StackFrame, evaluated, exception_info, text, whole};
+use crate::state::{Counting, Phase, State};
+use dap_bodies::{StackFrame, evaluated, exception_info, shown_text, text, whole};
 use dap_server::Reply;
 use debuggee::{Evaluated, Frame, Language, Page, Variable};
 use serde_json::Value;
@@ -52,7 +52,8 @@ impl<L: Language> State<L> {
     {
         match &self.phase {
             Phase::Stopped(program) => {
-                show(alloc, program, question, arguments, self.path.as_str())
+                let path = self.path.as_str();
+                show(alloc, program, question, arguments, self.counting, path)
             }
             _ => Reply::refused(alloc, "the program isn't stopped"),
         }
@@ -82,13 +83,14 @@ fn show<L: Language>(
     program: &L,
     question: Question,
     arguments: Option<&Value>,
+    counting: Counting,
     path: &str,
 ) -> Result<Reply, AllocError>
     ensures { IfOk result (λ reply. AnswersQuestion L.sees L.shows question
-        (option_map (λ v. view v.now) arguments.entry) path.now program.now (plain_reply reply)) }
+        (option_map (λ v. view v.now) arguments.entry) counting path.now program.now (plain_reply reply)) }
 {
     match question {
-        Question::StackTrace => stack_trace(alloc, program, arguments, path),
+        Question::StackTrace => stack_trace(alloc, program, arguments, counting, path),
         Question::Scopes => {
             let many = program.depth().min(FRAME_LIMIT);
             match frame_asked(many, arguments) {
@@ -106,9 +108,10 @@ fn stack_trace<L: Language>(
     alloc: Global,
     program: &L,
     arguments: Option<&Value>,
+    counting: Counting,
     path: &str,
 ) -> Result<Reply, AllocError>
-    ensures { IfOk result (λ reply. ShowsStack L.sees L.shows.frame_of path.now
+    ensures { IfOk result (λ reply. ShowsStack L.sees L.shows.frame_of counting path.now
         (option_map (λ v. view v.now) arguments.entry) program.now (plain_reply reply)) }
 {
     let depth = program.depth();
@@ -116,7 +119,7 @@ fn stack_trace<L: Language>(
     let count = frame_count(arguments, depth - first);
     let mut frames = Vec::new(alloc);
     for index in first..first + count {
-        frames.push(frame(alloc, program, index, path)?)?;
+        frames.push(frame(alloc, program, index, counting, path)?)?;
     }
     let body = dap_bodies::stack_trace(alloc, frames, depth as u64)?;
     Ok(Reply::with_body(alloc, body))
@@ -142,24 +145,26 @@ fn frame_count(arguments: Option<&Value>, many: usize) -> usize
     }
 }
 
-/// Shows a frame.
+/// Shows a frame, with its line and column as the client counts.
 fn frame<L: Language>(
     alloc: Global,
     program: &L,
     index: usize,
+    counting: Counting,
     path: &str,
 ) -> Result<StackFrame, AllocError>
     requires alive { index < L.sees.depth_of program.now }
     requires fits { index < 2 ^ 64 - 1 }
-    ensures { IfOk result (λ shown. ShowsFrame L.shows.frame_of path.now program.now index (plain_shown_frame shown)) }
+    ensures { IfOk result (λ shown. ShowsFrame L.shows.frame_of counting path.now program.now index
+        (plain_shown_frame shown)) }
 {
     let Frame { name, line, column } = program.frame(alloc, index)?;
     Ok(StackFrame {
         id: index as u64 + 1,
         name,
         path: String::from_str(alloc, path)?,
-        line,
-        column,
+        line: line.saturating_sub(counting.line_offset()),
+        column: column.saturating_sub(counting.column_offset()),
     })
 }
 
@@ -453,6 +458,6 @@ fn evaluate<L: Language>(
             let body = evaluated(alloc, value, 0)?;
             Ok(Reply::with_body(alloc, body))
         }
-        Evaluated::NoValue(why) => Reply::refused(alloc, why.as_str()),
+        Evaluated::NoValue(why) => Reply::refused(alloc, shown_text(why)?.as_str()),
     }
 }

@@ -9,7 +9,7 @@ ghost use Rattle.dap_debug.specs.Standings.{standing};
 
 use crate::state::{Phase, State};
 use byte_streams::{ReadFault, Reading, read_all};
-use dap_bodies::{initialized, text, truth};
+use dap_bodies::{initialized, shown_text, text, truth};
 use dap_server::Reply;
 use debuggee::Language;
 use serde_json::Value;
@@ -87,7 +87,7 @@ impl<L: Language> State<L> {
                 reply.push(initialized(alloc)?)?;
                 Ok(reply)
             }
-            Err(mistake) => Reply::refused(alloc, mistake.as_str()),
+            Err(mistake) => Reply::refused(alloc, shown_text(mistake)?.as_str()),
         }
     }
 }

@@ -1,21 +1,22 @@
 //! What holds of each session.
 
-ghost use Rattle.dap_debug.specs.Laws.{WorkIsBalanced, RepliesAreBalanced, TextsAreKept, FramesAreFound, ScopesAreFound, VariablesAreFound};
+ghost use Rattle.dap_debug.specs.Laws.{WorkIsBalanced, RepliesAreBalanced, TextsAreKept, PiecesAreKept, FramesAreFound, ScopesAreFound, VariablesAreFound};
 ghost use Rattle.dap_debug.specs.Replies.{known_of};
 ghost use Rattle.dap_debug.specs.Sums.{EachEndsOnce};
-ghost use Rattle.dap_debug.specs.WorkedDebugger.{CommandsAreNamed, ModesFollow, TextsAreTold, HaltsAreTold, EntryIsTold, PauseIsTold, EndIsTold, CapabilitiesAre, RulesAreRead, ShownAreNumbered, NumbersAreFound, MessagesAreRead};
-ghost use Rattle.dap_debug.specs.WorkedRequests.{BreakpointIsSet, CommandsAreChecked, ExpressionsAreEvaluated, FramesAreAsked, LineIsAsked, MistakeIsTold, PagesAreAsked, ProgramIsLoaded};
+ghost use Rattle.dap_debug.specs.WorkedDebugger.{CommandsAreNamed, ModesFollow, TextsAreTold, HaltsAreTold, EntryIsTold, PauseIsTold, EndIsTold, CapabilitiesAre, AnnouncedAreServed, RulesAreRead, ShownAreNumbered, NumbersAreFound, MessagesAreRead};
+ghost use Rattle.dap_debug.specs.WorkedRequests.{BreakpointIsSet, CountingIsAsked, CommandsAreChecked, ExpressionsAreEvaluated, FramesAreAsked, LineIsAsked, MistakeIsTold, PagesAreAsked, ProgramIsLoaded};
 
 use dap_server::Polled;
 use debuggee::Language;
 
 /// Each run ends once: a request that lets the program go on, or ends one that doesn't run, owes one event that tells that
 /// the program has stopped or is gone, and what was owed is told, but for what is still owed while the program runs. And
-/// each byte that is printed or said is told, in order. It does nothing: its contract is the laws.
+/// each byte that is printed or said is told, in order, at most 65,536 in one event. It does nothing: its contract is the laws.
 pub fn debug_laws<L: Language>()
     ensures work { WorkIsBalanced L.takes L.sees }
     ensures replies { RepliesAreBalanced (known_of L.takes L.sees L.shows) }
     ensures texts { TextsAreKept }
+    ensures pieces { PiecesAreKept }
 {}
 
 /// The same of a whole conversation: the ends that its events tell are those that its requests ask for, but for one that is
@@ -45,6 +46,7 @@ pub fn worked_debugger()
     ensures pause { PauseIsTold }
     ensures end { EndIsTold }
     ensures capabilities { CapabilitiesAre }
+    ensures announced { AnnouncedAreServed }
     ensures rules { RulesAreRead }
     ensures messages { MessagesAreRead }
     ensures numbered { ShownAreNumbered }
@@ -59,6 +61,7 @@ pub fn worked_requests()
     ensures program { ProgramIsLoaded }
     ensures breakpoint { BreakpointIsSet }
     ensures line { LineIsAsked }
+    ensures counted { CountingIsAsked }
     ensures mistake { MistakeIsTold }
     ensures pages { PagesAreAsked }
     ensures checked { CommandsAreChecked }

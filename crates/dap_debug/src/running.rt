@@ -77,8 +77,8 @@ impl<L: Language> State<L> {
         stop_on_entry: bool,
     ) -> Result<Vec<Event>, AllocError>
         ensures { IfOk result (λ events. ArrivesAndGoesOn L.takes L.sees stop_on_entry program
-            (standing self.old).breakpoints (standing self.old).path (map plain_event events.items)
-            (standing self.new)) }
+            (standing self.old).breakpoints (standing self.old).path (standing self.old).counting
+            (map plain_event events.items) (standing self.new)) }
     {
         let ran = arrive_first(alloc, program, &mut self.breakpoints)?;
         self.phase = ran.phase;

@@ -4,11 +4,11 @@ ghost use Rattle.std.specs.Prelude.{◌≡◌, IfOk, option_map};
 ghost use Rattle.serde_json.specs.View.{view};
 ghost use Rattle.dap_server.specs.Messages.{plain_reply};
 ghost use Rattle.dap_debug.specs.Standings.{standing, unused};
-ghost use Rattle.dap_debug.specs.Replies.{Answers, capabilities, known_of};
+ghost use Rattle.dap_debug.specs.Replies.{Answers, capabilities, counting_asked, known_of};
 
 use crate::command::{Command, checked, command_of, refusal_text};
-use crate::state::{Phase, State};
-use dap_bodies::threads;
+use crate::state::{Counting, Phase, State};
+use dap_bodies::{threads, truth_or};
 use dap_server::{Event, Reply, Responder, Worker};
 use debuggee::Language;
 use serde_json::{Value, json};
@@ -86,7 +86,10 @@ impl<'a, R: Wait + Files + Clock, L: Language> Session<'a, R, L> {
             (standing self.new.state)) }
     {
         match command {
-            Command::Initialize => Ok(Reply::with_body(alloc, capabilities(alloc)?)),
+            Command::Initialize => {
+                self.state.counting = counting_asked(arguments);
+                Ok(Reply::with_body(alloc, capabilities(alloc)?))
+            }
             Command::Launch => self.state.launch(self.rt, alloc, arguments),
             Command::SetBreakpoints => self.state.set_breakpoints(alloc, arguments),
             Command::ConfigurationDone => self.state.start(alloc),
@@ -99,6 +102,16 @@ impl<'a, R: Wait + Files + Clock, L: Language> Session<'a, R, L> {
             Command::Disconnect => Ok(Reply::done(alloc)),
             Command::Refused(why) => Reply::refused(alloc, refusal_text(why)),
         }
+    }
+}
+
+/// Returns how the client counts, as its `initialize` says.
+fn counting_asked(arguments: Option<&Value>) -> Counting
+    ensures { result ≡ counting_asked (option_map (λ v. view v.now) arguments.entry) }
+{
+    Counting {
+        lines_start_at_1: truth_or(arguments, "linesStartAt1", true),
+        columns_start_at_1: truth_or(arguments, "columnsStartAt1", true),
     }
 }
 

@@ -3,24 +3,26 @@
 ghost use Rattle.std.specs.Prelude.{◌≡◌, ◌++◌, ◌∷◌, [], IfOk, OnOk, map, option_map, string_bytes};
 ghost use Rattle.dap_server.specs.Messages.{plain_event};
 ghost use Rattle.debuggee.specs.Plain.{plain_halt, plain_output};
-ghost use Rattle.dap_debug.specs.Telling.{event_of, merge, merged, end_with, told_end, told_of, Added};
+ghost use Rattle.dap_bodies.specs.Events.{output};
+ghost use Rattle.dap_debug.specs.Telling.{Added, AddsEvents, TellAll, TellOne, TellPieces, Tells, end_with, merge, merged, told_end};
 
-use dap_bodies::{exited, output, stopped, terminated};
+use dap_bodies::{exited, output, split_text, stopped, terminated};
 use dap_server::Event;
 use debuggee::{Halt, Output};
 use std::alloc::{AllocError, Global};
 
-/// Returns the events that tell of a part of a run: all that was told, in as few as there can be, and then why it halted,
-/// if it did.
+/// Returns the events that tell of a part of a run: all that was told, in as few as there can be with at most
+/// 65,536 bytes each, and then why it halted, if it did.
 ///
 /// # Errors
 ///
 /// An allocation failed.
 pub fn tell(alloc: Global, told: Vec<Output>, halt: &Option<Halt>) -> Result<Vec<Event>, AllocError>
-    ensures { IfOk result (λ events. map plain_event events.items ≡
-        told_of (map plain_output told.items) (option_map plain_halt halt.now)) }
+    ensures { IfOk result (λ events. Tells (map plain_output told.items) (option_map plain_halt halt.now)
+        (map plain_event events.items)) }
 {
-    let mut events = events_of(alloc, merged(alloc, told)?)?;
+    let texts = merged(alloc, told)?;
+    let mut events = events_of(alloc, texts)?;
     tell_end(alloc, halt, &mut events)?;
     Ok(events)
 }
@@ -84,23 +86,57 @@ fn longer(text: String, more: String) -> Result<String, AllocError>
 
 /// Returns the events that tell these texts.
 fn events_of(alloc: Global, texts: Vec<Output>) -> Result<Vec<Event>, AllocError>
-    ensures { IfOk result (λ events. map plain_event events.items ≡ map event_of (map plain_output texts.items)) }
+    ensures { IfOk result (λ events. TellAll (map plain_output texts.items) (map plain_event events.items)) }
 {
     let mut events = Vec::new(alloc);
     for one in texts {
-        events.push(event_of(alloc, one)?)?;
+        tell_one(alloc, one, &mut events)?;
     }
     Ok(events)
 }
 
-/// Returns the event that tells what the program has printed, or what a breakpoint says.
-fn event_of(alloc: Global, told: Output) -> Result<Event, AllocError>
-    ensures { IfOk result (λ event. plain_event event ≡ event_of (plain_output told)) }
+/// Adds the events that tell what the program has printed, or what a breakpoint says.
+fn tell_one(alloc: Global, told: Output, events: &mut Vec<Event>) -> Result<(), AllocError>
+    ensures { OnOk result (AddsEvents (TellOne (plain_output told)) (map plain_event events.old.items)
+        (map plain_event events.new.items)) }
 {
     match told {
-        Output::Printed(text) => output(alloc, "stdout", text),
-        Output::Logged(text) => output(alloc, "console", text),
+        Output::Printed(text) => tell_pieces(alloc, "stdout", text.as_str(), events),
+        Output::Logged(text) => tell_pieces(alloc, "console", text.as_str(), events),
     }
+}
+
+/// Adds the events that tell a text of this category, in pieces.
+fn tell_pieces(
+    alloc: Global,
+    category: &str,
+    text: &str,
+    events: &mut Vec<Event>,
+) -> Result<(), AllocError>
+    ensures { OnOk result (AddsEvents (TellPieces category.now text.now) (map plain_event events.old.items)
+        (map plain_event events.new.items)) }
+{
+    let mut rest = text;
+    while let Some((piece, left)) = split_text(rest) {
+        tell_piece(alloc, category, piece, events)?;
+        rest = left;
+    }
+    tell_piece(alloc, category, rest, events)
+}
+
+/// Adds the event that tells a text of this category.
+fn tell_piece(
+    alloc: Global,
+    category: &str,
+    piece: &str,
+    events: &mut Vec<Event>,
+) -> Result<(), AllocError>
+    ensures { OnOk result (map plain_event events.new.items ≡
+        map plain_event events.old.items ++ output category.now piece.now ∷ []) }
+{
+    let text = String::from_str(alloc, piece)?;
+    events.push(output(alloc, category, text)?)?;
+    Ok(())
 }
 
 /// Adds why a run halted, if it did.

@@ -7,5 +7,5 @@ use Rattle.dap_debug.proofs.breakpoints.set_all.Given as goal
 
 abbrev pub invariant-loop-one : goal.invariant-loop-one
 invariant-loop-one g l =
-    AreSet g.L.Language.shows l.program (items_view (take l.one-index l.asked))
+    AreSet g.L.Language.shows l.less l.program (items_view (take l.one-index l.asked))
     (map plain_shown_breakpoint l.answers.items) (map plain_breakpoint l.breakpoints.items)

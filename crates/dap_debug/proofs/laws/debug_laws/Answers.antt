@@ -1,5 +1,6 @@
 use Rattle.dap_debug.proofs.Balance.{work_balanced, replies_balanced}
 use Rattle.dap_debug.proofs.Merging.{all_bytes_kept, alternate}
+use Rattle.dap_debug.proofs.Pieces.{kept}
 use Rattle.dap_debug.specs.Replies.{known_of}
 use Rattle.dap_debug.proofs.laws.debug_laws.Goals as goal
 
@@ -12,3 +13,6 @@ returns-clause-replies g c =
 
 pub returns-clause-texts : goal.returns-clause-texts
 returns-clause-texts g c = λ told. (all_bytes_kept told, alternate told)
+
+pub returns-clause-pieces : goal.returns-clause-pieces
+returns-clause-pieces g c = kept

@@ -1,9 +1,11 @@
 use Rattle.std.proofs.Common.{◌≢◌, refl, inr, ◌∷◌, [], codes, arith}
 use Rattle.std.specs.Prelude.{None}
 use Rattle.std.specs.Fmt.{digits}
+use Rattle.std.specs.Fmt.Cut.{cut_to}
 use Rattle.json.specs.Print.{escape_byte}
 use Rattle.std.proofs.lemmas.List.Elements.{All-cons, All-nil}
-use Rattle.dap_bodies.specs.Events.{stopped}
+use Rattle.dap_bodies.specs.Events.{output, stopped}
+use Rattle.dap_server.specs.Messages.{PlainEvent}
 use Rattle.dap_debug.specs.Breakpoints.{Lacks}
 use Rattle.dap_debug.proofs.Texts.{zero_in_front}
 use Rattle.dap_debug.proofs.laws.worked_debugger.Goals as goal
@@ -15,11 +17,31 @@ pub returns-clause-modes : goal.returns-clause-modes
 returns-clause-modes c = refl
 
 pub returns-clause-texts : goal.returns-clause-texts
-unfolding digits escape_byte
-returns-clause-texts c = refl
+unfolding digits escape_byte cut_to
+returns-clause-texts c = (
+  printed ∷ logged ∷ [],
+  (
+    printed ∷ logged ∷ [],
+    (
+      printed ∷ [],
+      logged ∷ [],
+      (codes "12" ∷ [], (refl, omega arith), refl),
+      (logged ∷ [], [], (codes "n" ∷ [], (refl, omega arith), refl), refl, refl),
+      refl,
+    ),
+    refl,
+  ),
+  refl,
+)
+  where
+    printed : PlainEvent
+    printed = output (codes "stdout") (codes "12")
+
+    logged : PlainEvent
+    logged = output (codes "console") (codes "n")
 
 pub returns-clause-halts : goal.returns-clause-halts
-unfolding digits escape_byte
+unfolding digits escape_byte cut_to
 returns-clause-halts c = refl
 
 pub returns-clause-entry : goal.returns-clause-entry
@@ -37,6 +59,9 @@ returns-clause-end c = refl
 pub returns-clause-capabilities : goal.returns-clause-capabilities
 unfolding digits escape_byte
 returns-clause-capabilities c = refl
+
+pub returns-clause-announced : goal.returns-clause-announced
+returns-clause-announced c = refl
 
 pub returns-clause-rules : goal.returns-clause-rules
 unfolding digits

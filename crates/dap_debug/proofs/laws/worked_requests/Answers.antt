@@ -2,6 +2,7 @@ use Rattle.std.proofs.Common.{◌≢◌, refl, ap, get_or, inl, inr, [], ◌∷�
 use Rattle.std.specs.Prelude.{None, Some}
 use Rattle.std.specs.Fmt.{digits}
 use Rattle.std.proofs.lemmas.List.Elements.{All-cons, All-nil}
+use Rattle.serde_json.specs.Data.{member, no_members, number, object, unsigned}
 use Rattle.dap_bodies.specs.Bodies.{SetAt}
 use Rattle.debuggee.specs.Plain.{Text, Expression}
 use Rattle.dap_debug.specs.Breakpoints.{Lacks, AreParts, IsBreakpoint}
@@ -47,6 +48,21 @@ returns-clause-breakpoint c =
 
 pub returns-clause-line : goal.returns-clause-line
 returns-clause-line c = (None, refl, (codes "no", refl))
+
+pub returns-clause-counted : goal.returns-clause-counted
+returns-clause-counted c = (refl, (Some _, refl, (refl, set)), refl)
+  where
+    set :
+        IsBreakpoint (object (member (codes "line") (number (unsigned 2)) no_members)) 7
+        (record { place = 7; condition = None; rule = None; arrivals = 0; message = None })
+    set = record {
+      place_is = refl;
+      condition = refl;
+      rule = refl;
+      message = refl;
+      short = omega arith;
+      none_yet = refl;
+    }
 
 pub returns-clause-mistake : goal.returns-clause-mistake
 returns-clause-mistake c = (Some _, refl, (codes "no j", refl, inr (inr (other, refl))))

@@ -9,5 +9,6 @@ returns g c = record {
   first = _;
   arrives = c.in_ok-ran.ensures;
   path_is = refl;
+  counting_is = refl;
   events_are = c.in_ok-events.ensures;
 }
