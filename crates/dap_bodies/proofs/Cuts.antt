@@ -19,11 +19,13 @@ order (suc a) (suc b) = ⊎_elim (λ less. inl (omega (arith, less))) (λ more. 
 
 starts : (b : ℕ) → (128 ≤ b → 192 ≤ b) → is_char_start b ≡ true
 starts b is =
-    ⊎_elim (λ low. rw (lt-ltb b 128 low) refl) (λ high. rw (le-ltb b 128 high, le-leb 192 b (is high)) refl) (order b 128)
+    ⊎_elim (λ low. rw (lt-ltb b 128 low) refl) (λ high. rw (le-ltb b 128 high, le-leb 192 b (is high)) refl)
+    (order b 128)
 
 continues : (b : ℕ) → ¬ (128 ≤ b → 192 ≤ b) → is_char_start b ≡ false
 continues b not = ⊎_elim (λ low. absurd (not (λ high. omega (arith, low, high))))
-    (λ high. ⊎_elim (λ mid. rw (le-ltb b 128 high, lt-leb 192 b mid) refl) (λ top. absurd (not (λ _. top))) (order b 192))
+    (λ high. ⊎_elim (λ mid. rw (le-ltb b 128 high, lt-leb 192 b mid) refl) (λ top. absurd (not (λ _. top)))
+    (order b 192))
     (order b 128)
 
 -- the method's clauses fix its result

@@ -110,7 +110,8 @@ evaluated value reference =
 -- the body for `exceptionInfo`: which fault it is, and what that means; the debuggee stops at each
 abbrev pub exception_info : List ℕ → List ℕ → Data
 exception_info id description =
-    object (member (codes "breakMode") (string (codes "always")) (member (codes "description") (string (shown_text description))
+    object (member (codes "breakMode") (string (codes "always"))
+    (member (codes "description") (string (shown_text description))
     (member (codes "exceptionId") (string (shown_text id)) no_members)))
 
 -- ---- threads

@@ -16,8 +16,8 @@ shown_text text = cut_to text_limit text
 abbrev pub fit_of : List ℕ → ℕ
 fit_of text = floor_char_boundary text text_limit
 
--- How many bytes a value takes at most where it is written. A byte of a text takes at most six, as `\u0000`, and a number
--- at most twenty. Each text has its quotes, each item a comma, and each member a colon and a comma.
+-- How many bytes a value takes at most where it is written. A byte of a text takes at most six, as `\u0000`, and a
+-- number at most twenty. Each text has its quotes, each item a comma, and each member a colon and a comma.
 abbrev mutual
   pub size_of : Data → ℕ
   size_of null = 4

@@ -4,7 +4,7 @@ use Rattle.std.proofs.Common.{◌≡◌, ◌+◌, ℕ, Bool, true, false, List, 
 use Rattle.serde_json.specs.Data.{Data}
 use Rattle.dap_bodies.specs.Events.{output}
 use Rattle.dap_server.specs.Messages.{PlainEvent, PlainReply}
-use Rattle.debuggee.specs.Plain.{PlainBreakpoint, PlainEvaluated, PlainFault, Value, NoValue, PlainHalt, AtBreakpoint, AtStep, AtEnd, AtFault, PlainOutput, Printed, Logged}
+use Rattle.debuggee.specs.Plain.{PlainBreakpoint, PlainEvaluated, PlainFault, Value, NoValue, PlainHalt, AtBreakpoint, AtStep, AtEnd, AtFault, PlainOutput}
 use Rattle.debuggee.specs.Due.{Sight}
 use Rattle.debuggee.specs.Runs.{Meaning}
 use Rattle.debuggee.specs.declared.mode.Mode.{Mode}

@@ -25,7 +25,8 @@ use Rattle.dap_debug.specs.Breakpoints.{IsSet, AreSet, AreUnset, SetsIn, Own, Ot
 
 shows_more : {S : Type 0} (frame_of : S → ℕ → PlainFrame → Type 0) (counting : Counting)
     (path : List ℕ) (a : S) (first index : ℕ)
-    (shown : List ShownFrame) (one : ShownFrame) → ShowFrames frame_of counting path a first shown → length shown + first ≡ index
+    (shown : List ShownFrame) (one : ShownFrame) → ShowFrames frame_of counting path a first shown
+    → length shown + first ≡ index
     → ShowsFrame frame_of counting path a index one → ShowFrames frame_of counting path a first (shown ++ one ∷ [])
 shows_more frame_of counting path a first index [] one are at is =
     let e : index ≡ first = omega (arith, at) in (subst (λ n. ShowsFrame frame_of counting path a n one) e is, tt)
@@ -43,7 +44,8 @@ pub one_frame : {S : Type 0} (frame_of : S → ℕ → PlainFrame → Type 0) (c
 one_frame frame_of counting path a first index values new value grown are at is =
     let all = ap (map plain_shown_frame) grown ∙ map-append plain_shown_frame values (value ∷ []) in
     let long = ap length all ∙ length_push (map plain_shown_frame values) (plain_shown_frame value) in (
-      subst (ShowFrames frame_of counting path a first) (sym all) (shows_more frame_of counting path a first index _ _ are at is),
+      subst (ShowFrames frame_of counting path a first) (sym all)
+          (shows_more frame_of counting path a first index _ _ are at is),
       omega (arith, long, at),
     )
 

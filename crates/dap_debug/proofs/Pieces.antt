@@ -77,7 +77,8 @@ unfolding floor_char_boundary
 floor-le text zero = omega arith
 floor-le text (suc i) =
     let below = floor-le text i in
-    elim (is_char_start (slice_index text (suc i))) as (λ t. (if t then suc i else floor_char_boundary text i) ≤ suc i) [
+    elim (is_char_start (slice_index text (suc i)))
+    as (λ t. (if t then suc i else floor_char_boundary text i) ≤ suc i) [
       | true ↦ omega arith
       | false ↦ omega (arith, below)
     ]
@@ -114,7 +115,8 @@ all_more (first ∷ told) one events more are is = (
   ap (λ l. l ++ more) are.4 ∙ append_assoc are.0 are.1 more,
 )
 
-pub one_told : (told : List Output) (one : Output) (events new : List PlainEvent) → TellAll (map plain_output told) events
+pub one_told : (told : List Output) (one : Output) (events new : List PlainEvent)
+    → TellAll (map plain_output told) events
     → AddsEvents (TellOne (plain_output one)) events new → TellAll (map plain_output (told ++ one ∷ [])) new
 one_told told one events new are is =
     subst (λ l. TellAll l new) (sym (map-append plain_output told (one ∷ [])))

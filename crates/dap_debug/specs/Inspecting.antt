@@ -19,8 +19,8 @@ use Rattle.dap_debug.specs.Standings.{Standing, column_offset, line_offset}
 
 -- ---- frames
 
--- what is shown of the frame with this index, of which the newest is 0, of a program at this path, to a client that counts
--- so
+-- what is shown of the frame with this index, of which the newest is 0, of a program at this path, to a client that
+-- counts so
 abbrev pub shown_frame : Counting → List ℕ → ℕ → PlainFrame → ShownFrame
 shown_frame counting path index frame = record {
   id = index + 1;
@@ -219,8 +219,8 @@ AnswersQuestion sees shows question.Evaluate arguments counting path program rep
     program reply
 
 -- a question is answered where the program is stopped, and refused elsewhere
-abbrev pub ShowsFrom : {S : Type 0} → Sight S → Shows S → Phase S → Question → Option Data → Counting → List ℕ → PlainReply
-    → Type 0
+abbrev pub ShowsFrom : {S : Type 0} → Sight S → Shows S → Phase S → Question → Option Data → Counting → List ℕ
+    → PlainReply → Type 0
 ShowsFrom sees shows (phase.Stopped program) asked arguments counting path reply =
     AnswersQuestion sees shows asked arguments counting path program reply
 ShowsFrom sees shows _ asked arguments counting path reply = Refuses reply

@@ -52,7 +52,8 @@ abbrev pub TextsAreTold : Type 0
 TextsAreTold =
     (events : List PlainEvent)
     × Tells (Printed (codes "1") ∷ (Printed (codes "2") ∷ (Logged (codes "n") ∷ []))) None events
-    × (texts events ≡ codes "{\"body\":{\"category\":\"stdout\",\"output\":\"12\"},\"event\":\"output\",\"seq\":1,\"type\":\"event\"}"
+    × (texts events
+    ≡ codes "{\"body\":{\"category\":\"stdout\",\"output\":\"12\"},\"event\":\"output\",\"seq\":1,\"type\":\"event\"}"
     ∷ codes "{\"body\":{\"category\":\"console\",\"output\":\"n\"},\"event\":\"output\",\"seq\":2,\"type\":\"event\"}"
     ∷ [])
 
@@ -169,7 +170,8 @@ MessagesAreRead =
 -- frame, follow; those of what is inside variables come after all of them
 abbrev pub ShownAreNumbered : Type 0
 ShownAreNumbered =
-    ((shown_frame from_one [] 0 (record { name = []; line = 4; column = 1 })).id ≡ 1) × ((shown_scope 0 0 []).reference ≡ 1)
+    ((shown_frame from_one [] 0 (record { name = []; line = 4; column = 1 })).id ≡ 1)
+    × ((shown_scope 0 0 []).reference ≡ 1)
     × ((shown_scope 1 2 []).reference ≡ 19)
     × (map reference_inside (None ∷ Some 0 ∷ Some 5 ∷ Some 1073741823 ∷ []) ≡ 0 ∷ 1073741825 ∷ 1073741830 ∷ 0 ∷ [])
 

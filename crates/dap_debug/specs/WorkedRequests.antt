@@ -78,7 +78,13 @@ ExpressionsAreEvaluated =
 abbrev pub ProgramIsLoaded : Type 0
 ProgramIsLoaded =
     IsLoaded arguments (tt {0}) (success None (initialized ∷ []))
-    (record { phase = phase.Configuring (tt {0}) true; path = codes "a"; fault = None; breakpoints = []; counting = from_one })
+    (record {
+      phase = phase.Configuring (tt {0}) true;
+      path = codes "a";
+      fault = None;
+      breakpoints = [];
+      counting = from_one;
+    })
 
 -- the breakpoint that is set for it at place 7
 abbrev pub placed : PlainBreakpoint
@@ -117,8 +123,8 @@ LineIsAsked =
 abbrev pub asking : List ℕ → Data → Option Data
 asking key value = Some (object (member key value no_members))
 
--- How a client counts that says nothing of it, or that it counts lines, or columns, from 0. Where it counts both so, line 2
--- is the third, the first place for it is on the fourth, which is line 3; and so is a frame there, in column 0.
+-- How a client counts that says nothing of it, or that it counts lines, or columns, from 0. Where it counts both so,
+-- line 2 is the third, the first place for it is on the fourth, which is line 3; and so is a frame there, in column 0.
 abbrev pub CountingIsAsked : Type 0
 CountingIsAsked =
     (map counting_asked (arguments ∷ asking (codes "linesStartAt1") (boolean false)
