@@ -10,6 +10,7 @@ use Rattle.dap_server.specs.Inbox.{PlainItem, Gives, Reads}
 use Rattle.dap_server.specs.ServingInbox.{EndsAt, OutputFailures}
 use Rattle.dap_server.specs.Working as courses
 use Rattle.dap_server.specs.Working.{Works, Polls, Comes, Course, WorkerEnds}
+use Rattle.dap_debug.specs.Loading.{ReadsFiles, situation}
 use Rattle.dap_debug.specs.Replies.{Known}
 use Rattle.dap_debug.specs.Serving.{replied_by, worked_by, runs_in, Debugged, DebuggedFrom}
 use Rattle.dap_server.specs.declared.ending.Ending.{Ending}
@@ -56,11 +57,12 @@ ended know works busy gives polls inbox left result replies b rest adapter writt
     )
 ended know works busy gives polls inbox left result replies b rest adapter written later (inr is) = inr is
 
-debugged_over : {S I K : Type 0} (know : I → K) (known : Known S) (gives : Gives K) (polls : Polls K)
-    (inbox left : I) (written later : StreamLog) (result : Result Ending ServeFault)
-    → Debugged known (given know gives) (found know polls) inbox left written later result
-    → Debugged known gives polls (know inbox) (know left) written later result
-debugged_over know known gives polls inbox left written later result is = record {
+debugged_over : {S F I K : Type 0} (know : I → K) (known : Known S) (reads : ReadsFiles F) (gives : Gives K)
+    (polls : Polls K) (files later_files : F) (inbox left : I) (written later : StreamLog)
+    (result : Result Ending ServeFault)
+    → Debugged known reads (given know gives) (found know polls) files later_files inbox left written later result
+    → Debugged known reads gives polls files later_files (know inbox) (know left) written later result
+debugged_over know known reads gives polls files later_files inbox left written later result is = record {
   last = is.last;
   served = record {
     reached = is.served.reached;
@@ -72,20 +74,22 @@ debugged_over know known gives polls inbox left written later result is = record
       course = coursed know _ _ _ gives polls _ inbox _ _ is.served.taken _ is.served.working.course;
       written = is.served.working.written;
     };
-    ends = ended know (worked_by known) runs_in gives polls is.served.taken left result (replied_by known)
-        is.served.reached is.served.rest is.last is.served.answers later is.served.ends;
+    ends = ended know (worked_by known) runs_in gives polls is.served.taken left result (replied_by known reads)
+        is.served.reached is.served.rest (situation is.last later_files) is.served.answers later is.served.ends;
   };
 }
 
-pub debugged_from : {S : Type 0} (known : Known S) (first : Option (List ℕ)) (inbox left : Arrivals)
-    (before after : Output) (result : Result Ending ServeFault) → taken inbox ≡ unread first
-    → ∥ IsOfWhole (taken left) ∥₁
-    → Debugged known (given taken Reads) (found taken Looks) inbox left before.written after.written result
-    → OutputFailures result before.failures after.failures → DebuggedFrom known first before after result
-debugged_from known first inbox left before after result from_ whole is failures = (
+pub debugged_from : {S F : Type 0} (known : Known S) (reads : ReadsFiles F) (files later_files : F)
+    (first : Option (List ℕ)) (inbox left : Arrivals) (before after : Output) (result : Result Ending ServeFault)
+    → taken inbox ≡ unread first → ∥ IsOfWhole (taken left) ∥₁
+    → Debugged known reads (given taken Reads) (found taken Looks) files later_files inbox left before.written
+    after.written result → OutputFailures result before.failures after.failures
+    → DebuggedFrom known reads files later_files first before after result
+debugged_from known reads files later_files first inbox left before after result from_ whole is failures = (
   taken left,
   whole,
-  subst (λ start. Debugged known Reads Looks start (taken left) before.written after.written result) from_
-      (debugged_over taken known Reads Looks inbox left before.written after.written result is),
+  subst (λ start. Debugged known reads Reads Looks files later_files start (taken left) before.written after.written
+      result) from_
+      (debugged_over taken known reads Reads Looks files later_files inbox left before.written after.written result is),
   failures,
 )

@@ -14,14 +14,14 @@ use Rattle.dap_debug.specs.declared.command.Command.TheVariants as command
 use Rattle.dap_debug.specs.declared.command.Resume.{Resume}
 use Rattle.dap_debug.specs.declared.command.Question.{Question}
 use Rattle.dap_debug.specs.declared.command.Question.TheVariants as question
-use Rattle.dap_debug.specs.declared.launching.Unread.{Unread}
+use Rattle.byte_streams.specs.declared.files.FileFault.{FileFault}
 use Rattle.dap_debug.specs.declared.state.Counting.{Counting}
 use Rattle.dap_debug.specs.declared.state.Phase.{Phase}
 use Rattle.dap_debug.specs.declared.state.Phase.TheVariants as phase
 use Rattle.dap_debug.specs.Breakpoints.{SetsIn, Own, Other, SetsOnly, SetsFrom}
 use Rattle.dap_bodies.specs.Arguments.{text_at}
 use Rattle.dap_debug.specs.Inspecting.{AnswersQuestion, ShowsInside, ShowsScopes, ShowsScope, ShowsVariables, Evaluates, ShowsFrom, ExplainsFrom, frame_asked, frame_limit, frame_of_reference, frame_to_evaluate, index_of_reference, number_of_reference, page_asked, reference_asked, reply_of}
-use Rattle.dap_debug.specs.Loading.{LoadsAs, LoadsGiven, LoadsAt, LoadsFrom}
+use Rattle.dap_debug.specs.Loading.{FileRead, LoadsAs, LoadsText, LoadsRead, LoadsAt, LoadsFrom}
 use Rattle.debuggee.specs.Shown.{PlainVariable, Shows}
 use Rattle.debuggee.specs.declared.language.Page.{Page}
 use Rattle.dap_debug.specs.Commands.{checked}
@@ -193,39 +193,49 @@ loaded_as arguments (Ok program) p stood stands reply at none is =
     replied stands _ reply _ 0 is.0.reply_is is.0.phase_is refl ∙ sym none
 loaded_as arguments (Err mistake) p stood stands reply at none is = quiet stood stands reply _ p is.0 refl is.1 at
 
-loaded_given : {S : Type 0} (reads_as : List ℕ → Result S (List ℕ) → Type 0) (arguments : Option Data)
-    (given : Result (List ℕ) Unread) (p : Phase S) (stood stands : Standing S) (reply : PlainReply) → stood.phase ≡ p
-    → owed p ≡ 0 → LoadsGiven reads_as arguments given stood reply stands
+loaded_text : {S : Type 0} (reads_as : List ℕ → List ℕ → Result S (List ℕ) → Type 0) (arguments : Option Data)
+    (bytes : List ℕ) (p : Phase S) (stood stands : Standing S) (reply : PlainReply) → stood.phase ≡ p
+    → owed p ≡ 0 → LoadsText reads_as arguments bytes stood reply stands
     → owed stands.phase + ends_told reply.events ≡ owed p
-loaded_given reads_as arguments (Err why) p stood stands reply at none is =
-    quiet stood stands reply _ p is.0 refl is.1 at
-loaded_given reads_as arguments (Ok bytes) p stood stands reply at none (inl is) =
-    loaded_as arguments is.1 p stood stands reply at none is.3
-loaded_given reads_as arguments (Ok bytes) p stood stands reply at none (inr is) =
+loaded_text reads_as arguments bytes p stood stands reply at none (inl is) =
+    loaded_as arguments is.3 p stood stands reply at none is.5
+loaded_text reads_as arguments bytes p stood stands reply at none (inr is) =
     quiet stood stands reply _ p is.1.0 refl is.1.1 at
 
-loaded_at : {S : Type 0} (reads_as : List ℕ → Result S (List ℕ) → Type 0) (arguments : Option Data)
-    (path : Option (List ℕ)) (p : Phase S) (stood stands : Standing S) (reply : PlainReply) → stood.phase ≡ p
-    → owed p ≡ 0 → LoadsAt reads_as arguments path stood reply stands
+loaded_read : {S : Type 0} (reads_as : List ℕ → List ℕ → Result S (List ℕ) → Type 0) (arguments : Option Data)
+    (read : Result (List ℕ) FileFault) (p : Phase S) (stood stands : Standing S) (reply : PlainReply) → stood.phase ≡ p
+    → owed p ≡ 0 → LoadsRead reads_as arguments read stood reply stands
     → owed stands.phase + ends_told reply.events ≡ owed p
-loaded_at reads_as arguments None p stood stands reply at none is = quiet stood stands reply _ p is.0 refl is.1 at
-loaded_at reads_as arguments (Some path) p stood stands reply at none is =
-    loaded_given reads_as arguments is.0 p stood stands reply at none is.1
+loaded_read reads_as arguments (Err why) p stood stands reply at none is =
+    quiet stood stands reply _ p is.0 refl is.1 at
+loaded_read reads_as arguments (Ok bytes) p stood stands reply at none (inl is) =
+    quiet stood stands reply _ p is.1.0 refl is.1.1 at
+loaded_read reads_as arguments (Ok bytes) p stood stands reply at none (inr is) =
+    loaded_text reads_as arguments bytes p stood stands reply at none is.1
 
-loaded : {S : Type 0} (reads_as : List ℕ → Result S (List ℕ) → Type 0) (p : Phase S) (arguments : Option Data)
-    (stood stands : Standing S) (reply : PlainReply) → stood.phase ≡ p
-    → LoadsFrom reads_as p arguments stood reply stands
+loaded_at : {S : Type 0} (reads_as : List ℕ → List ℕ → Result S (List ℕ) → Type 0) (arguments : Option Data)
+    (path : Option (List ℕ)) (file : FileRead) (p : Phase S) (stood stands : Standing S) (reply : PlainReply)
+    → stood.phase ≡ p → owed p ≡ 0 → LoadsAt reads_as arguments path file stood reply stands
     → owed stands.phase + ends_told reply.events ≡ owed p
-loaded reads_as (phase.Running a how) arguments stood stands reply at is =
-    quiet stood stands reply _ _ is.0 refl is.1 at
-loaded reads_as (phase.Configuring a stop_on_entry) arguments stood stands reply at is =
-    loaded_at reads_as arguments (text_at (codes "program") arguments) _ stood stands reply at refl is
-loaded reads_as (phase.Stopped a) arguments stood stands reply at is =
-    loaded_at reads_as arguments (text_at (codes "program") arguments) _ stood stands reply at refl is
-loaded reads_as phase.NoProgram arguments stood stands reply at is =
-    loaded_at reads_as arguments (text_at (codes "program") arguments) _ stood stands reply at refl is
-loaded reads_as (phase.Ended a) arguments stood stands reply at is =
-    loaded_at reads_as arguments (text_at (codes "program") arguments) _ stood stands reply at refl is
+loaded_at reads_as arguments None file p stood stands reply at none is =
+    quiet stood stands reply _ p is.1.0 refl is.1.1 at
+loaded_at reads_as arguments (Some path) file p stood stands reply at none is =
+    loaded_read reads_as arguments is.0 p stood stands reply at none is.2
+
+loaded : {S : Type 0} (reads_as : List ℕ → List ℕ → Result S (List ℕ) → Type 0) (p : Phase S) (arguments : Option Data)
+    (file : FileRead) (stood stands : Standing S) (reply : PlainReply) → stood.phase ≡ p
+    → LoadsFrom reads_as p arguments file stood reply stands
+    → owed stands.phase + ends_told reply.events ≡ owed p
+loaded reads_as (phase.Running a how) arguments file stood stands reply at is =
+    quiet stood stands reply _ _ is.1.0 refl is.1.1 at
+loaded reads_as (phase.Configuring a stop_on_entry) arguments file stood stands reply at is =
+    loaded_at reads_as arguments (text_at (codes "program") arguments) file _ stood stands reply at refl is
+loaded reads_as (phase.Stopped a) arguments file stood stands reply at is =
+    loaded_at reads_as arguments (text_at (codes "program") arguments) file _ stood stands reply at refl is
+loaded reads_as phase.NoProgram arguments file stood stands reply at is =
+    loaded_at reads_as arguments (text_at (codes "program") arguments) file _ stood stands reply at refl is
+loaded reads_as (phase.Ended a) arguments file stood stands reply at is =
+    loaded_at reads_as arguments (text_at (codes "program") arguments) file _ stood stands reply at refl is
 
 set_in : {S : Type 0} (shows : Shows S) (less : ℕ) (a : S) (arguments : Option Data)
     (path : List ℕ) (old new : List PlainBreakpoint) (reply : PlainReply)
@@ -334,7 +344,7 @@ answers_balanced known command.Initialize arguments stood stands reply is =
     in
     omega (arith, so)
 answers_balanced known command.Launch arguments stood stands reply is =
-    let so = loaded known.shows.reads_as stood.phase arguments stood stands reply refl is in omega (arith, so)
+    let so = loaded known.shows.reads_as stood.phase arguments is.0 stood stands reply refl is.1 in omega (arith, so)
 answers_balanced known command.SetBreakpoints arguments stood stands reply is =
     let so = sets known.shows _ stood.phase arguments stood stands reply refl is in omega (arith, so)
 answers_balanced known command.ConfigurationDone arguments stood stands reply is =

@@ -8,10 +8,11 @@ use Rattle.dap_server.specs.Inbox.{PlainItem, Bytes, Event, End, Failed, NoMemor
 use Rattle.dap_server.specs.Serving.{FailsAt, FailsInFront, IsDone, BreaksWithin}
 use Rattle.dap_server.specs.ServingInbox.{ServingEndsBy, EndsWithin, EndsAt}
 use Rattle.dap_server.specs.Working as courses
-use Rattle.dap_server.specs.Working.{Works, Polls, Course, EndsInWork, WorkerEnds, ServedWorker}
+use Rattle.dap_server.specs.Working.{Works, Polls, Course, EndsInWork, WorkerEnds, ServedWorker, OwesNothing as WorkerOwesNothing}
 use Rattle.dap_debug.specs.Replies.{Known}
-use Rattle.dap_debug.specs.Serving.{replied_by, worked_by, runs_in, Debugged}
-use Rattle.dap_debug.specs.Standings.{Standing, unused}
+use Rattle.dap_debug.specs.Loading.{ReadsFiles, Situation, situation}
+use Rattle.dap_debug.specs.Serving.{replied_by, worked_by, runs_in, Debugged, OwesNothing}
+use Rattle.dap_debug.specs.Standings.{unused}
 use Rattle.dap_server.specs.declared.ending.Ending.{Ending}
 use Rattle.dap_server.specs.declared.ending.Ending.TheVariants as ending
 use Rattle.dap_server.specs.declared.ending.ServeFault.{ServeFault}
@@ -197,17 +198,42 @@ served see replies works busy gives polls before after inbox left written later 
 }
 
 -- the same of a session, from one without a program on
-pub debugged : {S T I : Type 0} (see : S → Standing T) (known : Known T) (gives : Gives I) (polls : Polls I)
-    (before after : S) (inbox left : I) (written later : StreamLog) (result : Result Ending ServeFault)
-    → see before ≡ unused
-    → ServedWorker (seen_replies see (replied_by known)) (seen_works see (worked_by known)) (λ s. runs_in (see s)) gives
-    polls before after inbox left written later result
-    → Debugged known gives polls inbox left written later result
-debugged see known gives polls before after inbox left written later result first is = record {
-  last = see after;
-  served =
-      subst (λ stood. ServedWorker (replied_by known) (worked_by known) runs_in gives polls stood (see after) inbox left
-      written later result) first
-      (served see (replied_by known) (worked_by known) runs_in gives polls before after inbox left written later result
-      is);
-}
+module _ {S T F I : Type 0} (see : S → Situation T F) (known : Known T) (reads : ReadsFiles F) (gives : Gives I)
+    (polls : Polls I) where
+  pub debugged : (before after : S) (files later_files : F) (inbox left : I) (written later : StreamLog)
+      (result : Result Ending ServeFault) → see before ≡ situation unused files → (see after).files ≡ later_files
+      → ServedWorker (seen_replies see (replied_by known reads)) (seen_works see (worked_by known))
+      (λ s. runs_in (see s)) gives polls before after inbox left written later result
+      → Debugged known reads gives polls files later_files inbox left written later result
+  debugged before after files later_files inbox left written later result first kept is = record {
+    last = (see after).stands;
+    served =
+        subst (λ f. ServedWorker (replied_by known reads) (worked_by known) runs_in gives polls (situation unused files)
+        (situation (see after).stands f) inbox left written later result) kept
+        (subst (λ start. ServedWorker (replied_by known reads) (worked_by known) runs_in gives polls start (see after)
+        inbox left written later result) first
+        (served see (replied_by known reads) (worked_by known) runs_in gives polls before after inbox left written
+        later result is));
+  }
+
+  pub owes : (before : S) (files : F) (inbox now : I) (written later : StreamLog)
+      → see before ≡ situation unused files
+      → WorkerOwesNothing (seen_replies see (replied_by known reads)) (seen_works see (worked_by known))
+      (λ s. runs_in (see s)) gives polls before inbox now written later
+      → OwesNothing known reads gives polls files inbox now written later
+  owes before files inbox now written later first is =
+      subst (λ start. WorkerOwesNothing (replied_by known reads) (worked_by known) runs_in gives polls start inbox now
+      written later) first
+      (record {
+        reached = seen see is.reached;
+        rest = is.rest;
+        working = record {
+          texts = is.working.texts;
+          course = coursed see (replied_by known reads) (worked_by known) runs_in gives polls
+              (state before 1 true) inbox
+              is.reached is.rest now is.working.texts is.working.course;
+          written = is.working.written;
+        };
+        there = is.there;
+        is_open = is.is_open;
+      })

@@ -12,7 +12,7 @@ use Rattle.dap_debug.specs.declared.command.Command.TheVariants as command
 use Rattle.dap_debug.specs.Commands.{checked, refusal_text}
 use Rattle.dap_debug.specs.Breakpoints.{Sets}
 use Rattle.dap_debug.specs.Inspecting.{Explains, Inspects}
-use Rattle.dap_debug.specs.Loading.{Loads}
+use Rattle.dap_debug.specs.Loading.{FileRead, Loads}
 use Rattle.dap_debug.specs.Running.{success, refusal, IsQuiet, Starts, Resumes, Pauses, Terminates}
 use Rattle.debuggee.specs.Shown.{Shows}
 use Rattle.dap_debug.specs.Standings.{Standing}
@@ -48,7 +48,8 @@ counting_asked arguments = record {
 abbrev pub Answers : {S : Type 0} → Known S → Command → Option Data → Standing S → PlainReply → Standing S → Type 0
 Answers known command.Initialize arguments stood reply stands =
     (reply ≡ success (Some capabilities) []) × (stands ≡ record stood { counting = counting_asked arguments })
-Answers known command.Launch arguments stood reply stands = Loads known.shows.reads_as arguments stood reply stands
+Answers known command.Launch arguments stood reply stands =
+    (file : FileRead) × Loads known.shows.reads_as arguments file stood reply stands
 Answers known command.SetBreakpoints arguments stood reply stands =
     Sets known.shows arguments stood reply stands
 Answers known command.ConfigurationDone arguments stood reply stands =

@@ -1,36 +1,23 @@
 //! Loading a program.
 
-ghost use Rattle.std.specs.Prelude.{◌≡◌, IfOk, Ok, Some, codes, option_map};
+ghost use Rattle.std.specs.Prelude.{◌≡◌, IfOk, Ok, Some, codes, option_map, string_bytes};
 ghost use Rattle.serde_json.specs.View.{view};
 ghost use Rattle.dap_server.specs.Messages.{plain_reply};
 ghost use Rattle.dap_bodies.specs.Arguments.{text_at};
-ghost use Rattle.dap_debug.specs.Loading.{Loads, LoadsGiven, unread_text};
+ghost use Rattle.dap_debug.specs.Loading.{IsJsonOf, Launches, LoadsRead, LoadsText, reads_by, situation, unread_text};
 ghost use Rattle.dap_debug.specs.Standings.{standing};
 
 use crate::state::{Phase, State};
-use byte_streams::{ReadFault, Reading, read_all};
+use byte_streams::{FileFault, FileKinds, Opener, read_file};
 use dap_bodies::{initialized, shown_text, text, truth};
 use dap_server::Reply;
 use debuggee::Language;
 use serde_json::Value;
 use std::alloc::{AllocError, Global};
-use std::fs;
-use std::io::ErrorKind;
-use std::rt::{Clock, Files};
 use std::sync::Wait;
 
-/// Why nothing is read of a file.
-#[derive(Clone, Copy)]
-pub enum Unread {
-    /// There is none at the path.
-    Missing,
-    /// It is a folder.
-    Folder,
-    /// It must not be read.
-    Forbidden,
-    /// For another reason, as where it is no regular file or a read failed.
-    Failed,
-}
+/// The most bytes of a program's text.
+const TEXT_LIMIT: usize = 16 * 1024 * 1024;
 
 impl<L: Language> State<L> {
     /// Loads the program of the file that is asked for, in the place of the one that there is.
@@ -38,14 +25,16 @@ impl<L: Language> State<L> {
     /// # Errors
     ///
     /// An allocation failed. The program is that from before, or the one that was asked for.
-    pub fn launch<R: Wait + Files + Clock>(
+    pub fn launch<R: Wait, F: Opener>(
         &mut self,
         rt: &R,
         alloc: Global,
+        files: &mut F,
         arguments: Option<&Value>,
     ) -> Result<Reply, AllocError>
-        ensures { IfOk result (λ reply. Loads L.shows.reads_as (option_map (λ v. view v.now) arguments.entry)
-            (standing self.old) (plain_reply reply) (standing self.new)) }
+        ensures { IfOk result (λ reply. Launches L.shows.reads_as (reads_by F.opens F.closes F.File.supply)
+            (option_map (λ v. view v.now) arguments.entry) (situation (standing self.old) files.old)
+            (plain_reply reply) (situation (standing self.new) files.new)) }
     {
         if let Phase::Running(_, _) = self.phase {
             return Reply::refused(alloc, "a program runs");
@@ -53,16 +42,14 @@ impl<L: Language> State<L> {
         let Some(path) = text(arguments, "program") else {
             return Reply::refused(alloc, "`program` is missing");
         };
-        match read_file(rt, alloc, path)? {
-            Ok(bytes) => {
-                let reply = self.load(alloc, arguments, path, bytes)?;
-                Ok(reply)
-            }
+        match read_file(rt, alloc, files, FileKinds::Regular, path, TEXT_LIMIT + 1) {
+            Ok(bytes) => self.load(alloc, arguments, path, bytes),
+            Err(FileFault::NoMemory) => Err(AllocError),
             Err(why) => Reply::refused(alloc, unread_text(why)),
         }
     }
 
-    /// Loads the program of these bytes, which the file at this path gave.
+    /// Loads the program of what was read of the file at this path.
     fn load(
         &mut self,
         alloc: Global,
@@ -71,13 +58,32 @@ impl<L: Language> State<L> {
         bytes: Vec<u8>,
     ) -> Result<Reply, AllocError>
         requires { text_at (codes "program") (option_map (λ v. view v.now) arguments) ≡ Some path.now }
-        ensures { IfOk result (λ reply. LoadsGiven L.shows.reads_as (option_map (λ v. view v.now) arguments.entry)
+        ensures { IfOk result (λ reply. LoadsRead L.shows.reads_as (option_map (λ v. view v.now) arguments.entry)
             (Ok bytes.items) (standing self.old) (plain_reply reply) (standing self.new)) }
+    {
+        if bytes.len() > TEXT_LIMIT {
+            return Reply::refused(alloc, "tooLong");
+        }
+        self.load_text(alloc, arguments, path, bytes)
+    }
+
+    /// Loads the program of these bytes, which the file at this path has.
+    fn load_text(
+        &mut self,
+        alloc: Global,
+        arguments: Option<&Value>,
+        path: &str,
+        bytes: Vec<u8>,
+    ) -> Result<Reply, AllocError>
+        requires { text_at (codes "program") (option_map (λ v. view v.now) arguments) ≡ Some path.now }
+        ensures { IfOk result (λ reply. LoadsText L.shows.reads_as (option_map (λ v. view v.now) arguments.entry)
+            bytes.items (standing self.old) (plain_reply reply) (standing self.new)) }
     {
         let Ok(source) = String::from_utf8(bytes) else {
             return Reply::refused(alloc, "the program isn't UTF-8");
         };
-        match L::load(alloc, source.as_str())? {
+        let json = json_of(alloc, arguments)?;
+        match L::load(alloc, source.as_str(), json.as_str())? {
             Ok(program) => {
                 self.path = String::from_str(alloc, path)?;
                 self.fault = None;
@@ -92,59 +98,24 @@ impl<L: Language> State<L> {
     }
 }
 
+/// Returns a JSON text of arguments; an empty text where there are none.
+fn json_of(alloc: Global, arguments: Option<&Value>) -> Result<String, AllocError>
+    ensures { IfOk result (λ text. IsJsonOf (option_map (λ v. view v.now) arguments.entry) (string_bytes text)) }
+{
+    match arguments {
+        Some(value) => value.to_string(alloc),
+        None => Ok(String::new(alloc)),
+    }
+}
+
 /// Returns what is told of a file that isn't read.
-fn unread_text(why: Unread) -> &'static str
+fn unread_text(why: FileFault) -> &'static str
     ensures { result.now ≡ unread_text why }
 {
     match why {
-        Unread::Missing => "the program can't be read: there is no such file",
-        Unread::Folder => "the program can't be read: it is a folder",
-        Unread::Forbidden => "the program can't be read: it is not allowed",
-        Unread::Failed => "the program can't be read",
-    }
-}
-
-/// Reads a regular file, or says why it can't be opened or read.
-fn read_file<R: Wait + Files + Clock>(
-    rt: &R,
-    alloc: Global,
-    path: &str,
-) -> Result<Result<Vec<u8>, Unread>, AllocError> {
-    let file = match open_regular(rt, path) {
-        Ok(file) => file,
-        Err(why) => return Ok(Err(why)),
-    };
-    match read_all(rt, alloc, &mut Reading::new(rt, file)) {
-        Ok(bytes) => Ok(Ok(bytes)),
-        Err(ReadFault::CannotRead) => Ok(Err(Unread::Failed)),
-        Err(ReadFault::NoMemory) => Err(AllocError),
-    }
-}
-
-/// Opens a regular file. It looks at the kind of the file first, since opening a named pipe waits for whoever writes to it.
-/// A pipe that takes the file's place in between is waited for all the same.
-///
-/// # Errors
-///
-/// Why it can't be opened: `Failed` also where the path leads to neither a regular file nor a folder.
-fn open_regular<R: Files>(rt: &R, path: &str) -> Result<R::File, Unread> {
-    match fs::metadata(rt, path) {
-        Ok(found) if found.is_dir() => return Err(Unread::Folder),
-        Ok(found) if !found.is_file() => return Err(Unread::Failed),
-        Ok(_) => {}
-        Err(error) => return Err(reason_of(error.kind())),
-    }
-    match fs::open(rt, path) {
-        Ok(file) => Ok(file),
-        Err(error) => Err(reason_of(error.kind())),
-    }
-}
-
-/// Returns why a file can't be opened.
-fn reason_of(kind: ErrorKind) -> Unread {
-    match kind {
-        ErrorKind::NotFound => Unread::Missing,
-        ErrorKind::PermissionDenied => Unread::Forbidden,
-        _ => Unread::Failed,
+        FileFault::Missing => "the program can't be read: there is no such file",
+        FileFault::Folder => "the program can't be read: it is a folder",
+        FileFault::Forbidden => "the program can't be read: it is not allowed",
+        FileFault::CannotRead | FileFault::NoMemory => "the program can't be read",
     }
 }

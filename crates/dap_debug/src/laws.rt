@@ -1,11 +1,13 @@
 //! What holds of each session.
 
 ghost use Rattle.dap_debug.specs.Laws.{WorkIsBalanced, RepliesAreBalanced, TextsAreKept, PiecesAreKept, FramesAreFound, ScopesAreFound, VariablesAreFound};
+ghost use Rattle.dap_debug.specs.Loading.{reads_by};
 ghost use Rattle.dap_debug.specs.Replies.{known_of};
 ghost use Rattle.dap_debug.specs.Sums.{EachEndsOnce};
 ghost use Rattle.dap_debug.specs.WorkedDebugger.{CommandsAreNamed, ModesFollow, TextsAreTold, HaltsAreTold, EntryIsTold, PauseIsTold, EndIsTold, CapabilitiesAre, AnnouncedAreServed, RulesAreRead, ShownAreNumbered, NumbersAreFound, MessagesAreRead};
 ghost use Rattle.dap_debug.specs.WorkedRequests.{BreakpointIsSet, CountingIsAsked, CommandsAreChecked, ExpressionsAreEvaluated, FramesAreAsked, LineIsAsked, MistakeIsTold, PagesAreAsked, ProgramIsLoaded};
 
+use byte_streams::Opener;
 use dap_server::Polled;
 use debuggee::Language;
 
@@ -21,8 +23,8 @@ pub fn debug_laws<L: Language>()
 
 /// The same of a whole conversation: the ends that its events tell are those that its requests ask for, but for one that is
 /// still to be told while the program runs. It does nothing: its contract is the law.
-pub fn conversation_laws<L: Language, I: Polled<O>, O>()
-    ensures { EachEndsOnce (known_of L.takes L.sees L.shows) I.gives
+pub fn conversation_laws<L: Language, F: Opener, I: Polled<O>, O>()
+    ensures { EachEndsOnce (known_of L.takes L.sees L.shows) (reads_by F.opens F.closes F.File.supply) I.gives
         I.polls }
 {}
 

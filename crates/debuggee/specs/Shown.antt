@@ -42,8 +42,8 @@ plain_loaded (Err mistake) = Err (string_bytes mistake)
 
 -- What a language says of its texts and its programs. Lines are counted from 1, and the newest frame is 0.
 pub record Shows (S : Type 0) : Type 1 where
-  -- which program, before its first step, or which mistake a text is
-  pub reads_as : List ℕ → Result S (List ℕ) → Type 0
+  -- which program, before its first step, or which mistake a text is, with the JSON text of the arguments of its launch
+  pub reads_as : List ℕ → List ℕ → Result S (List ℕ) → Type 0
   -- where a breakpoint is set that is asked for at a line
   pub first_place : S → ℕ → Option Location → Type 0
   -- a mistake that a condition has at a place
@@ -60,7 +60,7 @@ pub record Shows (S : Type 0) : Type 1 where
 -- a language that says nothing of them
 abbrev pub nothing_shown : {S : Type 0} → Shows S
 nothing_shown = record {
-  reads_as = λ text loaded. Unit {0};
+  reads_as = λ text arguments loaded. Unit {0};
   first_place = λ program line first. Unit {0};
   mistake_of = λ program place condition mistake. Unit {0};
   frame_of = λ program index frame. Unit {0};

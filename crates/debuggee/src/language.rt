@@ -62,13 +62,14 @@ pub trait Language: Debuggee + Drop {
     /// What a text is, and what is shown of a program. A language promises nothing of what it leaves out here.
     ghost shows: { Shows Self } = { nothing_shown };
 
-    /// Reads a program. It stands before its first step. An `Err` in the value is the mistake, as the user is told.
+    /// Reads a program. It stands before its first step. The JSON text of the arguments of the `launch` comes with it, for
+    /// arguments of the language's own. An `Err` in the value is the mistake, as the user is told.
     ///
     /// # Errors
     ///
     /// An allocation failed.
-    fn load(alloc: Global, text: &str) -> Result<Result<Self, String>, AllocError>
-        ensures { IfOk result (λ loaded. shows.reads_as text.now (plain_loaded loaded)) };
+    fn load(alloc: Global, text: &str, arguments: &str) -> Result<Result<Self, String>, AllocError>
+        ensures { IfOk result (λ loaded. shows.reads_as text.now arguments.now (plain_loaded loaded)) };
 
     /// Returns the first place at or after a line, which is counted from 1; `None` where there is none.
     fn place_for(&self, line: u64) -> Option<Location>

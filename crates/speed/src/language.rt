@@ -9,7 +9,7 @@ use std::str;
 /// Runs a program to its end, or to a halt before it, under breakpoints: which halt it is.
 pub fn run(alloc: Global, text: &[u8], lines: &[String]) -> Result<String> {
     let text = str::from_utf8(text).context("no text")?;
-    let mut machine = match Machine::load(alloc, text).context("no program")? {
+    let mut machine = match Machine::load(alloc, text, "").context("no program")? {
         Ok(machine) => machine,
         Err(mistake) => return Err(anyhow!("{mistake}")),
     };

@@ -34,16 +34,22 @@ plain_state s = record {
 abbrev pub variable_count : ℕ
 variable_count = 26
 
--- the state before the first line
-abbrev pub IsInitial : PlainState → Type 0
-IsInitial s = s ≡ record { line = 0; numbers = []; returns = []; variables = replicate variable_count (pos 0) }
-
 -- the value of a variable, of which `a` is 0
 abbrev pub value_of : ℕ → PlainState → ℤ
 value_of variable s = unwrap_or (slice_get s.variables variable) (pos 0)
 
 abbrev pub set : ℕ → ℤ → PlainState → PlainState
 set variable number s = record s { variables = slice_set s.variables variable number }
+
+-- the state before the first line, where the input is the value of `a`
+abbrev pub IsInitial : ℤ → PlainState → Type 0
+IsInitial input s =
+    s ≡ set 0 input (record {
+      line = 0;
+      numbers = [];
+      returns = [];
+      variables = replicate variable_count (pos 0);
+    })
 
 -- ---- numbers of 64 bits
 

@@ -1,10 +1,12 @@
 -- Defines lines and frames, what a debugger sees of a state, and what a client is shown.
-use Rattle.std.specs.Prelude.{◌≡◌, ◌≤◌, ◌<◌, ◌+◌, ◌-◌, ◌^◌, ℕ, min, map, ℤ, pos, Bool, true, false, not, nat_eq, nat_le, List, [], ◌∷◌, ◌++◌, length, codes, decimal, slice_get, unwrap_or, Option, None, Some, Result, Ok, Err, if◌then◌else◌}
+use Rattle.std.specs.Prelude.{◌≡◌, ◌≤◌, ◌<◌, ◌+◌, ◌-◌, ◌^◌, ℕ, min, map, ℤ, pos, Bool, true, false, not, nat_eq, nat_le, List, [], ◌∷◌, ◌++◌, length, codes, decimal, slice_get, unwrap_or, option_and_then, Option, None, Some, Result, Ok, Err, if◌then◌else◌}
 use Rattle.std.specs.Fmt.{signed_decimal}
 use Rattle.std.specs.List.{range_with_len}
 use Rattle.std.specs.Option.{option_map_or}
 use Rattle.std.specs.Ordering.{int_eq}
 use Rattle.std.specs.Str.Lines.{lines}
+use Rattle.serde_json.specs.Find.{get, as_i64, as_number}
+use Rattle.serde_json.specs.Read.{read}
 use Rattle.debuggee.specs.Shown.{PlainFrame, PlainVariable, Shows, nothing_shown}
 use Rattle.debuggee.specs.declared.language.Location.{Location}
 use Rattle.debuggee.specs.Due.{Sight}
@@ -87,11 +89,18 @@ sees = record {
 
 -- ---- what a client is shown
 
--- A program is what the lines of its text are, before its first step; a mistake is told of the first line that is no
--- instruction.
-abbrev pub reads_as : List ℕ → Result Machine (List ℕ) → Type 0
-reads_as text (Ok m) = AreRead (lines text) m.program.items × IsInitial (plain_state m.state)
-reads_as text (Err mistake) =
+-- the number under `input` of a launch's arguments; 0 where there is none
+abbrev pub input_in : List ℕ → ℤ
+input_in arguments =
+    unwrap_or (option_and_then (λ v. option_and_then as_i64 (as_number v))
+    (option_and_then (get (codes "input")) (read arguments))) (pos 0)
+
+-- A program is what the lines of its text are, before its first step, with the launch's input; a mistake is told of the
+-- first line that is no instruction.
+abbrev pub reads_as : List ℕ → List ℕ → Result Machine (List ℕ) → Type 0
+reads_as text arguments (Ok m) =
+    AreRead (lines text) m.program.items × IsInitial (input_in arguments) (plain_state m.state)
+reads_as text arguments (Err mistake) =
     (line : ℕ) × IsFirstMistake (lines text) line
     × (mistake ≡ codes "line " ++ (decimal line ++ codes " is no instruction"))
 

@@ -5,13 +5,14 @@ ghost use Rattle.std.specs.List.{range_with_len};
 ghost use Rattle.debuggee.specs.Plain.{plain_step};
 ghost use Rattle.debuggee.specs.Shown.{plain_variable};
 ghost use Rattle.stack_language.specs.Language.{name_of, plain_state, reason, step_of};
-ghost use Rattle.stack_language.specs.Shown.{name_of_frame, no_variable, variable_of, shown_line};
+ghost use Rattle.stack_language.specs.Shown.{input_in, name_of_frame, no_variable, variable_of, shown_line};
 
 use crate::machine::Machine;
 use crate::parsing::{Parsed, parse, variable};
 use crate::program::VARIABLES;
 use crate::state::{Fault, Outcome, State};
 use debuggee::{Debuggee, Evaluated, Frame, Language, Location, Page, Step, Variable};
+use serde_json::Value;
 use std::alloc::{AllocError, Global};
 
 /// What is told of an expression that isn't the name of a variable.
@@ -70,9 +71,16 @@ impl Language for Machine {
 
     ghost shows = { shows };
 
-    fn load(alloc: Global, text: &str) -> Result<Result<Machine, String>, AllocError> {
+    fn load(
+        alloc: Global,
+        text: &str,
+        arguments: &str,
+    ) -> Result<Result<Machine, String>, AllocError> {
         match parse(alloc, text)? {
-            Parsed::Program(program) => Ok(Ok(Machine::new(alloc, program))),
+            Parsed::Program(program) => {
+                let input = input_in(alloc, arguments)?;
+                Ok(Ok(Machine::new(alloc, program, input)))
+            }
             Parsed::Mistake(line) => Ok(Err(format!(in alloc; "line {line} is no instruction")?)),
         }
     }
@@ -119,6 +127,17 @@ impl Language for Machine {
         let all = variables(alloc, self.state())?;
         let shown = page.of(all)?;
         Ok(shown)
+    }
+}
+
+/// Returns the number under `input` of a launch's arguments; 0 where there is none.
+fn input_in(alloc: Global, arguments: &str) -> Result<i64, AllocError>
+    ensures { IfOk result (λ input. input ≡ input_in arguments.now) }
+{
+    match Value::from_str(alloc, arguments) {
+        Ok(value) => Ok(value.get("input").and_then(Value::as_i64).unwrap_or(0)),
+        Err(error) if error.is_memory() => Err(AllocError),
+        Err(_) => Ok(0),
     }
 }
 

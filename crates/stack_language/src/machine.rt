@@ -16,14 +16,14 @@ pub struct Machine {
 }
 
 impl Machine {
-    /// Returns a machine before the first line.
-    pub(crate) fn new(alloc: Global, program: Vec<Instruction>) -> Machine
-        ensures initial { IsInitial (plain_state result.state) }
+    /// Returns a machine before the first line, whose first variable is the input.
+    pub(crate) fn new(alloc: Global, program: Vec<Instruction>, input: i64) -> Machine
+        ensures initial { IsInitial input (plain_state result.state) }
         ensures program { result.program ≡ program }
     {
         Machine {
             program,
-            state: State::new(alloc),
+            state: State::new(alloc, input),
         }
     }
 

@@ -47,15 +47,17 @@ pub struct State {
 
 impl State {
     /// Returns the state before the first line.
-    pub fn new(alloc: Global) -> State
-        ensures { IsInitial (plain_state result) }
+    pub fn new(alloc: Global, input: i64) -> State
+        ensures { IsInitial input (plain_state result) }
     {
-        State {
+        let mut state = State {
             line: 0,
             numbers: Vec::new(alloc),
             returns: Vec::new(alloc),
             variables: [0; VARIABLES],
-        }
+        };
+        state.set(0, input);
+        state
     }
 
     /// Returns the value of a variable; 0 where there is none.

@@ -1,7 +1,20 @@
+use Rattle.std.proofs.Common.{rules}
+use Rattle.dap_debug.specs.Loading.{reads_by, situation}
+use Rattle.dap_debug.specs.Replies.{known_of}
 use Rattle.dap_debug.specs.Standings.{standing}
-use Rattle.dap_debug.proofs.Seeing.{debugged}
+use Rattle.dap_debug.proofs.Loaded.{situated}
+use Rattle.dap_debug.proofs.Seeing.{debugged, owes}
 use Rattle.dap_debug.proofs.serving.serve_language_inbox.Goals as goal
 
 pub returns-clause-served : goal.returns-clause-served
 returns-clause-served g c =
-    debugged (λ session. standing session.state) _ _ _ _ _ _ _ _ _ _ c.new-session.ensures c.serve_worker.ensures.served
+    debugged (λ session. situation (standing session.state) session.files.now)
+    (known_of g.L.Debuggee.takes g.L.Debuggee.sees g.L.Language.shows)
+    (reads_by g.F.Opener.opens g.F.Opener.closes g.F.File.Source.supply) _ _ _ _ _ _ _ _ _ _ _
+    (situated _ _ _ _ c.new-session.ensures.unused c.new-session.ensures.files)
+    (search rules) c.serve_worker-ended.ensures.served
+
+pub serve_worker-ended-requires : goal.serve_worker-ended-requires
+serve_worker-ended-requires g c i o is =
+    c.requires i o (owes (λ session. situation (standing session.state) session.files.now) _ _ _ _ _ _ _ _ _ _
+    (situated _ _ _ _ c.new-session.ensures.unused c.new-session.ensures.files) is)
