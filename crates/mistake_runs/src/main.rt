@@ -6,7 +6,7 @@
 #![tactic(auto)]
 
 use anyhow::{Context, Result, anyhow};
-use pl0_mistakes::{mistake_line, warning_lines};
+use pl0_mistakes::{mistake_lines, warning_lines};
 use pl0_syntax::parse;
 use pl0_tree::SyntaxFault;
 use std::alloc::{AllocError, Global};
@@ -61,7 +61,7 @@ fn put<R: Print + AllocGlobal>(rt: &R, bytes: &[u8]) -> Result<()> {
 fn told(alloc: Global, text: &[u8]) -> Result<Vec<u8>, AllocError> {
     match parse(alloc, text) {
         Ok(_) => warning_lines(alloc, "-", text),
-        Err(SyntaxFault::InText { kind, place }) => mistake_line(alloc, "-", text, kind, place),
+        Err(SyntaxFault::InText { kind, place }) => mistake_lines(alloc, "-", text, kind, place),
         Err(SyntaxFault::NoMemory) => Err(AllocError),
     }
 }

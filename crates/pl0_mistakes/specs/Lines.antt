@@ -1,7 +1,8 @@
 -- The line in which a mistake of a text, or a fault of its run, is told: where it is, and a sentence.
-use Rattle.std.specs.Prelude.{ℕ, ◌≡◌, List, ◌++◌, codes, decimal}
+use Rattle.std.specs.Prelude.{ℕ, ◌≡◌, Bool, true, false, List, ◌++◌, codes, decimal}
 use Rattle.pl0_tree.specs.declared.tree.Place.{Place}
 use Rattle.pl0_tree.specs.declared.fault.FaultKind.{FaultKind}
+use Rattle.pl0_tree.specs.declared.fault.FaultKind.TheVariants.{Twice, Unknown, TooEarly, WrongKind}
 use Rattle.pl0_meaning.specs.declared.RunFault.{RunFault}
 use Rattle.pl0_mistakes.specs.Found.{token_at, token_before}
 use Rattle.pl0_mistakes.specs.Sentences.{IsMistakeSentence, fault_sentence}
@@ -17,6 +18,22 @@ abbrev pub IsMistakeLine : List ℕ → List ℕ → FaultKind → Place → Lis
 IsMistakeLine file text kind place line =
     (sentence : List ℕ) × IsMistakeSentence (token_at place text) (token_before place text) kind sentence
     × (line ≡ message_line file place (codes ": error: ") sentence)
+
+-- a mistake of a name
+abbrev pub is_of_names : FaultKind → Bool
+is_of_names Twice = true
+is_of_names Unknown = true
+is_of_names TooEarly = true
+is_of_names WrongKind = true
+is_of_names _ = false
+
+-- Lines tell mistakes in a file with this text: the first, and where that is one of a name, further ones. Which ones
+-- these are is tested.
+pub data AreMistakeLines (file text : List ℕ) (kind : FaultKind) (place : Place) : List ℕ → Type 0 where
+  first_line : {line : List ℕ} → IsMistakeLine file text kind place line → AreMistakeLines file text kind place line
+  further_line : {lines line : List ℕ} (other : FaultKind) (behind : Place) → is_of_names kind ≡ true →
+      AreMistakeLines file text kind place lines → IsMistakeLine file text other behind line →
+      AreMistakeLines file text kind place (lines ++ line)
 
 -- the line of a fault at a step of a file's program
 abbrev pub fault_line : List ℕ → RunFault → Place → List ℕ

@@ -34,6 +34,7 @@ last: = starts: /= when: condition say: write `#` for not equal
 starts: !< when: condition say: write `>=`
 starts: !> when: condition say: write `<=`
 last: = here: = say: write a single `=`
+starts: => in: if when: compared complete say: `then` has to stand behind the condition of an `if`
 last: = here: < when: condition say: write `<=`
 last: = here: > when: condition say: write `>=`
 last: < > here: = say: `<=` and `>=` are single signs
@@ -50,6 +51,7 @@ last: NAME when: declaring touching letter-behind say: a name has only letters a
 last: NAME when: target new touching letter-behind say: a name has only letters and digits
 last: NAME here: . when: expression touching letter-behind say: a name has only letters and digits
 here: = := in: var say: a variable is declared without a value
+here: ! next: ; . end when: expression may-end say: `!` writes a number, and stands in front of it
 last: NAME here: := in: const say: a constant is declared with `=`
 here: COMPARISON odd when: condition parenthesis say: no comparison stands in parentheses
 last: NAME here: ( in: procedure call say: procedures have no parameters
@@ -64,11 +66,12 @@ here: TYPE in: var say: variables have no types
 last: TYPE in: const say: constants have no types
 here: TYPE in: const say: constants have no types
 last: 0 when: touching base say: a number is written in decimal
+second: TYPE last: ) when: operand-here expression say: all numbers are whole
 last: NUMBER when: exponent say: all numbers are whole, and written with digits alone
 last: end here: if while procedure next: ; . end say: an `end` stands alone, without `{here}`
 last: end next: ; . end when: procedure-here unless: begin say: an `end` stands alone, without `{here}`
 here: , . when: begin ended begins-next say: perhaps a `;` is meant
-here: . next: end when: begin say: perhaps this `.` is one too many
+here: . next: end . when: begin say: perhaps this `.` is one too many
 ";
 
 /// What is missing before the token.
@@ -87,6 +90,7 @@ when: begins ended say: several statements stand between `begin` and `end`
 /// Words that are no keywords, and calls.
 const WORDS: &str = "
 last: od when: condition say: perhaps `odd` is meant
+last: iff when: target new say: perhaps `if` is meant
 last: FUNCTION here: NUMBER NAME when: expression new say: PL/0 has no `{last}`
 here: REMAINDER DIVISION in: const say: a constant is a number, and isn't computed
 here: REMAINDER say: the remainder of `x` by `y` is `x - x / y * y`
@@ -94,11 +98,20 @@ here: DIVISION say: `/` divides, and drops the fraction
 here: REPEATING when: new-here unless: opening say: PL/0 has no keyword `{here}`: only `while` repeats
 here: ELSE say: PL/0 has no keyword `{here}`: write an `if` with the opposite condition
 here: LOGICAL say: PL/0 has no keyword `{here}`: a condition has one comparison, or `odd`
+here: COMPARING when: condition new-here say: write `=`, `#`, `<`, `<=`, `>` or `>=` to compare
+here: CLOSING say: PL/0 has no keyword `{here}`: several statements stand between `begin` and `end`
 here: BETWEEN say: PL/0 has no keyword `{here}`
 last: REPEATING when: new say: PL/0 has no keyword `{last}`: only `while` repeats
 last: ELSE when: new say: PL/0 has no keyword `{last}`: write an `if` with the opposite condition
 last: LOGICAL when: new say: PL/0 has no keyword `{last}`: a condition has one comparison, or `odd`
-last: program module unit when: new say: PL/0 has no keyword `{last}`: a program begins with its declarations
+last: CHOOSING when: new say: PL/0 has no keyword `{last}`: only `if` chooses
+last: IMPORTING when: new say: PL/0 has no keyword `{last}`: a program begins with its declarations
+last: type struct record class enum typedef when: new say: PL/0 has no keyword `{last}`: all values are numbers
+last: break continue when: new say: PL/0 has no keyword `{last}`: a loop ends where its condition is false
+last: exit stop halt quit when: new say: PL/0 has no keyword `{last}`: a block ends behind its statement
+last: forward when: new say: PL/0 has no keyword `{last}`: a procedure is declared before it is used
+last: set when: target new say: a variable gets its value by `:=`
+last: CALLING when: target new say: a procedure is called by `call`
 last: return when: new say: PL/0 has no keyword `{last}`: a procedure ends behind its statement, and has no value
 last: BEGINNING when: new say: PL/0 has no keyword `{last}`
 in: if when: begins-early say: perhaps `then` is missing before it
@@ -117,6 +130,7 @@ here: ( when: target new say: a procedure is called by `call`, without parameter
 
 /// Where in PL/0 the token stands, keywords that nearly read so, and declarations.
 const PLACED: &str = "
+here: KEYWORD next: , ; = := when: naming say: a keyword is no name
 here: const say: constants are declared first in a block
 last: = here: + - in: const say: a constant is a number without a sign
 last: + - * / here: + - say: a sign stands only where an expression begins, as in `(-1)`
@@ -130,7 +144,6 @@ here: var when: begin unless: declaring say: variables are declared before the s
 here: var unless: declaring say: variables are declared once in a block, before its procedures
 last: NAME when: new say: perhaps `{keyword like last}` is meant
 here: NAME when: new-here say: perhaps `{keyword like here}` is meant
-here: KEYWORD next: , ; = := when: naming say: a keyword is no name
 here: NUMBER when: naming say: a name begins with a letter
 when: naming say: a name has to stand here
 last: = in: const say: a number has to stand here
@@ -198,7 +211,8 @@ when: ended unless: begin say: a `.` ends the program
 
 /// What is said of a name that isn't declared.
 pub(crate) const UNKNOWN: &str = "
-here: true false say: all values are numbers
+here: LITERAL say: all values are numbers
+here: READING say: a program reads no input
 say: it is declared in procedure `{procedure of here}`, and known there alone
 say: perhaps `{name like here}` is meant
 ";
@@ -241,6 +255,7 @@ here: : in: if say: `then` stands behind the condition of an `if`
 here: : in: while say: `do` stands behind the condition of a `while`
 here: : in: procedure say: `;` has to stand here
 here: : in: const say: a constant is declared as in `const a = 1;`
+here: : next: = in: var say: a variable is declared without a value
 here: : in: var say: variables have no types
 here: : last: REPEATING when: new say: PL/0 has no keyword `{last}`: only `while` repeats
 here: : last: ELSE when: new say: PL/0 has no keyword `{last}`: write an `if` with the opposite condition
@@ -259,6 +274,7 @@ here: % say: the remainder of `x` by `y` is `x - x / y * y`
 here: & | when: condition say: a condition has one comparison, or `odd`
 here: & | say: only `+`, `-`, `*` and `/` compute
 here: ^ say: a power is written as a product
+starts: \\n in: ! say: each `!` writes a line of its own
 here: \\ say: `/` divides, and drops the fraction
 starts: ~= say: write `#` for not equal
 here: ~ say: PL/0 has no `not`

@@ -12,8 +12,9 @@
 //! assert_eq!(&rt; line.as_slice(), b"a.pl0:2:9: error: `=` can't stand here; `:=` assigns, and `=` compares\n".as_slice());
 //! ```
 //!
-//! The contracts are those of [`mistake_line`], [`fault_line`] and [`warning_lines`]: they return the lines that
-//! `specs/Lines` and `specs/Warnings` define, with the sentences of `specs/Sentences`. What is said beside a token that
+//! The contracts are those of [`mistake_line`], [`mistake_lines`], [`fault_line`] and [`warning_lines`]: they return the
+//! lines that `specs/Lines` and `specs/Warnings` define, with the sentences of `specs/Sentences`. Which mistakes are told
+//! behind one of a name (`src/judging.rt`) is tested. What is said beside a token that
 //! can't stand where it does is a hint. `src/hints.rt` is a table of rows, of which the first that fits counts; `src/rows.rt`
 //! reads one, by the tokens around the place (`src/scene.rt`). It is defined only that a hint stays in the line.
 #![tactic(auto)]
@@ -21,8 +22,10 @@
 mod cases;
 mod facts;
 mod found;
+mod further;
 mod hint;
 mod hints;
+mod judging;
 mod lines;
 mod names;
 mod rows;
@@ -31,5 +34,6 @@ mod sentences;
 mod warnings;
 mod words;
 
+pub use further::mistake_lines;
 pub use lines::{fault_line, mistake_line};
 pub use warnings::warning_lines;

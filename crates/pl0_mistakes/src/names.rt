@@ -58,20 +58,33 @@ pub(crate) fn procedure_with<'a>(front: &'a [u8], name: Token<'_>) -> Option<Tok
     found
 }
 
-/// Returns the last name declared in a text's front, and known at its end, that a name resembles.
+/// Returns the first name declared in a text's front, and known at its end, that a name resembles.
 pub(crate) fn name_nearby<'a>(front: &'a [u8], name: Token<'_>) -> Option<Token<'a>> {
     let mut found = None;
+    let mut depth = 0;
     let mut past = nothing_past();
     let mut rest = front;
     while let Some((token, after)) = next_token(rest) {
+        if past.procedures < depth {
+            found = None;
+            depth = 0;
+        }
         let declared = is_declaring(past.opener) && is_name(token);
-        if declared && resembles(token, name) && kind_of(front, token).is_some() {
+        if declared && found.is_none() && resembles(token, name) {
             found = Some(token);
+            depth = block_of(past);
         }
         past = past.followed_by(token);
         rest = after;
     }
-    found
+    if past.procedures < depth { None } else { found }
+}
+
+/// Returns how many procedures enclose the block of a name that is declared behind these tokens.
+fn block_of(past: Past<'_>) -> u32 {
+    // The name of a procedure belongs to the block around it.
+    let inner = past.opener.is("procedure") as u32;
+    past.procedures.saturating_sub(inner)
 }
 
 /// Whether a name stands behind `procedure` anywhere in bytes.

@@ -27,7 +27,12 @@ fn words_of(word: &str) -> &'static str {
     match word {
         "BETWEEN" => BETWEEN,
         "BEGINNING" => BEGINNING,
-        "REPEATING" => "for foreach repeat until loop",
+        "REPEATING" => "for foreach repeat until loop goto whilst",
+        "CHOOSING" => "case switch select match when unless",
+        "IMPORTING" => "program module unit import include using uses package require",
+        "CALLING" => "gosub perform invoke run",
+        "LITERAL" => "true false none null nil undefined",
+        "CLOSING" => "fi od done wend endif endwhile next",
         "ELSE" => "else elif elseif elsif otherwise",
         "LOGICAL" => "and or xor not",
         "REMAINDER" => "mod rem modulo",
@@ -46,15 +51,15 @@ fn words_of(word: &str) -> &'static str {
 
 /// Words of other languages where an operand, a statement or its rest may end.
 const BETWEEN: &str =
-    "and or xor not mod div rem else elif elseif elsif until to downto step in is fi od wend endif endwhile";
+    "and or xor not mod div rem else elif elseif elsif until to downto step in is fi od done wend endif endwhile";
 
 /// Words of other languages with which a statement begins, or an operand. They are read as names.
 const BEGINNING: &str =
-    "not else elif elseif elsif for foreach repeat until return break continue case switch loop goto exit stop halt unless pass global nonlocal try program module unit import include using uses package class fi od done set del new type label static public private when with forward";
+    "not else elif elseif elsif for foreach repeat until return loop pass global nonlocal try fi od done del new label static public private with";
 
 /// Words by which other languages write.
 const WRITING: &str =
-    "write writeln print println printf puts cout echo display output put disp console system";
+    "write writeln print println printf puts cout echo display output out put disp say show console system";
 
 /// Words by which other languages declare variables.
 const TYPES: &str =

@@ -1,0 +1,79 @@
+//! All mistakes of a text that are told at once: the first, and behind one of a name the others of names.
+
+ghost use Rattle.std.specs.Prelude.{◌≡◌, true, IfOk};
+ghost use Rattle.pl0_mistakes.specs.Lines.{AreMistakeLines, is_of_names};
+
+use crate::judging::name_mistakes;
+use crate::lines::mistake_line;
+use pl0_parser::tokenize;
+use pl0_tree::{FaultKind, Place, SyntaxFault};
+use std::alloc::{AllocError, Global};
+
+/// Returns the lines that tell mistakes of a program's text, each as [`mistake_line`] does: the first, of which these are the
+/// kind and the place, and where it is one of a name, others of names behind it, in the order of the text. Of a name one
+/// is told, and mistakes of 20 names at most.
+///
+/// # Errors
+///
+/// `AllocError`, where an allocation failed.
+pub fn mistake_lines(
+    alloc: Global,
+    file: &str,
+    text: &[u8],
+    kind: FaultKind,
+    place: Place,
+) -> Result<Vec<u8>, AllocError>
+    ensures { IfOk result (λ lines. AreMistakeLines file.now text.now kind place lines.items) }
+{
+    let first = mistake_line(alloc, file, text, kind, place)?;
+    if is_of_names(kind) {
+        with_others(alloc, first, file, text, kind, place)
+    } else {
+        Ok(first)
+    }
+}
+
+/// Returns the line of the first mistake, which is one of a name, and behind it those of others.
+fn with_others(
+    alloc: Global,
+    first: Vec<u8>,
+    file: &str,
+    text: &[u8],
+    kind: FaultKind,
+    place: Place,
+) -> Result<Vec<u8>, AllocError>
+    requires names { is_of_names kind ≡ true }
+    requires first { AreMistakeLines file.now text.now kind place first.items }
+    ensures { IfOk result (λ lines. AreMistakeLines file.now text.now kind place lines.items) }
+{
+    let mut lines = first;
+    let mistakes = mistakes_behind(alloc, text, place)?;
+    for (other, behind) in mistakes.iter() {
+        let line = mistake_line(alloc, file, text, *other, *behind)?;
+        lines.extend_from_slice(line.as_slice())?;
+    }
+    Ok(lines)
+}
+
+/// Whether a mistake is one of a name, in a text whose tokens and grammar are right.
+fn is_of_names(kind: FaultKind) -> bool
+    ensures { result ≡ is_of_names kind }
+{
+    match kind {
+        FaultKind::Twice | FaultKind::Unknown | FaultKind::TooEarly | FaultKind::WrongKind => true,
+        _ => false,
+    }
+}
+
+/// Returns the mistakes of names in a text behind the first, which stands at this place.
+fn mistakes_behind(
+    alloc: Global,
+    text: &[u8],
+    first: Place,
+) -> Result<Vec<(FaultKind, Place)>, AllocError> {
+    match tokenize(alloc, text) {
+        Ok((tokens, _)) => name_mistakes(alloc, tokens.as_slice(), first),
+        Err(SyntaxFault::NoMemory) => Err(AllocError),
+        Err(SyntaxFault::InText { .. }) => Ok(Vec::new(alloc)),
+    }
+}
