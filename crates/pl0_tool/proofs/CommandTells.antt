@@ -10,9 +10,12 @@ use Rattle.pl0_tool.specs.declared.report.Report.{Report}
 use Rattle.pl0_tool.specs.declared.running.RunEnd.{RunEnd}
 use Rattle.pl0_tool.specs.Loading.{IsProgramOf}
 use Rattle.pl0_tool.specs.Running.{HasRun, IsWithin}
+use Rattle.pl0_tree.specs.declared.tree.Place.{Place}
+use Rattle.pl0_tree.specs.declared.fault.FaultKind.{FaultKind}
+use Rattle.pl0_mistakes.specs.Lines.{AreMistakeLines, IsMistakeLine, first_line}
 use Rattle.pl0_mistakes.specs.Warnings.{warning_lines}
 use Rattle.std.specs.Prelude.{IsErrAnd, MatchResult}
-use Rattle.pl0_tool.specs.Commands.{IsPage, IsReport, IsRunReport, RunTells, TraceTells, ProgramTells, Tells, start_of}
+use Rattle.pl0_tool.specs.Commands.{AreMistakesTold, IsPage, IsReport, IsRunReport, RunTells, TraceTells, ProgramTells, Tells, start_of}
 use Rattle.pl0_tool.specs.Commands.{IsTraceReport, PageTells, ProgramWrites, StartTraces, StartWrites, WritesNumbers, WritesRun}
 use Rattle.pl0_tool.specs.Traced.{Grows, HasTraced, Writes}
 use Rattle.pl0_tool.specs.declared.tracing.TraceEnd.{TraceEnd}
@@ -56,6 +59,24 @@ pub tokens_page : {E : Type 0} (task : Task) (r : Result (Vec ℕ Global) E) →
     → IfOk r (λ page. IsPage task page.items)
 tokens_page task (Ok page) is = subst (λ t. IsPage t page.items) (sym is) tt
 tokens_page task (Err e) is = tt
+
+-- any task may tell the first mistake alone
+pub one_mistake : (task : Task) (file text : List ℕ) (kind : FaultKind) (place : Place) (line : List ℕ)
+    → IsMistakeLine file text kind place line → AreMistakesTold task file text kind place line
+one_mistake Check file text kind place line told = first_line told
+one_mistake (Run limit) file text kind place line told = told
+one_mistake (Trace from steps view) file text kind place line told = told
+one_mistake (Listing names) file text kind place line told = told
+one_mistake Tree file text kind place line told = told
+one_mistake Tokens file text kind place line told = told
+
+-- and a check more
+pub checked_mistakes : {E : Type 0} (task : Task) (file text : List ℕ) (kind : FaultKind) (place : Place)
+    (r : Result (Vec ℕ Global) E) → task ≡ Check → IfOk r (λ lines. AreMistakeLines file text kind place lines.items)
+    → IfOk r (λ lines. AreMistakesTold task file text kind place lines.items)
+checked_mistakes task file text kind place (Ok lines) is told =
+    subst (λ t. AreMistakesTold t file text kind place lines.items) (sym is) told
+checked_mistakes task file text kind place (Err e) is told = tt
 
 pub program_told : {E : Type 0} (task : Task) (file text : List ℕ) (unit : Compiled) (r : Result Report E)
     (before after : Output)

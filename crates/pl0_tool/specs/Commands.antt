@@ -5,7 +5,7 @@ use Rattle.pl0_tree.specs.declared.fault.FaultKind.{FaultKind}
 use Rattle.pl0_tree.specs.Faults.{IsFirstFault}
 use Rattle.pl0_unit.specs.declared.unit.Unit.{Unit as Compiled}
 use Rattle.pl0_machine.specs.Machine.{Standing}
-use Rattle.pl0_mistakes.specs.Lines.{IsMistakeLine}
+use Rattle.pl0_mistakes.specs.Lines.{AreMistakeLines, IsMistakeLine}
 use Rattle.pl0_mistakes.specs.Warnings.{warning_lines}
 use Rattle.byte_streams.specs.Streams.{Output}
 use Rattle.pl0_tool.specs.declared.arguments.Task.{Task}
@@ -84,10 +84,15 @@ abbrev pub IsPage : Task → List ℕ → Type 0
 IsPage Tokens page = Unit {0}
 IsPage task page = page ≡ []
 
+-- what a task tells of such a text: its first mistake; a check also further ones of names
+abbrev pub AreMistakesTold : Task → List ℕ → List ℕ → FaultKind → Place → List ℕ → Type 0
+AreMistakesTold Check file text kind place lines = AreMistakeLines file text kind place lines
+AreMistakesTold task file text kind place lines = IsMistakeLine file text kind place lines
+
 abbrev pub MistakeTells : Task → List ℕ → List ℕ → Report → Type 0
 MistakeTells task file text report =
     (kind : FaultKind) × (place : Place) × IsFirstFault text kind place
-    × IsMistakeLine file text kind place report.errors.items × IsPage task report.output.items
+    × AreMistakesTold task file text kind place report.errors.items × IsPage task report.output.items
     × (report.ending ≡ Mistake)
 
 abbrev pub ProgramTells : Task → List ℕ → Compiled → Report → Output → Output → Type 0

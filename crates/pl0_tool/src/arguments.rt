@@ -184,7 +184,9 @@ fn check_command<'a>(alloc: Global) -> Result<Command<'a>, AllocError>
     ensures { IfOk result (λ command. app_of command ≡ alone check_command) }
 {
     Command::new(alloc, "check")
-        .about("Tell the first mistake of each text, as FILE:LINE:COLUMN: error: ..")
+        .about(
+            "Tell the first mistake of each text, or its wrong names, as FILE:LINE:COLUMN: error: ..",
+        )
         .arg(files(alloc))
 }
 

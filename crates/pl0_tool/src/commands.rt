@@ -3,7 +3,7 @@
 ghost use Rattle.std.specs.Prelude.{◌≡◌, ◌<◌, ◌≤◌, [], IfOk, MatchResult, string_bytes};
 ghost use Rattle.pl0_tree.specs.Faults.{IsFirstFault};
 ghost use Rattle.pl0_machine.specs.Machine.{depth_of};
-ghost use Rattle.pl0_tool.specs.Commands.{IsPage, MistakeTells, PageTells, Tells, ProgramTells, RunTells, TraceTells, IsReport, start_of};
+ghost use Rattle.pl0_tool.specs.Commands.{AreMistakesTold, IsPage, MistakeTells, PageTells, Tells, ProgramTells, RunTells, TraceTells, IsReport, start_of};
 ghost use Rattle.pl0_tool.specs.Commands.{WritesNumbers, ProgramWrites, StartTraces, StartWrites, WritesRun};
 ghost use Rattle.pl0_tool.specs.Commands.{IsRunReport, IsTraceReport, ends_line, goes_on_line};
 ghost use Rattle.pl0_tool.specs.Faulting.{fault_report};
@@ -23,7 +23,7 @@ use byte_streams::Sink;
 use pl0_lessons::{name_table, program_tree};
 use pl0_machine::Machine;
 use pl0_meaning::RunFault;
-use pl0_mistakes::mistake_line;
+use pl0_mistakes::{mistake_line, mistake_lines};
 use pl0_tree::{FaultKind, Place, SyntaxFault};
 use pl0_unit::Unit;
 use std::alloc::{AllocError, Global};
@@ -62,7 +62,7 @@ pub fn perform<O: Sink>(
     }
 }
 
-/// Tells the first mistake of a text; the tokens of the text too, if these are asked for.
+/// Tells the first mistake of a text, a check with further ones; the tokens of the text too, if these are asked for.
 fn tell_mistake(
     alloc: Global,
     task: Task,
@@ -74,9 +74,26 @@ fn tell_mistake(
     requires { IsFirstFault text.now kind place }
     ensures { IfOk result (MistakeTells task file.now text.now) }
 {
-    let line = mistake_line(alloc, file, text, kind, place)?;
+    let lines = lines_of_mistaken(alloc, task, file, text, kind, place)?;
     let page = page_of_mistaken(alloc, task, text)?;
-    Ok(Report::new(page, line, Ending::Mistake))
+    Ok(Report::new(page, lines, Ending::Mistake))
+}
+
+/// Returns what is told of a text that is no program's: its first mistake, and where it is checked further ones.
+fn lines_of_mistaken(
+    alloc: Global,
+    task: Task,
+    file: &str,
+    text: &[u8],
+    kind: FaultKind,
+    place: Place,
+) -> Result<Vec<u8>, AllocError>
+    ensures { IfOk result (λ lines. AreMistakesTold task file.now text.now kind place lines.items) }
+{
+    match task {
+        Task::Check => mistake_lines(alloc, file, text, kind, place),
+        _ => mistake_line(alloc, file, text, kind, place),
+    }
 }
 
 /// Returns what is shown of a text that is no program's: its tokens, if these are asked for.

@@ -38,7 +38,11 @@ pub fn fault_report(
 /// # Errors
 ///
 /// `AllocError`, where an allocation failed.
-pub fn stop_report(alloc: Global, file: &str, machine: &Machine) -> Result<Vec<u8>, AllocError> {
+pub(crate) fn stop_report(
+    alloc: Global,
+    file: &str,
+    machine: &Machine,
+) -> Result<Vec<u8>, AllocError> {
     let first = stop_line(alloc, file, machine)?;
     with_frames(alloc, first, file, machine)
 }

@@ -1,7 +1,7 @@
 //! The lines of a text.
 
 /// Returns the first line of a text, without its line feed, and what follows it; and `None` for an empty text.
-pub fn first_line(text: &[u8]) -> Option<(&[u8], &[u8])> {
+pub(crate) fn first_line(text: &[u8]) -> Option<(&[u8], &[u8])> {
     if text.is_empty() {
         return None;
     }

@@ -21,7 +21,7 @@ const TEXT_WIDTH: usize = 10;
 /// # Errors
 ///
 /// `AllocError`, where an allocation failed.
-pub fn listing(alloc: Global, unit: &Unit) -> Result<Vec<u8>, AllocError> {
+pub(crate) fn listing(alloc: Global, unit: &Unit) -> Result<Vec<u8>, AllocError> {
     let mut listed = Vec::new(alloc);
     let mut left = unit.tree.text.as_slice();
     let mut line = 0;

@@ -58,7 +58,7 @@ const RETURN_ADDRESS_WIDTH: usize = 14;
 /// # Errors
 ///
 /// `AllocError`, where an allocation failed.
-pub fn put_head(page: &mut Vec<u8>, view: View) -> Result<(), AllocError> {
+pub(crate) fn put_head(page: &mut Vec<u8>, view: View) -> Result<(), AllocError> {
     put_text(page, STEP_HEAD)?;
     put_text(page, state_head(view.machine))?;
     put_text(page, instructions_head(view.instructions))?;
@@ -85,7 +85,7 @@ fn instructions_head(told: bool) -> &'static str {
 /// # Errors
 ///
 /// `AllocError`, where an allocation failed.
-pub fn put_row(
+pub(crate) fn put_row(
     alloc: Global,
     page: &mut Vec<u8>,
     unit: &Unit,

@@ -20,7 +20,7 @@ const KIND_WIDTH: usize = 7;
 /// # Errors
 ///
 /// `AllocError`, where an allocation failed.
-pub fn token_table(alloc: Global, text: &[u8]) -> Result<Vec<u8>, AllocError> {
+pub(crate) fn token_table(alloc: Global, text: &[u8]) -> Result<Vec<u8>, AllocError> {
     let mut page = Vec::from_slice(alloc, HEAD.as_bytes())?;
     match tokenize(alloc, text) {
         Ok((tokens, _)) => put_rows(alloc, &mut page, text, tokens.as_slice())?,
