@@ -3,8 +3,10 @@
 //! command line is that of this process.
 #![tactic(auto)]
 
-use adapter::{FileKinds, FileLoader, FirstSeq, Reading, SystemFiles, Writing, execute, run};
+use adapter::{FirstSeq, Reading, SystemFiles, Writing, run};
+use std::alloc::{AllocError, Global};
 use std::env;
+use std::env::Args;
 
 /// Files that are checked: each has a listing, or else a fault, or isn't there.
 const FILES: [&str; 11] = [
@@ -31,34 +33,27 @@ fn main(rt: HostRuntime) -> Result<(), anyhow::Error> {
     let given = env::args(&rt);
     let reason = run(&rt, FirstSeq::One, given, files, input, output, errors);
     println!(rt; "status {}", reason.status())?;
-    let mut files = FileLoader::new(&rt, rt.alloc(), files, FileKinds::All);
     for file in FILES {
         println!(rt; "{file}:")?;
-        let words = ["pl0dap", "--check", file];
-        let reason = execute(
-            &rt,
-            FirstSeq::One,
-            &words,
-            &mut files,
-            input,
-            output,
-            errors,
-        );
+        let given = arguments(rt.alloc(), &["--check", file])?;
+        let reason = run(&rt, FirstSeq::One, Ok(given), files, input, output, errors);
         println!(rt; "status {}", reason.status())?;
     }
     for option in ["--help", "--check", "--chec"] {
         println!(rt; "{option}:")?;
-        let words = ["pl0dap", option];
-        let reason = execute(
-            &rt,
-            FirstSeq::One,
-            &words,
-            &mut files,
-            input,
-            output,
-            errors,
-        );
+        let given = arguments(rt.alloc(), &[option])?;
+        let reason = run(&rt, FirstSeq::One, Ok(given), files, input, output, errors);
         println!(rt; "status {}", reason.status())?;
     }
     Ok(())
+}
+
+/// Returns the arguments of a process that has these behind its name.
+fn arguments(alloc: Global, words: &[&str]) -> Result<Args, AllocError> {
+    let mut given = Vec::new(alloc);
+    given.push(String::from_str(alloc, "pl0dap")?)?;
+    for word in words {
+        given.push(String::from_str(alloc, word)?)?;
+    }
+    Ok(given.into_iter())
 }
