@@ -24,12 +24,12 @@ fn arguments<R: Abort + AllocGlobal>(rt: &R, words: &[&str]) -> Vec<String> {
 type Expected<'a> = (&'a [u8], u8, (usize, usize), usize);
 
 /// Asserts that the program, with these arguments, comes to this, where there is one file, `p.pl0`.
-fn assert_comes_to<R>(
-    rt: &R,
+fn assert_comes_to<'a, R>(
+    rt: &'a R,
     words: &[&str],
-    text: &[u8],
-    streams: Streams,
-    bytes: &[u8],
+    text: &'a [u8],
+    streams: Streams<'a>,
+    bytes: &'a [u8],
     expected: Expected,
 )
 where
