@@ -4,7 +4,7 @@ use crate::fakes::{Input, OneFile, Output, Progress, Streams};
 use crate::listings::{LAWFUL, LISTING};
 use crate::programs::PROCEDURES;
 use crate::transcript::Exchange;
-use adapter::{FirstSeq, run};
+use adapter::{FirstSeq, Opener, run};
 use std::process::Abort;
 use std::sync::Wait;
 use std::thread::Threads;
@@ -19,69 +19,53 @@ fn arguments<R: Abort + AllocGlobal>(rt: &R, words: &[&str]) -> Vec<String> {
     given
 }
 
-/// What a run must come to: what it writes, its status, how often it opens the file, of all kinds and of regular files
-/// alone, and how often it closes it.
-type Expected<'a> = (&'a [u8], u8, (usize, usize), usize);
-
-/// Asserts that the program, with these arguments, comes to this, where there is one file, `p.pl0`.
-fn assert_comes_to<'a, R>(
-    rt: &'a R,
+/// Asserts that the program, with these arguments and files, writes these bytes, and ends with this status.
+fn assert_comes_to<R, F: Opener>(
+    rt: &R,
     words: &[&str],
-    text: &'a [u8],
-    streams: Streams<'a>,
-    bytes: &'a [u8],
-    expected: Expected,
+    files: &mut F,
+    bytes: &[u8],
+    streams: Streams,
+    expected: (&[u8], u8),
 )
 where
     R: Threads + Wait + Abort + Eprint + AllocGlobal + Copy + Drop + Send + Sync,
 {
     let alloc = rt.alloc();
-    // What a file's reads note isn't what the client sees.
     let (progress, apart) = (Progress::new(), Progress::new());
-    let mut files = OneFile::new(rt, "p.pl0", text, &apart);
     let mut input = Input::new(rt, bytes, streams, &progress);
     let mut output = Output::new(rt, alloc, streams, &progress);
     let mut errors = Output::new(rt, alloc, Streams::WELL, &apart);
+    let given = Ok(arguments(rt, words).into_iter());
     let reason = run(
         rt,
         FirstSeq::One,
-        Ok(arguments(rt, words).into_iter()),
-        &mut files,
+        given,
+        files,
         &mut input,
         &mut output,
         &mut errors,
     );
-    let (wanted, status, opened, closed) = expected;
+    let (written, status) = expected;
     assert_eq!(rt;
         (
             std::str::from_utf8(output.bytes.as_slice()),
             reason.status()
         ),
-        (std::str::from_utf8(wanted), status)
+        (std::str::from_utf8(written), status)
     );
-    assert_eq!(rt; (files.opened, files.closed), (opened, closed));
 }
 
 #[test]
 fn lists_what_the_file_has(rt: HostRuntime) {
-    let expected = (LISTING, 0, (1, 0), 1);
-    assert_comes_to(
-        &rt,
-        &["--check", "p.pl0"],
-        LAWFUL,
-        Streams::WELL,
-        b"",
-        expected,
-    );
-    let expected = (b"".as_slice(), 1, (0, 0), 0);
-    assert_comes_to(
-        &rt,
-        &["--check", "q.pl0"],
-        LAWFUL,
-        Streams::WELL,
-        b"",
-        expected,
-    );
+    let apart = Progress::new();
+    let mut files = OneFile::new(&rt, "p.pl0", LAWFUL, &apart);
+    let words = ["--check", "p.pl0"];
+    assert_comes_to(&rt, &words, &mut files, b"", Streams::WELL, (LISTING, 0));
+    assert_eq!(&rt; (files.opened, files.closed), ((1, 0), 1));
+    let words = ["--check", "q.pl0"];
+    assert_comes_to(&rt, &words, &mut files, b"", Streams::WELL, (b"", 1));
+    assert_eq!(&rt; (files.opened, files.closed), ((1, 0), 1));
 }
 
 /// Each read after a run began waits for what the run brings.
@@ -92,20 +76,21 @@ fn debugs_what_the_file_has(rt: HostRuntime) {
         cuts: exchange.reads.as_slice(),
         ..Streams::WELL
     };
+    // What a file's reads note isn't what the client sees.
+    let apart = Progress::new();
     let text = PROCEDURES.program.as_bytes();
-    let expected = (exchange.answered.as_slice(), 0, (0, 1), 1);
-    assert_comes_to(&rt, &[], text, streams, exchange.sent.as_slice(), expected);
+    let mut files = OneFile::new(&rt, "p.pl0", text, &apart);
+    let expected = (exchange.answered.as_slice(), 0);
+    let sent = exchange.sent.as_slice();
+    assert_comes_to(&rt, &[], &mut files, sent, streams, expected);
+    assert_eq!(&rt; (files.opened, files.closed), ((0, 1), 1));
 }
 
 #[test]
 fn opens_nothing_for_help(rt: HostRuntime) {
+    let apart = Progress::new();
+    let mut files = OneFile::new(&rt, "p.pl0", LAWFUL, &apart);
     let help = adapter::arguments::HELP.as_bytes();
-    assert_comes_to(
-        &rt,
-        &["--help"],
-        LAWFUL,
-        Streams::WELL,
-        b"",
-        (help, 0, (0, 0), 0),
-    );
+    assert_comes_to(&rt, &["--help"], &mut files, b"", Streams::WELL, (help, 0));
+    assert_eq!(&rt; (files.opened, files.closed), ((0, 0), 0));
 }
