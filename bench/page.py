@@ -242,10 +242,15 @@ def back(log: Log) -> str:
     best, median, worst = log.figures("back", "`stepBack` from there, 20 times")
     start, logged = log.figures("back", "`reverseContinue` to the start")[0], log.figures("back", "100,000 logs in")[0]
     turns = log.figures("back", "gdb records 16,000 turns")
+    hits = log.figures("back", "`reverseContinue` to the last of 50,000,000 hits")[1]
+    kept, deep = (log.figures("back", f"{frames} frames of 1,000 variables") for frames in ("130", "1,000"))
     return (f"The way forward, with checkpoints kept, takes {forward:.3f} s and {memory:,.0f} KiB at most; "
             f"`stepBack` from there {best / 1000:.1f} ms at best,\n"
             f"{median / 1000:.1f} in the median and {worst / 1000:.1f} at worst; `reverseContinue` to the start "
-            f"{start:.3f} s. 100,000 logs take {logged:.3f} s at best. gdb\n"
+            f"{start:.3f} s, to the last of a hit a turn {hits:.2f} of the way's processor time.\n"
+            f"With 130,000 cells in use a session has {kept[2]:,.0f} KiB at most, with 1,000,000 {deep[2]:,.0f}; "
+            f"`stepBack` takes {kept[3]:.1f} and {deep[3]:.1f} ms there.\n"
+            f"100,000 logs take {logged:.3f} s at best. gdb "
             f"records 16,000 turns in {turns[1]:.3f} s, with {turns[3]:.0f} bytes an instruction, "
             f"and its `reverse-step` takes {turns[4]:.2f} ms at best.")
 
