@@ -32,8 +32,8 @@ The editor is at standard input and output; or, as CodeLite 17 wants it, it conn
 connection of the user's own is taken. The adapter PROGRAM gets what comes, and what it writes goes back, nothing is
 left out, and the order is kept. This is passed on otherwise than it came:
 
-- A launch that is refused for a mistake in the text says what `pl0 check` says of it, if that can be started, also on
-  standard error. After a launch of a text of which it warns, one more output says the warnings.
+- A launch that is refused for a mistake in the text says what `pl0 check` says first of it, if that can be started,
+  also on standard error. After a launch of a text of which it warns, one more output says the warnings.
 - Why a breakpoint or an expression is refused is in words, of a breakpoint also in one more output.
 - A stop at a fault has a `description`: its name in words.
 - Each breakpoint of an answer gets an `id` and its `source`: CodeLite drops those from its list that have none.
@@ -212,7 +212,8 @@ class Session:
             warnings = checked(self.program, IS_RIGHT)
             return [f"{warnings}\n"] if warnings else []
         is_folder = self.is_codelite and os.path.isdir(self.program)
-        if words := f"{self.program}: {IS_FOLDER}" if is_folder else checked(self.program, HAS_MISTAKE):
+        words = f"{self.program}: {IS_FOLDER}" if is_folder else checked(self.program, HAS_MISTAKE).partition("\n")[0]
+        if words:
             print(words, file=sys.stderr, flush=True)
             answer["message"] = words
         return []
