@@ -46,8 +46,7 @@ module _ (k : ℕ) (r : Resolver) where
   expression_narrow (Named x) begins = (read_narrow k (r x.word), tt)
   expression_narrow (Negate e) begins = narrow-++ k (expression_rows r e begins) _ (expression_narrow e begins) (tt, tt)
   expression_narrow (Binary op left right) begins =
-      narrow-++ k (expression_rows r left begins) _ (expression_narrow left begins)
-      (narrow-++ k (expression_rows r right None) _ (expression_narrow right None) (tt, tt))
+      narrow-++ k _ _ (expression_narrow left begins) (narrow-++ k _ _ (expression_narrow right None) (tt, tt))
 
   condition_narrow : (c : Condition) (begins : Option ℕ) → AllNarrow k (condition_rows r c begins)
   condition_narrow (Odd e) begins = narrow-++ k (expression_rows r e begins) _ (expression_narrow e begins) (tt, tt)
@@ -56,20 +55,15 @@ module _ (k : ℕ) (r : Resolver) where
   statement_narrow : (s : Statement) (from n : ℕ) → AllNarrow k (statement_rows r s from n)
   statement_narrow Empty from n = tt
   statement_narrow (Then s t) from n =
-      narrow-++ k (statement_rows r s from n) _ (statement_narrow s from n)
-      (statement_narrow t (from + length (statement_rows r s from n)) (n + step_count s))
-  statement_narrow (Assign x e) from n =
-      narrow-++ k (expression_rows r e (Some n)) _ (expression_narrow e (Some n)) (store_narrow k (r x.word), tt)
+      narrow-++ k _ _ (statement_narrow s from n) (statement_narrow t (from + length _) _)
+  statement_narrow (Assign x e) from n = narrow-++ k _ _ (expression_narrow e _) (store_narrow k _, tt)
   statement_narrow (Call p x) from n = (call_narrow k (r x.word), tt)
-  statement_narrow (Write p e) from n =
-      narrow-++ k (expression_rows r e (Some n)) _ (expression_narrow e (Some n)) (tt, tt)
+  statement_narrow (Write p e) from n = narrow-++ k _ _ (expression_narrow e _) (tt, tt)
   statement_narrow (If p c s) from n =
-      narrow-++ k (condition_rows r c (Some n)) _ (condition_narrow c (Some n))
-      (tt, statement_narrow s (from + length (condition_rows r c (Some n)) + 1) (n + 1))
+      narrow-++ k _ _ (condition_narrow c _) (tt, statement_narrow s (from + length _ + 1) _)
   statement_narrow (While p c s) from n =
-      let at = from + length (condition_rows r c (Some n)) + 1 in
-      narrow-++ k (condition_rows r c (Some n)) _ (condition_narrow c (Some n))
-      (tt, narrow-++ k (statement_rows r s at (n + 1)) _ (statement_narrow s at (n + 1)) (tt, tt))
+      let at = from + length _ + 1 in
+      narrow-++ k _ _ (condition_narrow c _) (tt, narrow-++ k _ _ (statement_narrow s at _) (tt, tt))
 
 module _ (k : ℕ) (main : Block) where
   mutual
@@ -90,8 +84,7 @@ module _ (k : ℕ) (main : Block) where
         → AllNarrow k (procedures_rows main q i ps from n)
     procedures_narrow q i NoMore from n few = tt
     procedures_narrow q i (AndProcedure x b more) from n few =
-        narrow-++ k (block_rows main (i ∷ q) b from n) _ (block_narrow (i ∷ q) b from n (omega (arith, few)))
-        (procedures_narrow q (i + 1) more (from + block_length b) (n + length (block_steps b (i ∷ q)))
+        narrow-++ k _ _ (block_narrow _ b from n (omega (arith, few))) (procedures_narrow q _ more _ (n + length _)
         (omega (arith, few)))
 
 narrow_one : (k n : ℕ) (i : Instruction) → Narrow k i → Some i ≡ Some (Enter n) → n ≤ k

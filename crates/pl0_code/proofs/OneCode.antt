@@ -19,8 +19,7 @@ module _ (u : Listing) where
   condition_long : (q : Path) (c : Condition) (b : Option ℕ) (from to : ℕ) → CodedCondition u q c b from to
       → to ≡ from + condition_length c
   condition_long q (Odd e) b from to h = omega (arith, expression_long q e b from h.0 h.1, h.3)
-  condition_long q (Compare r left right) b from to h =
-      omega (arith, expression_long q left b from h.0 h.2, expression_long q right None h.0 h.1 h.3, h.5)
+  condition_long q (Compare r left right) b from to h = grind (arith, common_steps, expression_long) steps 1500000
 
   module _ (entry : Path → ℕ) where
     statement_long : (q : Path) (s : Statement) (from to : ℕ) → CodedStatement u entry q s from to
@@ -28,11 +27,9 @@ module _ (u : Listing) where
     statement_long q Empty from to h = omega (arith, h)
     statement_long q (Then s t) from to h =
         omega (arith, statement_long q s from h.0 h.1, statement_long q t h.0 to h.2)
-    statement_long q (Assign x e) from to h =
-        omega (arith, expression_long q e (Some h.step) from h.last h.value, h.behind)
+    statement_long q (Assign x e) from to h = omega (arith, expression_long q e _ from h.last h.value, h.behind)
     statement_long q (Call p x) from to h = h.3
-    statement_long q (Write p e) from to h =
-        omega (arith, expression_long q e (Some h.step) from h.last h.value, h.behind)
+    statement_long q (Write p e) from to h = omega (arith, expression_long q e _ from h.last h.value, h.behind)
     statement_long q (If p c s) from to h =
         omega (arith, condition_long q c (Some h.step) from h.last h.test, statement_long q s (h.last + 1) to h.body)
     statement_long q (While p c s) from to h =
@@ -79,8 +76,7 @@ module _ (main : Block) (ascend : Ascend (map (λ (s : StepAt). s.place) (steps 
     where
       placed : (n : ℕ) → slice_get (steps main) n ≡ Some s → slice_get (map (λ (s : StepAt). s.place) (steps main))
           n ≡ Some s.place
-      placed n is =
-          slice_get-map (λ (s : StepAt). s.place) (steps main) n ∙ ap (option_map (λ (s : StepAt). s.place)) is
+      placed n is = cc (slice_get-map (λ (s : StepAt). s.place) (steps main) n)
 
       go : (i < j) ⊎ (j ≤ i) → (j < i) ⊎ (i ≤ j) → i ≡ j
       go (inl lt) other = absurd (not_before s.place (ascend i j s.place s.place lt (placed i here) (placed j there)))
@@ -116,15 +112,12 @@ module _ (main : Block) (ascend : Ascend (map (λ (s : StepAt). s.place) (steps 
 
     laid : (a a' : ℕ) (i i' : Instruction) (b b' : Option ℕ) → a ≡ a' → i ≡ i' → b ≡ b' → Lays u a i b → Lays v a' i' b'
         → Agrees a
-    laid a a' i i' b b' p r s x y =
-        (x.0 ∙ ap Some r ∙ sym (ap (slice_get d) p ∙ y.0), x.1 ∙ ap Some s ∙ sym (ap (slice_get m) p ∙ y.1))
+    laid a a' i i' b b' p r s x y = grind (arith, common_steps, slice_get) steps 1500000
 
     declared_read : (q h : Path) (k : Meaning) (b b' : Option ℕ) (a a' : ℕ) → a ≡ a' → b ≡ b'
         → LaysDeclaredRead u q h k b a → LaysDeclaredRead v q h k b' a' → Agrees a
-    declared_read q h (AConstant k) b b' a a' p s x y =
-        laid a a' (Literal x.0) (Literal y.0) b b' p (ap Literal (same_Some x.0 y.0 (sym x.1 ∙ y.1))) s x.2 y.2
-    declared_read q h (AVariable k) b b' a a' p s x y =
-        laid a a' (Load (level q h) (cell k)) (Load (level q h) (cell k)) b b' p refl s x y
+    declared_read q h (AConstant k) b b' a a' p s x y = grind (arith, common_steps, laid, same_Some) steps 1500000
+    declared_read q h (AVariable k) b b' a a' p s x y = grind (arith, common_steps, laid, level, cell) steps 1500000
     declared_read q h (AProcedure k) b b' a a' p s x y = absurd x
 
     read : (q : Path) (o : Option Home) (b b' : Option ℕ) (a a' : ℕ) → a ≡ a' → b ≡ b' → LaysRead u q o b a
@@ -134,8 +127,7 @@ module _ (main : Block) (ascend : Ascend (map (λ (s : StepAt). s.place) (steps 
 
     declared_store : (q h : Path) (k : Meaning) (a a' : ℕ) → a ≡ a' → LaysDeclaredStore u q h k a
         → LaysDeclaredStore v q h k a' → Agrees a
-    declared_store q h (AVariable k) a a' p x y =
-        laid a a' (Store (level q h) (cell k)) (Store (level q h) (cell k)) None None p refl refl x y
+    declared_store q h (AVariable k) a a' p x y = grind (arith, common_steps, laid, level, cell) steps 1500000
     declared_store q h _ a a' p x y = absurd x
 
     store : (q : Path) (o : Option Home) (a a' : ℕ) → a ≡ a' → LaysStore u q o a → LaysStore v q o a' → Agrees a
@@ -144,10 +136,8 @@ module _ (main : Block) (ascend : Ascend (map (λ (s : StepAt). s.place) (steps 
 
     expression_same : (q : Path) (e : Expression) (b b' : Option ℕ) (from from' to to' : ℕ) → b ≡ b' → from ≡ from'
         → CodedExpression u q e b from to → CodedExpression v q e b' from' to' → Agree from to
-    expression_same q (Number n) b b' from from' to to' s p x y =
-        one from to x.1 (laid from from' (Literal n) (Literal n) b b' p refl s x.0 y.0)
-    expression_same q (Variable w) b b' from from' to to' s p x y =
-        one from to x.1 (read q (home main q w.word) b b' from from' p s x.0 y.0)
+    expression_same q (Number n) b b' from from' to to' s p x y = grind (arith, common_steps, one, laid) steps 1500000
+    expression_same q (Variable w) b b' from from' to to' s p x y = grind (arith, common_steps, one, read) steps 1500000
     expression_same q (Negate e) b b' from from' to to' s p x y =
         grind (arith, expression_same q e b b' from from' x.0 y.0 s p x.1 y.1, expression_long, agree_on, laid)
     expression_same q (Binary op left right) b b' from from' to to' s p x y =
@@ -162,9 +152,8 @@ module _ (main : Block) (ascend : Ascend (map (λ (s : StepAt). s.place) (steps 
         → CodedCondition u q e b from to → CodedCondition v q e b' from' to' → Agree from to
     condition_same q (Odd e) b b' from from' to to' s p x y =
         let mids : x.0 ≡ y.0 = grind (arith, expression_long) in
-        agree_on from x.0 to (expression_same q e b b' from from' x.0 y.0 s p x.1 y.1)
-        (one x.0 to x.3 (laid x.0 y.0 (Operate operation.Odd) (Operate operation.Odd) None None mids refl refl x.2
-        y.2))
+        agree_on from x.0 to (expression_same q e b b' from from' x.0 y.0 s p x.1 y.1) (one x.0 to x.3 (laid x.0 y.0 _ _
+        None None mids refl refl x.2 y.2))
     condition_same q (Compare r left right) b b' from from' to to' s p x y =
         let mids : x.0 ≡ y.0 = grind (arith, expression_long) in
         let ends : x.1 ≡ y.1 = grind (arith, expression_long) in
@@ -197,11 +186,8 @@ module _ (main : Block) (ascend : Ascend (map (λ (s : StepAt). s.place) (steps 
             → CodedProcedures u e q i ps from to → CodedProcedures v f q i ps from' to' → ProceduresAgree q i ps
         procedures_entries q i NoMore from from' to to' p x y = tt
         procedures_entries q i (AndProcedure w b more) from from' to to' p x y =
-            let mids : x.0 ≡ y.0 = grind (arith, block_long) in (
-              block_entries (i ∷ q) b from from' x.0 y.0 p x.1 y.1,
-              procedures_entries q (i + 1) more x.0 y.0 to to' mids
-                  x.2 y.2,
-            )
+            let mids : x.0 ≡ y.0 = grind (arith, block_long) in
+            (block_entries _ b from from' x.0 y.0 p x.1 y.1, procedures_entries q _ more x.0 y.0 to to' mids x.2 y.2)
 
       in_procedures : (q : Path) (j : ℕ) (ps : Procedures) → ProceduresAgree q j ps → (i : ℕ) (b : Block)
           → option_map (λ (p : Procedure). p.block) (slice_get (procedure_list ps) i) ≡ Some b
@@ -209,8 +195,7 @@ module _ (main : Block) (ascend : Ascend (map (λ (s : StepAt). s.place) (steps 
       in_procedures q j NoMore h i b is = cc
       in_procedures q j (AndProcedure x c more) h zero b is = grind (arith, common_steps, EntriesAgree)
       in_procedures q j (AndProcedure x c more) h (suc i) b is =
-          let same : j + 1 + i ≡ j + suc i = omega arith in subst (λ k. EntriesAgree (k ∷ q) b) same
-          (in_procedures q (j + 1) more h.1 i b is)
+          grind (arith, common_steps, in_procedures q (j + 1) more h.1 i b is) steps 1500000
 
       in_block : (q : Path) (c : Block) → EntriesAgree q c → (i : ℕ) (b : Block) → procedure_at i c ≡ Some b
           → EntriesAgree (i ∷ q) b
@@ -246,8 +231,7 @@ module _ (main : Block) (ascend : Ascend (map (λ (s : StepAt). s.place) (steps 
             let inner = procedure_there (procedures block) k declared in
             let at : block_at main (k ∷ h) ≡ Some inner.0 = ap (option_and_then (procedure_at k)) there ∙ inner.1 in
             let same = entry_same (k ∷ h) inner.0 (entries_at all (k ∷ h) inner.0 at) in
-            laid a a' (CallTo (level q h) (e (k ∷ h))) (CallTo (level q h) (f (k ∷ h))) (Some n) (Some n') p
-            (ap (CallTo (level q h)) same) (ap Some s) x y
+            grind (arith, common_steps, laid, level) steps 1500000
         declared_call q h _ block n n' a a' there declared p s x y = absurd x
 
         call : (q : Path) (w : List ℕ) (o : Option Home) (n n' a a' : ℕ) → home main q w ≡ o → a ≡ a' → n ≡ n'
@@ -267,47 +251,33 @@ module _ (main : Block) (ascend : Ascend (map (λ (s : StepAt). s.place) (steps 
         statement_same q (Assign w t) from from' to to' p x y =
             let steps = number_once x.step y.step _ x.numbered y.numbered in
             let lasts : x.last ≡ y.last = grind (arith, expression_long) in
-            agree_on from x.last to (expression_same q t (Some x.step) (Some y.step) from from' x.last y.last
-            (ap Some steps) p x.value y.value)
-            (one x.last to x.behind (store q (home main q w.word) x.last y.last lasts x.store y.store))
+            agree_on from x.last to (expression_same q t _ _ from from' x.last y.last (ap Some steps) p x.value y.value)
+            (one x.last to x.behind (store q _ x.last y.last lasts x.store y.store))
         statement_same q (Call r w) from from' to to' p x y =
-            one from to x.3 (call q w.word (home main q w.word) x.0 y.0 from from' refl p
-            (number_once x.0 y.0 _ x.1 y.1) x.2 y.2)
+            one from to x.3 (call q w.word _ x.0 y.0 from from' refl p (number_once x.0 y.0 _ x.1 y.1) x.2 y.2)
         statement_same q (Write r t) from from' to to' p x y =
             let steps = number_once x.step y.step _ x.numbered y.numbered in
             let lasts : x.last ≡ y.last = grind (arith, expression_long) in
             let i = Operate operation.Write in
-            agree_on from x.last to (expression_same q t (Some x.step) (Some y.step) from from' x.last y.last
-            (ap Some steps) p x.value y.value)
+            agree_on from x.last to (expression_same q t _ _ from from' x.last y.last (ap Some steps) p x.value y.value)
             (one x.last to x.behind (laid x.last y.last i i None None lasts refl refl x.write y.write))
         statement_same q (If r t s) from from' to to' p x y =
             let steps = number_once x.step y.step _ x.numbered y.numbered in
             let lasts : x.last ≡ y.last = grind (arith, condition_long) in
             let ends : to ≡ to' = grind (arith, statement_long) in
-            agree_on from (x.last + 1) to
-            (agree_on from x.last (x.last + 1)
-            (condition_same q t (Some x.step) (Some y.step) from from' x.last y.last (ap Some steps) p x.test
-            y.test)
-            (one x.last (x.last + 1) refl
-            (laid x.last y.last (JumpIfZero to) (JumpIfZero to') None None lasts (ap JumpIfZero ends) refl x.jump
-            y.jump)))
-            (statement_same q s (x.last + 1) (y.last + 1) to to' (omega (arith, lasts)) x.body y.body)
+            agree_on from _ to (agree_on from x.last _ (condition_same q t _ _ from from' x.last y.last (ap Some steps)
+            p x.test y.test) (one x.last _ refl (laid x.last y.last _ _ None None lasts (ap JumpIfZero ends) refl x.jump
+            y.jump))) (statement_same q s _ _ to to' (omega (arith, lasts)) x.body y.body)
         statement_same q (While r t s) from from' to to' p x y =
             let steps = number_once x.step y.step _ x.numbered y.numbered in
             let lasts : x.last ≡ y.last = grind (arith, condition_long) in
             let backs : x.back ≡ y.back = grind (arith, statement_long) in
             let ends : to ≡ to' = omega (arith, backs, x.behind, y.behind) in
-            agree_on from x.back to
-            (agree_on from (x.last + 1) x.back
-            (agree_on from x.last (x.last + 1)
-            (condition_same q t (Some x.step) (Some y.step) from from' x.last y.last (ap Some steps) p x.test
-            y.test)
-            (one x.last (x.last + 1) refl
-            (laid x.last y.last (JumpIfZero to) (JumpIfZero to') None None lasts (ap JumpIfZero ends) refl x.jump
-            y.jump)))
-            (statement_same q s (x.last + 1) (y.last + 1) x.back y.back (omega (arith, lasts)) x.body y.body))
-            (one x.back to x.behind (laid x.back y.back (Jump from) (Jump from') None None backs (ap Jump p) refl
-            x.again y.again))
+            agree_on from x.back to (agree_on from _ x.back (agree_on from x.last _ (condition_same q t _ _ from from'
+            x.last y.last (ap Some steps) p x.test y.test) (one x.last _ refl (laid x.last y.last _ _ None None lasts
+            (ap JumpIfZero ends) refl x.jump y.jump))) (statement_same q s _ _ x.back y.back (omega (arith, lasts))
+            x.body y.body)) (one x.back to x.behind (laid x.back y.back _ _ None None backs (ap Jump p) refl x.again
+            y.again))
 
         mutual
           block_same : (q : Path) (b : Block) (from from' to to' : ℕ) → from ≡ from' → CodedBlock u e q b from to
@@ -318,18 +288,12 @@ module _ (main : Block) (ascend : Ascend (map (λ (s : StepAt). s.place) (steps 
               let steps = number_once x.step y.step _ x.numbered y.numbered in
               let i = Enter (cell (length xs)) in
               let r = Operate operation.Return in
-              agree_on from x.last to
-              (agree_on from (x.start + 1) x.last
-              (agree_on from x.start (x.start + 1)
-              (agree_on from (from + 1) x.start
-              (one from (from + 1) refl (laid from from' (Jump x.start) (Jump y.start) None None p (ap Jump starts) refl
-              x.jump y.jump))
-              (procedures_same q 0 ps (from + 1) (from' + 1) x.start y.start (omega (arith, p)) x.procedures
-              y.procedures))
-              (one x.start (x.start + 1) refl (laid x.start y.start i i None None starts refl refl x.enter y.enter)))
-              (statement_same q s (x.start + 1) (y.start + 1) x.last y.last (omega (arith, starts)) x.body y.body))
-              (one x.last to x.behind (laid x.last y.last r r (Some x.step) (Some y.step) lasts refl (ap Some steps)
-              x.return y.return))
+              agree_on from x.last to (agree_on from _ x.last (agree_on from x.start _ (agree_on from _ x.start (one
+              from _ refl (laid from from' _ _ None None p (ap Jump starts) refl x.jump y.jump)) (procedures_same q 0 ps
+              _ _ x.start y.start (omega (arith, p)) x.procedures y.procedures)) (one x.start _ refl (laid x.start
+              y.start i i None None starts refl refl x.enter y.enter))) (statement_same q s _ _ x.last y.last
+              (omega (arith, starts)) x.body y.body)) (one x.last to x.behind (laid x.last y.last r r _ _ lasts refl (ap
+              Some steps) x.return y.return))
 
           procedures_same : (q : Path) (i : ℕ) (ps : Procedures) (from from' to to' : ℕ) → from ≡ from'
               → CodedProcedures u e q i ps from to → CodedProcedures v f q i ps from' to' → Agree from to
@@ -343,11 +307,8 @@ module _ (main : Block) (ascend : Ascend (map (λ (s : StepAt). s.place) (steps 
     both_same x y =
         let longs : length c ≡ length d = grind (arith, block_long) in
         let all = block_entries x.entry y.entry [] main 0 0 (length c) (length d) refl x.blocks y.blocks in
-        let agree = block_same x.entry y.entry all [] main 0 0 (length c) (length d) refl x.blocks y.blocks in (
-          each_same c d longs (λ i lt. (agree i (omega arith) lt).0),
-          each_same l m (x.same_length ∙ longs ∙ sym y.same_length)
-              (λ i lt. (agree i (omega arith) (omega (arith, lt, x.same_length))).1),
-        )
+        let agree = block_same x.entry y.entry all [] main 0 0 (length c) (length d) refl x.blocks y.blocks in
+        grind (arith, common_steps, each_same) steps 1500000
 
 pub coded_once : (main : Block) (c d : List Instruction) (l m : List (Option ℕ))
     → Ascend (map (λ (s : StepAt). s.place) (steps main)) →

@@ -34,40 +34,22 @@ module _ (main : Block) (q : Path) where
   can_evaluate (Number n) meant = tt
   can_evaluate (Named x) meant = found_for IsRead x meant.0
   can_evaluate (Negate e) meant = can_evaluate e meant
-  can_evaluate (Binary op left right) meant = (
-    can_evaluate left (meant_first main q (expression_uses left) (expression_uses right) meant),
-    can_evaluate right
-        (meant_second main q (expression_uses left) (expression_uses right) meant),
-  )
+  can_evaluate (Binary op left right) meant =
+      (can_evaluate left (meant_first main q _ _ meant), can_evaluate right (meant_second main q _ _ meant))
 
   can_test : (c : Condition) → AreMeant main q (condition_uses c) → CanTest (resolver main q) c
   can_test (Odd e) meant = can_evaluate e meant
-  can_test (Compare c left right) meant = (
-    can_evaluate left (meant_first main q (expression_uses left) (expression_uses right) meant),
-    can_evaluate right
-        (meant_second main q (expression_uses left) (expression_uses right) meant),
-  )
+  can_test (Compare c left right) meant =
+      (can_evaluate left (meant_first main q _ _ meant), can_evaluate right (meant_second main q _ _ meant))
 
   can_do : (s : Statement) → AreMeant main q (statement_uses s) → CanDo (resolver main q) s
   can_do Empty meant = tt
-  can_do (Then s t) meant = (
-    can_do s (meant_first main q (statement_uses s) (statement_uses t) meant),
-    can_do t
-        (meant_second main q (statement_uses s) (statement_uses t) meant),
-  )
+  can_do (Then s t) meant = (can_do s (meant_first main q _ _ meant), can_do t (meant_second main q _ _ meant))
   can_do (Assign x e) meant = (found_for IsAssigned x meant.0, can_evaluate e meant.1)
   can_do (Call p x) meant = found_for IsCalled x meant.0
   can_do (Write p e) meant = can_evaluate e meant
-  can_do (If p c s) meant = (
-    can_test c (meant_first main q (condition_uses c) (statement_uses s) meant),
-    can_do s
-        (meant_second main q (condition_uses c) (statement_uses s) meant),
-  )
-  can_do (While p c s) meant = (
-    can_test c (meant_first main q (condition_uses c) (statement_uses s) meant),
-    can_do s
-        (meant_second main q (condition_uses c) (statement_uses s) meant),
-  )
+  can_do (If p c s) meant = (can_test c (meant_first main q _ _ meant), can_do s (meant_second main q _ _ meant))
+  can_do (While p c s) meant = (can_test c (meant_first main q _ _ meant), can_do s (meant_second main q _ _ meant))
 
   -- the statement of a block
   pub can_do_body : (b : Block) → IsLawful main → AreDeclaredBefore main → block_at main q ≡ Some b
