@@ -14,6 +14,10 @@ use std::alloc::{AllocError, Global};
 pub const THREAD: u64 = 1;
 
 /// Returns the event that tells that breakpoints can be set, and the debuggee started.
+///
+/// # Errors
+///
+/// An allocation failed.
 pub fn initialized(alloc: Global) -> Result<Event, AllocError>
     ensures { IfOk result (λ event. plain_event event ≡ initialized) }
 {
@@ -22,6 +26,10 @@ pub fn initialized(alloc: Global) -> Result<Event, AllocError>
 
 /// Returns the event that tells a text of this category, as `stdout` of what the debuggee prints or `console` of what the
 /// debugger says.
+///
+/// # Errors
+///
+/// An allocation failed.
 pub fn output(alloc: Global, category: &str, text: String) -> Result<Event, AllocError>
     ensures { IfOk result (λ event. plain_event event ≡ output category.now (string_bytes text)) }
 {
@@ -30,6 +38,10 @@ pub fn output(alloc: Global, category: &str, text: String) -> Result<Event, Allo
 }
 
 /// Returns the event that tells a stop: its reason, as `step` or `breakpoint`, and a text where there is more to say.
+///
+/// # Errors
+///
+/// An allocation failed.
 pub fn stopped(alloc: Global, reason: &str, text: Option<&str>) -> Result<Event, AllocError>
     ensures { IfOk result (λ event.
         plain_event event ≡ stopped reason.now (option_map (λ t. t.now) text.entry)) }
@@ -62,6 +74,10 @@ fn stop_body(alloc: Global, reason: &str, text: Option<&str>) -> Result<Value, A
 }
 
 /// Returns the event that tells the status with which the debuggee has ended.
+///
+/// # Errors
+///
+/// An allocation failed.
 pub fn exited(alloc: Global, status: u64) -> Result<Event, AllocError>
     ensures { IfOk result (λ event. plain_event event ≡ exited status) }
 {
@@ -70,6 +86,10 @@ pub fn exited(alloc: Global, status: u64) -> Result<Event, AllocError>
 }
 
 /// Returns the event that tells that there is no more to debug.
+///
+/// # Errors
+///
+/// An allocation failed.
 pub fn terminated(alloc: Global) -> Result<Event, AllocError>
     ensures { IfOk result (λ event. plain_event event ≡ terminated) }
 {

@@ -43,6 +43,10 @@ impl Shown for Breakpoint {
 }
 
 /// Returns the body for `setBreakpoints`, in the order in which they were asked for.
+///
+/// # Errors
+///
+/// An allocation failed.
 pub fn breakpoints(alloc: Global, all: Vec<Breakpoint>) -> Result<Value, AllocError>
     ensures { IfOk result (λ body. view body ≡ breakpoints (map plain_shown_breakpoint all.items)) }
 {

@@ -75,6 +75,10 @@ fn frame_members(alloc: Global, frame: StackFrame) -> Result<Value, AllocError>
 }
 
 /// Returns the body for `stackTrace`: these frames, of this many in all.
+///
+/// # Errors
+///
+/// An allocation failed.
 pub fn stack_trace(alloc: Global, frames: Vec<StackFrame>, total: u64) -> Result<Value, AllocError>
     ensures { IfOk result (λ body. view body ≡ stack_trace (map plain_shown_frame frames.items) total) }
 {
@@ -115,6 +119,10 @@ impl Shown for Scope {
 }
 
 /// Returns the body for `scopes`.
+///
+/// # Errors
+///
+/// An allocation failed.
 pub fn scopes(alloc: Global, all: Vec<Scope>) -> Result<Value, AllocError>
     ensures { IfOk result (λ body. view body ≡ scopes (map plain_shown_scope all.items)) }
 {
@@ -160,6 +168,10 @@ impl Shown for Variable {
 }
 
 /// Returns the body for `variables`.
+///
+/// # Errors
+///
+/// An allocation failed.
 pub fn variables(alloc: Global, all: Vec<Variable>) -> Result<Value, AllocError>
     ensures { IfOk result (λ body. view body ≡ variables (map plain_shown_variable all.items)) }
 {
@@ -175,6 +187,10 @@ fn variables_body(alloc: Global, all: Value) -> Result<Value, AllocError>
 
 /// Returns the body for `evaluate`: the value as it is shown, and the reference by which the variables inside are asked
 /// for, or 0 where there are none.
+///
+/// # Errors
+///
+/// An allocation failed.
 pub fn evaluated(alloc: Global, value: String, reference: u64) -> Result<Value, AllocError>
     ensures { IfOk result (λ body. view body ≡ evaluated (string_bytes value) reference) }
 {
@@ -183,6 +199,10 @@ pub fn evaluated(alloc: Global, value: String, reference: u64) -> Result<Value, 
 }
 
 /// Returns the body for `exceptionInfo`: which fault it is, and what that means. The debuggee stops at each fault.
+///
+/// # Errors
+///
+/// An allocation failed.
 pub fn exception_info(alloc: Global, id: &str, description: &str) -> Result<Value, AllocError>
     ensures { IfOk result (λ body. view body ≡ exception_info id.now description.now) }
 {
@@ -192,6 +212,10 @@ pub fn exception_info(alloc: Global, id: &str, description: &str) -> Result<Valu
 }
 
 /// Returns the body for `threads`: the one thread, and its name.
+///
+/// # Errors
+///
+/// An allocation failed.
 pub fn threads(alloc: Global, name: &str) -> Result<Value, AllocError>
     ensures { IfOk result (λ body. view body ≡ threads name.now) }
 {

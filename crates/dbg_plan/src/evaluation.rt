@@ -58,7 +58,11 @@ fn operand_value(
     }
 }
 
-/// The value of a located expression in a frame of its block, the left operand first.
+/// Returns the value of a located expression in a frame of its block, the left operand first.
+///
+/// # Errors
+///
+/// The first fault of an operation, by the meaning.
 #[cycle(value)]
 pub fn value_of(
     machine: &Machine,

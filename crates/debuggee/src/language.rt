@@ -39,7 +39,11 @@ pub struct Page {
 }
 
 impl Page {
-    /// Returns those that are asked for of all. An `Err` means that an allocation failed.
+    /// Returns those that are asked for of all.
+    ///
+    /// # Errors
+    ///
+    /// An allocation failed.
     pub fn of(self, all: Vec<Variable>) -> Result<Vec<Variable>, AllocError>
         ensures { IfOk result (λ shown. map plain_variable shown.items ≡ page_of self (map plain_variable all.items)) }
     {
