@@ -6,7 +6,7 @@ usage: machine.py PROGRAM SPEED
 PROGRAM is pl0dap, whose `--check` gives the code to the interpreters: the plain one takes an instruction at a time; the
 fused one has the machine's own operations, with computed goto. SPEED is the program `speed`, which steps the machine. All
 run each of bench/programs to its end, in turn, so that whatever else the computer does slows all. The figures to hold are
-5 times the plain interpreter's steps a second for `count`, 4.5 for `links` and 1.5 for `divide`.
+5 times the plain interpreter's steps a second for `count`, 3.7 for `links` and 1.5 for `divide`.
 """
 from __future__ import annotations
 
