@@ -231,8 +231,8 @@ TYPES = [
                     '"noDebug":true'))),
     all_ask("sources and breakpoints of other types", CONFIGURING, "setBreakpoints", "badArguments", "{}",
             source("[]", "null"), source("[]", '"stop.pl0"'), source("[]", "[]"), source("[]", '{"path":1}'),
-            source("[]", '{"path":null}'), source("null"), source("{}"), source("[3]"), source("[null]"),
-            source("[{}]")),
+            source("[]", '{"path":null}'), source("null"), source("1"), source("true"), source("{}"),
+            source("[3]"), source("[null]"), source("[{}]")),
     all_ask("members of a breakpoint of other types", CONFIGURING, "setBreakpoints", "badArguments", *(
         source(f'[{{"line":{one}}}]') for one in ('"3"', "null", "-1", "3.0", "3.5", "[3]", 2**31)), *(
         line(one)

@@ -195,8 +195,9 @@ class Session:
         for one in found:
             one.update(id=next(self.numbers), source=asked.get("source"))
             self.with_reason(one)
+        wished = asked.get("breakpoints") if found else ()  # a list, since the adapter has answered each
         return [f"The breakpoint at line {wanted.get('line')} stops nothing: {one['message']}\n"
-                for wanted, one in zip(asked.get("breakpoints") or (), found) if "message" in one]
+                for wanted, one in zip(wished, found) if "message" in one]
 
     @staticmethod
     def with_reason(refused: dict) -> list[str]:
