@@ -11,7 +11,7 @@ vim.api.nvim_create_autocmd("FileType", {
 })
 
 -- As one types, `pl0 check -` looks at the text half a second after the last change, and what it says is marked.
-local marks, rest, changes = vim.api.nvim_create_namespace("pl0"), 500, 0
+local marks, rest, changes = vim.api.nvim_create_namespace("pl0"), 500, {}
 local fields, kinds = { "lnum", "col", "severity", "message" }, { error = "ERROR", warning = "WARN" }
 
 local function mark(buffer, said)
@@ -38,10 +38,10 @@ end
 vim.api.nvim_create_autocmd({ "BufRead", "TextChanged", "TextChangedI" }, {
   pattern = "*.pl0",
   callback = function(event)
-    changes = changes + 1
-    local own = changes
+    local own = (changes[event.buf] or 0) + 1
+    changes[event.buf] = own
     vim.defer_fn(function()
-      if own == changes and vim.api.nvim_buf_is_valid(event.buf) and vim.fn.executable("pl0") == 1 then
+      if own == changes[event.buf] and vim.api.nvim_buf_is_valid(event.buf) and vim.fn.executable("pl0") == 1 then
         check(event.buf)
       end
     end, rest)

@@ -56,9 +56,10 @@ async function check(file) {
 /** Marks what is said of a text as one types it, soon after the last change. */
 function checkSoon(document) {
   const { version } = document;
+  const isShown = () => document.version === version && !document.isClosed;
   setTimeout(async () => {
-    const told = document.version === version ? await toldOf(TYPED, document.getText()) : [];
-    if (document.version === version) {
+    const told = isShown() ? await toldOf(TYPED, document.getText()) : [];
+    if (isShown()) {
       mark(document.uri, told, document);
     }
   }, REST);
