@@ -5,7 +5,7 @@ use Rattle.dap_msg.specs.declared.outgoing.EventBody.TheVariants as event
 use Rattle.dap_msg.specs.declared.outgoing.StopReason.TheVariants as stop
 use Rattle.dbg_plan.specs.Breakpoints.{Breakpoint}
 use Rattle.dbg_runner.specs.declared.outcome.SliceOutcome.{SliceOutcome}
-use Rattle.dbg_runner.specs.Plain.{PlainReport, Heading, Go, heading_of, goes_back}
+use Rattle.dbg_runner.specs.Plain.{PlainReport, Heading, Go, goes_back}
 use Rattle.dap_history.specs.Plans.{Plan}
 use Rattle.dbg_runner.specs.declared.outcome.SliceOutcome.TheVariants as slice
 use Rattle.dap_history.specs.declared.situation.Situation.TheVariants.{Running}
@@ -18,7 +18,7 @@ pub record Accepts (past : History) (r : PlainReport) : Type 0 where
   pub running : situation past ≡ Running
   pub run : Heading
   pub run_is : last_run past ≡ Some run
-  pub expected : heading_of r ≡ record run { start = position past }
+  pub expected : r.heading ≡ record run { start = position past }
 
 -- ---- what an accepted report causes
 
@@ -55,14 +55,8 @@ continued_effect past r =
       events = outputs past r;
       put_in = put_in;
       orders = Go
-          (record {
-            run = runs past + 1;
-            text = r.text;
-            plan = now.breakpoints;
-            counted_from = now.counted_from;
-            mode = r.mode;
-            start = r.end;
-          }) ∷ [];
+          (record r.heading
+          { run = runs past + 1; plan = now.breakpoints; counted_from = now.counted_from; start = r.end }) ∷ [];
     }
 
 -- what the report of a held run causes, by whether a pause waits

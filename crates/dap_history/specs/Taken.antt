@@ -4,7 +4,7 @@ use Rattle.std.specs.Prelude.{◌≡◌, ◌++◌, ◌∷◌, [], ◌⊎◌, ℕ
 use Rattle.dap_msg.specs.declared.command.Command.{Command}
 use Rattle.dap_msg.specs.declared.command.Command.TheVariants as command
 use Rattle.dap_msg.specs.declared.request.FirstSeq.{FirstSeq}
-use Rattle.dbg_runner.specs.Plain.{PlainReport, Heading, heading_of}
+use Rattle.dbg_runner.specs.Plain.{PlainReport, Heading}
 use Rattle.dbg_runner.specs.declared.outcome.SliceOutcome.{SliceOutcome}
 use Rattle.dbg_runner.specs.declared.outcome.SliceOutcome.TheVariants as slice
 use Rattle.dap_history.specs.declared.launch.Launch.{Launch}
@@ -32,7 +32,7 @@ pub record GoesOnWith (past : History) (r : PlainReport) : Type 0 where
   pub running : situation past ≡ Running
   pub run : Heading
   pub run_is : last_run past ≡ Some run
-  pub heading_is : heading_of r ≡ record run { start = position past }
+  pub heading_is : r.heading ≡ record run { start = position past }
 
 -- After these steps the event is this item: the end of the input, a failed read and a failed allocation in any case; a
 -- file, where a launch waits for it; a report, where it goes on with the last run. A piece is none by itself.

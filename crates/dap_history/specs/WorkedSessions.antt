@@ -109,12 +109,7 @@ module _ (text : List ℕ) (program : Block) (path : List ℕ) (bs : List Breakp
   abbrev report : ℕ → ℕ → SliceOutcome → PlainReport
   report from to outcome =
       record {
-        run = 1;
-        text = text;
-        plan = [];
-        counted_from = 0;
-        mode = mode.Continue;
-        start = from;
+        heading = record { run = 1; text = text; plan = []; counted_from = 0; mode = mode.Continue; start = from };
         end = to;
         numbers_before = 0;
         steps_rerun = 0;
@@ -186,12 +181,7 @@ module _ (text : List ℕ) (program : Block) (path : List ℕ) (bs : List Breakp
   abbrev forward : PlainReport
   forward =
       record {
-        run = 1;
-        text = text;
-        plan = [];
-        counted_from = 0;
-        mode = mode.Continue;
-        start = 0;
+        heading = record { run = 1; text = text; plan = []; counted_from = 0; mode = mode.Continue; start = 0 };
         end = 15;
         numbers_before = 0;
         steps_rerun = 0;
@@ -241,12 +231,7 @@ module _ (text : List ℕ) (program : Block) (path : List ℕ) (bs : List Breakp
   abbrev backward : ℕ → ℕ → SliceOutcome → PlainReport
   backward to again outcome =
       record {
-        run = 2;
-        text = text;
-        plan = [];
-        counted_from = 0;
-        mode = mode.Reverse;
-        start = 15;
+        heading = record { run = 2; text = text; plan = []; counted_from = 0; mode = mode.Reverse; start = 15 };
         end = to;
         numbers_before = 1;
         steps_rerun = again;
@@ -276,12 +261,7 @@ module _ (text : List ℕ) (program : Block) (path : List ℕ) (bs : List Breakp
   abbrev once_more : PlainReport
   once_more =
       record {
-        run = 3;
-        text = text;
-        plan = [];
-        counted_from = 11;
-        mode = mode.Continue;
-        start = 10;
+        heading = record { run = 3; text = text; plan = []; counted_from = 11; mode = mode.Continue; start = 10 };
         end = 20;
         numbers_before = 0;
         steps_rerun = 0;

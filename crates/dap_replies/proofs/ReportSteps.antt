@@ -263,14 +263,8 @@ report_stands laws t run r reason past goes is =
 abbrev pub next_run : History → Reported → Heading
 next_run past r =
     let now = plan_then past r in
-    record {
-      run = runs past + 1;
-      text = text_of r.unit;
-      plan = now.breakpoints;
-      counted_from = now.counted_from;
-      mode = r.mode;
-      start = r.end;
-    }
+    record (plain_report r).heading
+    { run = runs past + 1; plan = now.breakpoints; counted_from = now.counted_from; start = r.end }
 
 same_heading : (n : ℕ) (d : Debugged) (m : Mode) (h : Heading)
     → n ≡ h.run → text_of d.unit ≡ h.text → d.breakpoints ≡ h.plan → d.counted_from ≡ h.counted_from → m ≡ h.mode

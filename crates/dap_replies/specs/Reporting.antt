@@ -5,7 +5,6 @@ use Rattle.dap_msg.specs.declared.outgoing.EventBody.TheVariants as event
 use Rattle.dap_msg.specs.declared.outgoing.StopReason.{StopReason}
 use Rattle.dap_msg.specs.declared.outgoing.StopReason.TheVariants as stop
 use Rattle.dbg_plan.specs.Debugged.{Debugged}
-use Rattle.dbg_runner.specs.Plain.{heading_of}
 use Rattle.dbg_runner.specs.declared.outcome.SliceOutcome.{SliceOutcome}
 use Rattle.dbg_runner.specs.declared.outcome.SliceOutcome.TheVariants as slice
 use Rattle.dbg_runner.specs.Reported.{Reported, plain_report}
@@ -40,7 +39,7 @@ Stops _ = ⊥
 
 -- the report continues the run
 abbrev pub ContinuesRun : Reported → Target → OrderedRun → Type 0
-ContinuesRun report target run = heading_of (plain_report report) ≡ heading_in target.runs run
+ContinuesRun report target run = (plain_report report).heading ≡ heading_in target.runs run
 
 -- the phase of a program that stands for this reason
 abbrev pub standing : Target → Debugged → StopReason → Phase

@@ -2,7 +2,6 @@
 
 ghost use Rattle.std.specs.Prelude.{◌≡◌, ◌≢◌, ◌+◌, ◌<◌, ◌^◌, ◌++◌, [], length, IfOk, IsOkAnd, OnOk, IsOk};
 ghost use Rattle.dbg_runner.specs.declared.outcome.SliceOutcome.TheVariants as slice;
-ghost use Rattle.dbg_runner.specs.Plain.{heading_of};
 ghost use Rattle.dbg_runner.specs.Reported.{plain_report, stopped, text_of, trail_in};
 ghost use Rattle.dap_history.specs.History.{History};
 ghost use Rattle.dap_history.specs.Replies.{exited_events, exception_of, only_events, stop_of, stopped_events};
@@ -31,7 +30,7 @@ use std::alloc::{AllocError, Global};
 ///
 /// An allocation failed, here or in the runner.
 pub fn report(alloc: Global, target: Target, run: Run, report: Report) -> Result<Effect, AllocError>
-    requires { heading_of (plain_report report) ≡ heading_in target.runs run }
+    requires { (plain_report report).heading ≡ heading_in target.runs run }
     ensures follows { IfOk result (λ done. (past : History) → IsPhase (phase_is.Running target run) past →
         HasReported (plain_report report) past done) }
     ensures memory { OnOk result (report.outcome ≢ slice.NoMemory) }

@@ -53,7 +53,7 @@ impl Run {
     ghost use Rattle.dbg_plan.specs.Plans.{IsPlanOf};
     ghost use Rattle.dbg_plan.specs.Breakpoints.{plain_breakpoints};
     ghost use Rattle.dbg_plan.specs.Debugged.{IsConsidered};
-    ghost use Rattle.dbg_runner.specs.Plain.{Go, Hold, heading_of, goes_back as is_backward};
+    ghost use Rattle.dbg_runner.specs.Plain.{Go, Hold, goes_back as is_backward};
     ghost use Rattle.dbg_runner.specs.Orders.{plain_order};
     ghost use Rattle.dbg_runner.specs.Reported.{heading, plain_report, text_of};
     ghost use Rattle.dap_replies.specs.Runs.{begun_run, heading_in, ordered_to_hold, with_waiting};
@@ -121,7 +121,7 @@ impl Run {
     /// Whether a report continues this run, which has this number. Texts and plans are compared last, as that takes
     /// longest.
     pub fn expects(&self, number: u64, report: &Report) -> bool
-        ensures { Decides result (heading_of (plain_report report.now) ≡ heading_in number self.now) }
+        ensures { Decides result ((plain_report report.now).heading ≡ heading_in number self.now) }
     {
         let summary = report.summary();
         summary.run == number

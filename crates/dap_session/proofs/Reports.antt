@@ -3,7 +3,7 @@ use Rattle.std.proofs.Common.{◌≡◌, inl, inr, None, Some, Result, Ok, Err, 
 use Rattle.std.specs.Prelude.{OnOk}
 use Rattle.dbg_runner.specs.declared.outcome.SliceOutcome.{SliceOutcome}
 use Rattle.dbg_runner.specs.declared.outcome.SliceOutcome.TheVariants as slice
-use Rattle.dbg_runner.specs.Plain.{PlainReport, Heading, heading_of}
+use Rattle.dbg_runner.specs.Plain.{PlainReport, Heading}
 use Rattle.dap_msg.specs.declared.request.FirstSeq.{FirstSeq}
 use Rattle.dap_history.specs.declared.fault.SessionFault.{SessionFault}
 use Rattle.dap_history.specs.declared.fault.SessionFault.TheVariants.{NoMemory}
@@ -76,7 +76,7 @@ report_passed f past rest r session last old same other open_ taking on =
 -- ---- a report that is accepted
 
 pub accepts_report : (past : History) (t : Target) (run : OrderedRun) (r : PlainReport)
-    → IsPhase (phase.Running t run) past → heading_of r ≡ heading_in t.runs run → Accepts past r
+    → IsPhase (phase.Running t run) past → r.heading ≡ heading_in t.runs run → Accepts past r
 accepts_report past t run r is expected =
     record {
       running = is.situation_is;
@@ -99,7 +99,7 @@ accepts_expected (phase.Ended t u) past r is expected = absurd expected
 -- the session that had the run
 pub record HadRun (session : State) (t : Target) (run : OrderedRun) (r : PlainReport) : Type 0 where
   pub phase_was : session.phase ≡ phase.Running t run
-  pub expected : heading_of r ≡ heading_in t.runs run
+  pub expected : r.heading ≡ heading_in t.runs run
 
 pub report_taken : (f : FirstSeq) (result : Result (Unit {0}) SessionFault) (past : History) (rest : Rest) (t : Target)
     (run : OrderedRun)

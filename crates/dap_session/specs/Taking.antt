@@ -3,7 +3,7 @@ use Rattle.std.specs.Prelude.{◌≡◌, ◌≢◌, ◌⊎◌, ◌++◌, ◌∷�
 use Rattle.dap_frame.specs.declared.fault.FramingFault.{FramingFault}
 use Rattle.dap_msg.specs.declared.request.FirstSeq.{FirstSeq}
 use Rattle.dap_msg.specs.declared.request.Request.{Request}
-use Rattle.dbg_runner.specs.Plain.{PlainReport, heading_of}
+use Rattle.dbg_runner.specs.Plain.{PlainReport}
 use Rattle.dap_history.specs.declared.fault.SessionFault.{SessionFault}
 use Rattle.dap_history.specs.declared.fault.SessionFault.TheVariants.{Frame, NoMemory}
 use Rattle.dap_history.specs.declared.fault.LoadFault.{LoadFault}
@@ -65,7 +65,7 @@ Toward first past rest (Report r) new = (new ≡ past) ⊎ (Accepts past r × Is
 
 -- the report continues the run
 abbrev pub Expects : Phase → PlainReport → Type 0
-Expects (phase.Running t run) r = heading_of r ≡ heading_in t.runs run
+Expects (phase.Running t run) r = r.heading ≡ heading_in t.runs run
 Expects _ r = ⊥
 
 -- The event needs no memory: it is the end of the input or a failed read, or, while no launch waits, a file, or a

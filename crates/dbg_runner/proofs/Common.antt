@@ -15,7 +15,7 @@ pub use Rattle.dbg_runner.specs.Courses.{arrival, in_all, IsAt, IsCounted, IsOn,
 pub use Rattle.dbg_runner.specs.Hops.{gone_back, moved, standing}
 pub use Rattle.dbg_runner.specs.Lawful.{due_in, EndsBy, faults, GoesBackBy, has_come, has_no_memory, is_due, is_held, is_over, is_spent, IsLawfulReport, IsPassed, IsReportOf, IsSpent, lacks_memory, logs_in, logs_told, RunsAt, takes_all, Went, WentBack, WentOn}
 pub use Rattle.dbg_runner.specs.Laws.{AllButLastGoOn, AreCountedOn, AreReportsOf, by_go, by_quit, by_refusal, finding_hold, finding_none, HasLast, IsCut, KeepsOn, later, logs_between, logs_from, logs_of, LogsJoin, NothingDueIsPassed, numbers_of, NumbersJoin, passing, reports_of_run, RetreatsAreSilent, RetreatsHaveGoals, RetreatsLead, sending, taken_by, up_to_go}
-pub use Rattle.dbg_runner.specs.Plain.{Go, goes_back, Heading, heading_after, heading_of, Hold, PlainOrder, PlainReport, back_if, direction}
+pub use Rattle.dbg_runner.specs.Plain.{Go, goes_back, Heading, heading_after, Hold, PlainOrder, PlainReport, back_if, direction}
 pub use Rattle.dbg_runner.specs.ReportFields.{IsReport, reported_with, sliced, StandsAtEnd}
 pub use Rattle.dbg_runner.specs.Reported.{beside_report, carried, Carries, counts_from, heading, in_report, IsKept, plain_report, Reported, stopped, trail_in, whereabouts, unsliced, written_before}
 pub use Rattle.dbg_runner.specs.Retreating.{GoesOnBack, heading_back, IsRoomFor, Retreating, steps_again, steps_to, summary_back}

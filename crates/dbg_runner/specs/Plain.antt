@@ -40,27 +40,18 @@ pub record Heading : Type 0 where
   pub mode : Mode
   pub start : ℕ
 
--- A report: it goes from position `start`, up to which the program wrote `numbers_before` numbers, to position `end`.
--- In a run that goes back, `steps_rerun` steps were run again so far. It wrote these numbers, logged this where it
--- ends, and ended so.
+-- A report under this heading: it goes from position `start`, up to which the program wrote `numbers_before` numbers,
+-- to position `end`. In a run that goes back, `steps_rerun` steps were run again so far. It wrote these numbers, logged
+-- this where it ends, and ended so.
 pub record PlainReport : Type 0 where
-  pub run : ℕ
-  pub text : List ℕ
-  pub plan : List Breakpoint
-  pub counted_from : ℕ
-  pub mode : Mode
-  pub start : ℕ
+  pub heading : Heading
+  pub open heading use *
   pub end : ℕ
   pub numbers_before : ℕ
   pub steps_rerun : ℕ
   pub numbers : List ℤ
   pub logs : List Log
   pub outcome : SliceOutcome
-
--- the heading of a report
-abbrev pub heading_of : PlainReport → Heading
-heading_of r =
-    record { run = r.run; text = r.text; plan = r.plan; counted_from = r.counted_from; mode = r.mode; start = r.start }
 
 -- what fixes the report after this one
 abbrev pub heading_after : Heading → PlainReport → Heading

@@ -36,12 +36,14 @@ text_of u = u.tree.text.items
 abbrev pub plain_report : Reported → PlainReport
 plain_report r =
     record {
-      run = r.run;
-      text = text_of r.unit;
-      plan = r.plan;
-      counted_from = r.counted_from;
-      mode = r.mode;
-      start = r.start;
+      heading = record {
+        run = r.run;
+        text = text_of r.unit;
+        plan = r.plan;
+        counted_from = r.counted_from;
+        mode = r.mode;
+        start = r.start;
+      };
       end = r.end;
       numbers_before = r.numbers_before;
       steps_rerun = r.steps_rerun;

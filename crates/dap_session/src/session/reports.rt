@@ -9,7 +9,6 @@ use std::mem;
 
 impl Session {
     ghost use Rattle.std.specs.Prelude.{◌≡◌, ◌⊎◌, None, IfSome, IfNone, OnOk};
-    ghost use Rattle.dbg_runner.specs.Plain.{heading_of};
     ghost use Rattle.dbg_runner.specs.Reported.{plain_report};
     ghost use Rattle.dap_msg.specs.declared.request.FirstSeq.{FirstSeq};
     ghost use Rattle.dap_history.specs.History.{Accepted, History, next_seq};
@@ -52,7 +51,7 @@ impl Session {
     /// Takes the run that the report continues out of the phase, if there is one.
     fn take_run(&mut self, report: &Report) -> Option<(Target, Run)>
         ensures found { IfSome result (λ taken. (self.old.phase ≡ phase_is.Running taken.0 taken.1)
-            × (heading_of (plain_report report.now) ≡ heading_in taken.0.runs taken.1)) }
+            × ((plain_report report.now).heading ≡ heading_in taken.0.runs taken.1)) }
         ensures none { IfNone result (¬ Expects self.old.phase (plain_report report.now)) }
         ensures same { IfNone result (self.new ≡ self.old) }
         ensures rest { self.new ≡ record self.old { phase = self.new.phase } }
@@ -79,7 +78,7 @@ impl Session {
         orders: &mut D,
     ) -> Result<(), SessionFault>
         requires taking { self.old.ending ≡ None }
-        requires expected { heading_of (plain_report report) ≡ heading_in target.runs run }
+        requires expected { (plain_report report).heading ≡ heading_in target.runs run }
         ensures comes { (past : History) → IsTaking past → IsPhase (phase_is.Running target run) past →
             self.old.next_seq ≡ next_seq past →
             HandlesItem result past (Accepted (plain_report report)) self.new
