@@ -16,18 +16,12 @@ use Rattle.dbg_runner.specs.Lawful.{IsLawfulFor}
 
 -- A report with its program's code, and the debuggee that it carries.
 pub record Reported : Type 0 where
-  pub run : ℕ
+  pub summary : Summary
+  pub open summary use *
   pub unit : Compiled
   pub plan : List Breakpoint
-  pub counted_from : ℕ
-  pub mode : Mode
-  pub start : ℕ
-  pub end : ℕ
-  pub numbers_before : ℕ
-  pub steps_rerun : ℕ
   pub numbers : List ℤ
   pub logs : List Log
-  pub outcome : SliceOutcome
   pub debuggee : Option Debugged
 
 abbrev pub text_of : Compiled → List ℕ
@@ -52,20 +46,6 @@ plain_report r =
       outcome = r.outcome;
     }
 
--- the run, the mode, the positions and the outcome of a report
-abbrev pub summary_of : Reported → Summary
-summary_of r =
-    record {
-      run = r.run;
-      counted_from = r.counted_from;
-      mode = r.mode;
-      start = r.start;
-      end = r.end;
-      numbers_before = r.numbers_before;
-      steps_rerun = r.steps_rerun;
-      outcome = r.outcome;
-    }
-
 -- the report is what the meaning of its program gives
 abbrev pub IsKept : Reported → Type 0
 IsKept r = IsLawfulFor (program_of r.unit) (plain_report r)
@@ -82,6 +62,21 @@ heading run d mode =
       start = d.position;
     }
 
+-- The summary of a report of a run that goes on: from this position, up to which this many numbers were written, to
+-- where d stands.
+abbrev pub summary_at : ℕ → Mode → ℕ → ℕ → Debugged → SliceOutcome → Summary
+summary_at run mode start before d outcome =
+    record {
+      run = run;
+      counted_from = d.counted_from;
+      mode = mode;
+      start = start;
+      end = d.position;
+      numbers_before = before;
+      steps_rerun = 0;
+      outcome = outcome;
+    }
+
 -- ---- the report of no slice
 
 -- how many numbers were written up to where d stands
@@ -92,18 +87,11 @@ written_before d = length (written (program_of d.unit) 0 d.position)
 abbrev pub unsliced : ℕ → Mode → Debugged → SliceOutcome → Reported
 unsliced run mode d outcome =
     record {
-      run = run;
+      summary = summary_at run mode d.position (written_before d) d outcome;
       unit = d.unit;
       plan = d.breakpoints;
-      counted_from = d.counted_from;
-      mode = mode;
-      start = d.position;
-      end = d.position;
-      numbers_before = written_before d;
-      steps_rerun = 0;
       numbers = [];
       logs = [];
-      outcome = outcome;
       debuggee = Some d;
     }
 
