@@ -18,7 +18,7 @@ import sys
 import tempfile
 
 from lib.client import Client, frame, put_files, request
-from lib.plain_debugger import INSPECTING, RESUMING, Request, Session, World, advance
+from lib.plain_debugger import INSPECTING, RESUMING, STACK, Request, Session, World, advance
 from lib.plain_stack import VARIABLES, Mistake, State, read, step
 
 MOST_STEPS = 3000
@@ -288,7 +288,7 @@ class Player:
             return self.perhaps("frameId", [1, 1, 2, 3])
         if command == "variables":
             page = self.perhaps("start", [0, 1, 25, 26, 2**64 - 1]) | self.perhaps("count", [0, 1, 3, 26, 2**64 - 1])
-            return self.perhaps("variablesReference", [1, 1, 1, 17, 2, 0, 33, 2**30 + 1]) | make.choice([{}, page])
+            return self.perhaps("variablesReference", [1, 1, 1, 17, 2, 0, 33, STACK, STACK, STACK + 1]) | make.choice([{}, page])
         if command == "evaluate":
             return {"expression": make.choice(EXPRESSIONS)} | self.perhaps("frameId", [1, 2])
         return make.choice([None, {}, {"threadId": self.thread()}])

@@ -18,6 +18,8 @@ from lib.plain_stack import VARIABLES, Mistake, State, read, step
 RESUMING = ("continue", "next", "stepIn", "stepOut")
 INSPECTING = ("stackTrace", "scopes", "variables", "evaluate")
 SCOPES = 16  # of a frame, at most
+STACK = 2**30 + 1  # the reference of what is inside the stack
+PAGE = 1_024  # variables, at most
 MOST_MESSAGE = 65_536  # bytes
 MOST_OUTPUT = 65_536  # bytes of one event
 LARGEST = 2**64 - 1
@@ -463,12 +465,24 @@ def alive(world: World, frame: int | None) -> int:
 
 def variables(world: World, given: dict) -> dict:
     reference = whole_at(given, "variablesReference") or 0
+    shown_all = numbers(world) if reference == STACK else values(world, reference)
+    first, count = whole_at(given, "start") or 0, min(whole_at(given, "count") or PAGE, PAGE)
+    return {"variables": shown_all[first:first + count]}
+
+
+def values(world: World, reference: int) -> list[dict]:
+    """The stack, and the variables, of a scope."""
     if reference % SCOPES != 1 or reference // SCOPES >= world.depth():
         raise Refused("no variables have this reference")
-    first, count = whole_at(given, "start") or 0, whole_at(given, "count") or len(VARIABLES)
-    shown_all = [{"name": name, "value": str(number), "variablesReference": 0}
-                 for name, number in zip(VARIABLES, world.state.values)]
-    return {"variables": shown_all[first:first + count]}
+    named = [{"name": name, "value": str(number), "variablesReference": 0}
+             for name, number in zip(VARIABLES, world.state.values)]
+    return [{"name": "stack", "value": str(len(world.state.numbers)), "variablesReference": STACK}, *named]
+
+
+def numbers(world: World) -> list[dict]:
+    """The numbers on the stack, the top one first."""
+    return [{"name": str(place), "value": str(number), "variablesReference": 0}
+            for place, number in enumerate(reversed(world.state.numbers))]
 
 
 def evaluate(world: World, given: dict) -> dict:

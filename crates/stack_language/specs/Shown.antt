@@ -138,12 +138,36 @@ abbrev pub variable_of : PlainState → ℕ → PlainVariable
 variable_of s variable =
     record { name = (first_letter + variable) ∷ []; value = signed_decimal (value_of variable s); inside = None }
 
--- each frame has one scope, with all variables
+-- the stack is shown as a variable with the number 0, whose value is how many numbers are on it
+abbrev pub stack_number : ℕ
+stack_number = 0
+
+abbrev pub stack_of : PlainState → PlainVariable
+stack_of s = record { name = codes "stack"; value = decimal (length s.numbers); inside = Some stack_number }
+
+-- each frame has one scope, with the stack and all variables
 abbrev pub scopes_of : Machine → ℕ → List (List ℕ) → Type 0
 scopes_of m frame names = names ≡ codes "variables" ∷ []
 
 abbrev pub variables_of : Machine → ℕ → ℕ → List PlainVariable → Type 0
-variables_of m frame scope all = all ≡ map (variable_of (plain_state m.state)) (range_with_len 0 variable_count)
+variables_of m frame scope all =
+    all ≡ stack_of (plain_state m.state)
+    ∷ map (variable_of (plain_state m.state)) (range_with_len 0 variable_count)
+
+-- a number on the stack, by its place, of which the top is 0
+abbrev pub number_at : PlainState → ℕ → PlainVariable
+number_at s place =
+    record {
+      name = decimal place;
+      value = signed_decimal (unwrap_or (slice_get s.numbers place) (pos 0));
+      inside = None;
+    }
+
+-- inside the stack are its numbers, the top one first
+abbrev pub inside_of : Machine → ℕ → List PlainVariable → Type 0
+inside_of m number all =
+    (number ≡ stack_number)
+    × (all ≡ map (number_at (plain_state m.state)) (range_with_len 0 (length m.state.numbers.items)))
 
 abbrev pub shows : Shows Machine
 shows = record nothing_shown {
@@ -153,4 +177,5 @@ shows = record nothing_shown {
   frame_of = frame_of;
   scopes_of = scopes_of;
   variables_of = variables_of;
+  inside_of = inside_of;
 }

@@ -5,7 +5,8 @@ use Rattle.debuggee.specs.Plain.{Value, NoValue}
 use Rattle.debuggee.specs.Shown.{PlainFrame, PlainVariable}
 use Rattle.stack_language.specs.declared.machine.Machine.{Machine}
 use Rattle.stack_language.specs.declared.program.Instruction.TheVariants.{Call}
-use Rattle.stack_language.specs.Shown.{evaluated, first_place, frame_of, has_instruction, mistake_of, sees, variable_of, scopes_of, variables_of}
+use Rattle.stack_language.specs.Shown.{evaluated, first_place, frame_of, has_instruction, inside_of, mistake_of, scopes_of, sees, stack_of, variable_of, variables_of}
+use Rattle.stack_language.specs.Language.{plain_state}
 use Rattle.stack_language.specs.Text.{variable_named}
 use Rattle.stack_language.specs.WorkedSteps.{program, state}
 
@@ -37,11 +38,19 @@ VariablesAreShown =
     map (variable_of (state 0 [] [] (pos 5 ∷ negsuc 6 ∷ []))) (0 ∷ 1 ∷ 2 ∷ [])
     ≡ variable (codes "a") (codes "5") ∷ variable (codes "b") (codes "-7") ∷ variable (codes "c") (codes "0") ∷ []
 
--- a frame has one scope, with all variables
+-- a frame has one scope, with the stack and all variables
 abbrev pub ScopesAreShown : Type 0
 ScopesAreShown =
     (m : Machine) (names : List (List ℕ)) (all : List PlainVariable) → scopes_of m 0 names → variables_of m 0 0 all
-    → (names ≡ codes "variables" ∷ []) × (length all ≡ 26)
+    → (names ≡ codes "variables" ∷ []) × (length all ≡ 27)
+
+-- the stack has its numbers inside, the top one first, and no other variable has any
+abbrev pub StacksAreShown : Type 0
+StacksAreShown =
+    (m : Machine) (all : List PlainVariable) → m.state.numbers.items ≡ pos 5 ∷ negsuc 6 ∷ []
+    → (stack_of (plain_state m.state) ≡ record { name = codes "stack"; value = codes "2"; inside = Some 0 })
+    × (inside_of m 0 all → all ≡ variable (codes "0") (codes "-7") ∷ variable (codes "1") (codes "5") ∷ [])
+    × ¬ inside_of m 1 all
 
 -- `B` is a mistake as a condition, and `b` is none
 abbrev pub MistakesAreFound : Type 0

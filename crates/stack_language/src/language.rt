@@ -1,11 +1,11 @@
 //! What a debugger is to know of the stack language.
 
-ghost use Rattle.std.specs.Prelude.{◌≡◌, ◌<◌, IfOk, map, string_bytes};
+ghost use Rattle.std.specs.Prelude.{◌≡◌, ◌<◌, ◌∷◌, IfOk, length, map, string_bytes};
 ghost use Rattle.std.specs.List.{range_with_len};
 ghost use Rattle.debuggee.specs.Plain.{plain_step};
 ghost use Rattle.debuggee.specs.Shown.{plain_variable};
 ghost use Rattle.stack_language.specs.Language.{name_of, plain_state, reason, step_of};
-ghost use Rattle.stack_language.specs.Shown.{input_in, name_of_frame, no_variable, variable_of, shown_line};
+ghost use Rattle.stack_language.specs.Shown.{input_in, name_of_frame, no_variable, number_at, shown_line, stack_of, variable_of};
 
 use crate::machine::Machine;
 use crate::parsing::{Parsed, parse, variable};
@@ -17,6 +17,8 @@ use std::alloc::{AllocError, Global};
 
 /// What is told of an expression that isn't the name of a variable.
 const NO_VARIABLE: &str = "no variable has this name";
+/// The number by which the numbers on the stack are asked for.
+const STACK: usize = 0;
 
 impl Debuggee for Machine {
     ghost use Rattle.stack_language.specs.Language.{takes};
@@ -128,6 +130,20 @@ impl Language for Machine {
         let shown = page.of(all)?;
         Ok(shown)
     }
+
+    fn inside(
+        &self,
+        alloc: Global,
+        number: usize,
+        page: Page,
+    ) -> Result<Option<Vec<Variable>>, AllocError> {
+        if number != STACK {
+            return Ok(None);
+        }
+        let all = numbers(alloc, self.state())?;
+        let shown = page.of(all)?;
+        Ok(Some(shown))
+    }
 }
 
 /// Returns the number under `input` of a launch's arguments; 0 where there is none.
@@ -158,16 +174,53 @@ fn shown_line(line: usize) -> u64
     (line as u64).saturating_add(1)
 }
 
-/// Returns all variables.
+/// Returns the stack and all variables.
 fn variables(alloc: Global, state: &State) -> Result<Vec<Variable>, AllocError>
     ensures { IfOk result (λ all. map plain_variable all.items ≡
-        map (variable_of (plain_state state.now)) (range_with_len 0 VARIABLES)) }
+        stack_of (plain_state state.now) ∷ map (variable_of (plain_state state.now)) (range_with_len 0 VARIABLES)) }
 {
     let mut all = Vec::new(alloc);
+    all.push(stack(alloc, state)?)?;
     for index in 0..VARIABLES {
         all.push(named(alloc, state, index)?)?;
     }
     Ok(all)
+}
+
+/// Returns the stack as a variable.
+fn stack(alloc: Global, state: &State) -> Result<Variable, AllocError>
+    ensures { IfOk result (λ one. plain_variable one ≡ stack_of (plain_state state.now)) }
+{
+    Ok(Variable {
+        name: String::from_str(alloc, "stack")?,
+        value: format!(in alloc; "{}", state.numbers.len())?,
+        inside: Some(STACK),
+    })
+}
+
+/// Returns the numbers on the stack, the top one first.
+fn numbers(alloc: Global, state: &State) -> Result<Vec<Variable>, AllocError>
+    ensures { IfOk result (λ all. map plain_variable all.items ≡
+        map (number_at (plain_state state.now)) (range_with_len 0 (length state.now.numbers.items))) }
+{
+    let mut all = Vec::new(alloc);
+    for place in 0..state.numbers.len() {
+        all.push(number_at(alloc, state, place)?)?;
+    }
+    Ok(all)
+}
+
+/// Returns a number on the stack, by its place, of which the top is 0.
+fn number_at(alloc: Global, state: &State, place: usize) -> Result<Variable, AllocError>
+    requires { place < length state.now.numbers.items }
+    ensures { IfOk result (λ one. plain_variable one ≡ number_at (plain_state state.now) place) }
+{
+    let number = state.numbers[state.numbers.len() - 1 - place];
+    Ok(Variable {
+        name: format!(in alloc; "{place}")?,
+        value: format!(in alloc; "{number}")?,
+        inside: None,
+    })
 }
 
 /// Returns a variable.

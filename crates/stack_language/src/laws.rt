@@ -3,7 +3,7 @@
 ghost use Rattle.stack_language.specs.Laws.{StepsAreOne, StopsAreShown};
 ghost use Rattle.stack_language.specs.WorkedSteps.{LinesFollow, NumbersAreCalculated, NumbersAreMissing, NumbersMove, QuotientsAreRounded, ResultsOverflow, RoomIsLimited, StepsFollow, StepsTell, ZeroJumps};
 ghost use Rattle.stack_language.specs.WorkedText.{InstructionsAreRead, LinesAreRead, NamesMeanAlone, NamesMeanWithOperand, OperandsAreRead};
-ghost use Rattle.stack_language.specs.WorkedShown.{ExpressionsAreSeen, FramesAreShown, LinesAreSeen, MistakesAreFound, NamesMean, PlacesAreFound, PlacesAreSeen, ScopesAreShown, ValuesHold, VariablesAreShown};
+ghost use Rattle.stack_language.specs.WorkedShown.{ExpressionsAreSeen, FramesAreShown, LinesAreSeen, MistakesAreFound, NamesMean, PlacesAreFound, PlacesAreSeen, ScopesAreShown, StacksAreShown, ValuesHold, VariablesAreShown};
 
 /// A state has one step, so `takes` allows no other; and at a breakpoint the newest frame is shown at the line at which the
 /// breakpoint was set. It does nothing: its contract is the laws.
@@ -35,6 +35,7 @@ pub fn worked_views()
     ensures expressions { ExpressionsAreSeen }
     ensures variables { VariablesAreShown }
     ensures scopes { ScopesAreShown }
+    ensures stacks { StacksAreShown }
     ensures mistakes { MistakesAreFound }
     ensures lines { LinesAreSeen }
     ensures seen { PlacesAreSeen }

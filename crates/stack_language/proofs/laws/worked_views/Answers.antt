@@ -22,6 +22,14 @@ returns-clause-variables c = refl
 pub returns-clause-scopes : goal.returns-clause-scopes
 returns-clause-scopes c m names all named are = (named, ap length are)
 
+pub returns-clause-stacks : goal.returns-clause-stacks
+unfolding digits
+returns-clause-stacks c m all numbers =
+    (rw numbers refl, λ shown. shown.1 ∙ rw numbers refl, λ shown. absurd (one_is_zero shown.0))
+  where
+    one_is_zero : ◌≡◌ {A = ℕ} 1 0 → ⊥
+    one_is_zero is = absurd cc
+
 pub returns-clause-mistakes : goal.returns-clause-mistakes
 returns-clause-mistakes c m = ((refl, refl), λ mistake is. absurd (some_is_none is.0))
   where
