@@ -19,7 +19,7 @@ RESUMING = ("continue", "next", "stepIn", "stepOut")
 INSPECTING = ("stackTrace", "scopes", "variables", "evaluate")
 SCOPES = 16  # of a frame, at most
 STACK = 2**30 + 1  # the reference of what is inside the stack
-PAGE = 1_024  # variables, at most
+PAGE = 1_024  # frames, or variables, at most
 MOST_MESSAGE = 65_536  # bytes
 MOST_OUTPUT = 65_536  # bytes of one event
 LARGEST = 2**64 - 1
@@ -432,7 +432,7 @@ GRANTS = {
 
 
 def stack_trace(world: World, given: dict) -> dict:
-    first, levels = whole_at(given, "startFrame") or 0, whole_at(given, "levels") or world.depth()
+    first, levels = whole_at(given, "startFrame") or 0, min(whole_at(given, "levels") or PAGE, PAGE)
     lines = list(world.state.lines())
     called = [f"line {world.program[line].operand + 1}" for line in lines[1:]]
     frames = [{"column": 1 - world.less[1], "id": index + 1, "line": line + 1 - world.less[0], "name": name,

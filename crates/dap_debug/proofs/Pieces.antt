@@ -1,5 +1,5 @@
 -- Texts are told in pieces; for `telling` and `debug_laws`.
-use Rattle.std.proofs.Common.{◌≡◌, ◌<◌, ◌≤◌, ◌++◌, ◌∙◌, ℕ, zero, suc, true, false, List, [], ◌∷◌, refl, sym, ap, ap₂, subst, map, take, drop, length, arith, append_assoc, append-nil}
+use Rattle.std.proofs.Common.{◌≡◌, ◌<◌, ◌≤◌, ◌++◌, ◌∙◌, ℕ, zero, suc, true, false, Option, List, [], ◌∷◌, refl, sym, ap, ap₂, subst, map, take, drop, length, arith, append_assoc, append-nil}
 use Rattle.std.specs.Prelude.{All, Result, Ok, Err, OnOk, slice_index, if◌then◌else◌}
 use Rattle.std.specs.Fmt.{is_char_start}
 use Rattle.std.specs.Fmt.Cut.{floor_char_boundary}
@@ -10,8 +10,8 @@ use Rattle.dap_bodies.specs.Events.{output}
 use Rattle.dap_bodies.specs.Sizes.{fit_of, text_limit}
 use Rattle.dap_server.specs.Messages.{PlainEvent}
 use Rattle.debuggee.specs.declared.halt.Output.{Output}
-use Rattle.debuggee.specs.Plain.{PlainOutput, plain_output}
-use Rattle.dap_debug.specs.Telling.{AddsEvents, AreCut, TellAll, TellOne, TellPieces}
+use Rattle.debuggee.specs.Plain.{PlainHalt, PlainOutput, plain_output}
+use Rattle.dap_debug.specs.Telling.{AddsEvents, AreCut, TellAll, TellOne, TellPieces, Tells, category_of, merged, text_in, told_end}
 
 -- ---- the pieces of a text
 
@@ -122,3 +122,31 @@ one_told told one events new are is =
     subst (λ l. TellAll l new) (sym (map-append plain_output told (one ∷ [])))
     (subst (TellAll (map plain_output told ++ plain_output one ∷ [])) (sym is.2)
     (all_more (map plain_output told) (plain_output one) events is.0 are is.1))
+
+-- a text is cut in one way
+pub cut_one : (text : List ℕ) (pieces others : List (List ℕ)) → AreCut text pieces → AreCut text others
+    → pieces ≡ others
+cut_one text [] others cut _ = absurd cut
+cut_one text (p ∷ []) [] _ cut = absurd cut
+cut_one text (p ∷ (next ∷ more)) [] _ cut = absurd cut
+cut_one text (p ∷ []) (q ∷ []) cut other = ap (λ x. x ∷ []) (cut.0 ∙ sym other.0)
+cut_one text (p ∷ []) (q ∷ (next ∷ more)) cut other = absurd (omega (arith, cut.1, other.0))
+cut_one text (p ∷ (next ∷ more)) (q ∷ []) cut other = absurd (omega (arith, other.1, cut.0))
+cut_one text (p ∷ (next ∷ more)) (q ∷ (later ∷ rest)) cut other =
+    let same = cut_one (drop (fit_of text) text) (next ∷ more) (later ∷ rest) cut.2 other.2 in
+    ap (λ x. x ∷ (next ∷ more)) (cut.1 ∙ sym other.1) ∙ ap (λ l. q ∷ l) same
+
+-- and so each text is told in one way, and all are
+pub all_told_one : (told : List PlainOutput) (events others : List PlainEvent) → TellAll told events
+    → TellAll told others → events ≡ others
+all_told_one [] events others none other = none ∙ sym other
+all_told_one (first ∷ more) events others (these, later, (pieces, cut, are), rest, whole)
+    (those, after, (parts, cut', are'), rest', whole') =
+    let same : these ≡ those =
+    are ∙ ap (map (output (category_of first))) (cut_one (text_in first) pieces parts cut cut') ∙ sym are' in
+    whole ∙ ap (λ l. l ++ later) same ∙ ap (λ l. those ++ l) (all_told_one more later after rest rest') ∙ sym whole'
+
+pub told_one : (told : List PlainOutput) (halt : Option PlainHalt) (events others : List PlainEvent)
+    → Tells told halt events → Tells told halt others → events ≡ others
+told_one told halt events others (texts, tell, whole) (texts', tell', whole') =
+    whole ∙ ap (λ l. l ++ told_end halt) (all_told_one (merged told) texts texts' tell tell') ∙ sym whole'

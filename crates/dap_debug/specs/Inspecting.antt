@@ -46,11 +46,17 @@ ShowFrames frame_of counting path program index (shown ∷ others) =
 abbrev pub first_frame : Option Data → ℕ → ℕ
 first_frame arguments many = min (unwrap_or (whole_at (codes "startFrame") arguments) 0) many
 
--- how many of `many` frames are asked for; where no number is given, or 0, all
+-- the most frames, or variables, that are shown at once
+abbrev pub page_limit : ℕ
+page_limit = 1024
+
+-- how many are shown at once of so many that are asked for; 0 asks for all
+abbrev pub page_count : ℕ → ℕ
+page_count count = if nat_eq count 0 then page_limit else min count page_limit
+
+-- how many of `many` frames are shown; where no number is given, all are asked for
 abbrev pub frame_count : Option Data → ℕ → ℕ
-frame_count arguments many =
-    if nat_eq (unwrap_or (whole_at (codes "levels") arguments) 0) 0 then many
-    else min (unwrap_or (whole_at (codes "levels") arguments) 0) many
+frame_count arguments many = min (page_count (unwrap_or (whole_at (codes "levels") arguments) 0)) many
 
 -- the frames that are asked for, and how many there are
 pub record ShowsStack {S : Type 0} (sees : Sight S) (frame_of : S → ℕ → PlainFrame → Type 0) (counting : Counting)
@@ -117,14 +123,7 @@ shown_variable variable =
 abbrev pub variables_reply : List PlainVariable → PlainReply
 variables_reply shown = success (Some (variables (map shown_variable shown))) []
 
--- the most variables that are shown at once
-abbrev pub page_limit : ℕ
-page_limit = 1024
-
--- which variables are asked for; where no number is given, or 0, as many as are shown at once
-abbrev pub page_count : ℕ → ℕ
-page_count count = if nat_eq count 0 then page_limit else min count page_limit
-
+-- which variables are asked for; where no number is given, all
 abbrev pub page_asked : Option Data → Page
 page_asked arguments = record {
   start = unwrap_or (whole_at (codes "start") arguments) 0;

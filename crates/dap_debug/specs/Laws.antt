@@ -7,7 +7,7 @@ use Rattle.serde_json.specs.Data.{Data}
 use Rattle.dap_bodies.specs.Sizes.{text_limit}
 use Rattle.dap_server.specs.Messages.{PlainEvent, PlainReply}
 use Rattle.debuggee.specs.Due.{Sight}
-use Rattle.debuggee.specs.Plain.{PlainOutput, Printed, Logged}
+use Rattle.debuggee.specs.Plain.{PlainHalt, PlainOutput, Printed, Logged}
 use Rattle.debuggee.specs.Runs.{Meaning}
 use Rattle.dap_debug.specs.declared.command.Command.{Command}
 use Rattle.dap_debug.specs.declared.command.Command.TheVariants as command
@@ -20,7 +20,7 @@ use Rattle.dap_debug.specs.Replies.{Known, RepliesTo}
 use Rattle.dap_debug.specs.Running.{WorksOn}
 use Rattle.debuggee.specs.Shown.{PlainFrame}
 use Rattle.dap_debug.specs.Standings.{Standing}
-use Rattle.dap_debug.specs.Telling.{AreCut, merged}
+use Rattle.dap_debug.specs.Telling.{AreCut, Tells, merged}
 
 -- the event tells that the program has stopped, or that it is gone
 abbrev pub is_end : PlainEvent → Bool
@@ -86,6 +86,12 @@ abbrev pub PiecesAreKept : Type 0
 PiecesAreKept =
     (text : List ℕ) (pieces : List (List ℕ)) → AreCut text pieces
     → (concat pieces ≡ text) × All (λ piece. length piece ≤ text_limit) pieces
+
+-- A run is told in one way.
+abbrev pub TellingIsOne : Type 0
+TellingIsOne =
+    (told : List PlainOutput) (halt : Option PlainHalt) (events others : List PlainEvent) → Tells told halt events
+    → Tells told halt others → events ≡ others
 
 -- ---- identifiers and references
 

@@ -3,7 +3,7 @@
 use Rattle.std.specs.Prelude.{◌≡◌, ℕ, Bool, true, false, List, [], ◌∷◌, ◌++◌, codes, map, Option, None, Some}
 use Rattle.serde_json.specs.Written.{compact_text}
 use Rattle.dap_bodies.specs.Arguments.{truth_at}
-use Rattle.dap_server.specs.Messages.{PlainEvent, events_from}
+use Rattle.dap_server.specs.Messages.{PlainEvent, PlainReply, events_from}
 use Rattle.debuggee.specs.Due.{Sight}
 use Rattle.debuggee.specs.Plain.{NoValue, AtBreakpoint, AtStep, AtEnd, AtFault, Printed, Logged, Text, Expression}
 use Rattle.debuggee.specs.Runs.{Meaning}
@@ -92,19 +92,25 @@ stood now = record { phase = now; path = []; fault = None; breakpoints = []; cou
 abbrev pub stop_event : List ℕ → PlainEvent → Type 0
 stop_event reason event = texts (event ∷ []) ≡ a_stop reason [] ∷ []
 
--- It stops where it begins where that is asked for.
+-- It stops where it begins if that is asked for: so, and in no other way.
 abbrev pub EntryIsTold : Type 0
 EntryIsTold =
-    (event : PlainEvent) × stop_event (codes "entry") event
+    ((event : PlainEvent) × stop_event (codes "entry") event
     × GoesOn never nowhere true (stood (phase.Running (tt {0}) mode.Continue)) (event ∷ [])
-    (stood (phase.Stopped (tt {0})))
+    (stood (phase.Stopped (tt {0}))))
+    × ((events : List PlainEvent) (stands : Standing (Unit {0}))
+    → GoesOn never nowhere true (stood (phase.Running (tt {0}) mode.Continue)) events stands
+    → (texts events ≡ a_stop (codes "entry") [] ∷ []) × (stands ≡ stood (phase.Stopped (tt {0}))))
 
--- It is paused while it runs.
+-- It is paused while it runs: so, and in no other way.
 abbrev pub PauseIsTold : Type 0
 PauseIsTold =
-    (event : PlainEvent) × stop_event (codes "pause") event
+    ((event : PlainEvent) × stop_event (codes "pause") event
     × PausesFrom (phase.Running (tt {0}) mode.In) (stood (phase.Running (tt {0}) mode.In))
-    (success None (event ∷ [])) (stood (phase.Stopped (tt {0})))
+    (success None (event ∷ [])) (stood (phase.Stopped (tt {0}))))
+    × ((reply : PlainReply) (stands : Standing (Unit {0}))
+    → PausesFrom (phase.Running (tt {0}) mode.In) (stood (phase.Running (tt {0}) mode.In)) reply stands
+    → (texts reply.events ≡ a_stop (codes "pause") [] ∷ []) × (stands ≡ stood (phase.Stopped (tt {0}))))
 
 -- One that is ended tells so; one that has ended, or that there isn't, tells nothing.
 abbrev pub EndIsTold : Type 0

@@ -42,7 +42,7 @@ arguments =
 abbrev pub FramesAreAsked : Type 0
 FramesAreAsked =
     (map (λ asked. first_frame asked 9) (arguments ∷ None ∷ []) ≡ 4 ∷ 0 ∷ [])
-    × (map (λ asked. frame_count asked 9) (arguments ∷ None ∷ []) ≡ 3 ∷ 9 ∷ [])
+    × (map (λ asked. frame_count asked 9) (arguments ∷ None ∷ []) ≡ 3 ∷ 9 ∷ []) × (frame_count None 5000 ≡ 1024)
     × (map (frame_asked 9) (arguments ∷ None ∷ []) ≡ Some 1 ∷ None ∷ [])
     × (map reference_asked (arguments ∷ None ∷ []) ≡ 19 ∷ 0 ∷ [])
 

@@ -7,7 +7,7 @@ ghost use Rattle.dap_server.specs.Messages.{plain_reply};
 ghost use Rattle.dap_bodies.specs.Arguments.{text_at};
 ghost use Rattle.debuggee.specs.Shown.{plain_frame, plain_variable};
 ghost use Rattle.dap_debug.specs.Standings.{standing};
-ghost use Rattle.dap_debug.specs.Inspecting.{Inspects, AnswersQuestion, ShowsFrame, ShowsInside, ShowsPage, ShowsScopes, ShowsStack, ShowsVariables, Evaluates, Explains, frame_asked, frame_count, frame_limit, frame_of_reference, frame_to_evaluate, frame_with, first_frame, index_of_reference, number_of_reference, page_asked, reference_asked, reference_inside, scope_limit, scopes_reply, shown_scope, shown_scopes, shown_variable, variables_reply};
+ghost use Rattle.dap_debug.specs.Inspecting.{Inspects, AnswersQuestion, ShowsFrame, ShowsInside, ShowsPage, ShowsScopes, ShowsStack, ShowsVariables, Evaluates, Explains, frame_asked, frame_count, frame_limit, frame_of_reference, frame_to_evaluate, frame_with, first_frame, index_of_reference, number_of_reference, page_asked, page_count, reference_asked, reference_inside, scope_limit, scopes_reply, shown_scope, shown_scopes, shown_variable, variables_reply};
 
 use crate::command::Question;
 use crate::state::{Counting, Phase, State};
@@ -134,14 +134,22 @@ fn first_frame(arguments: Option<&Value>, many: usize) -> usize
     first.min(many as u64) as usize
 }
 
-/// Returns how many of so many frames are asked for.
+/// Returns how many of so many frames are shown.
 fn frame_count(arguments: Option<&Value>, many: usize) -> usize
     ensures count { result ≡ frame_count (option_map (λ v. view v.now) arguments.entry) many }
     ensures few { result ≤ many }
 {
-    match whole(arguments, "levels").unwrap_or(0) {
-        0 => many,
-        levels => levels.min(many as u64) as usize,
+    let asked = whole(arguments, "levels").unwrap_or(0);
+    page_count(asked).min(many as u64) as usize
+}
+
+/// Returns how many are shown at once of so many that are asked for; 0 asks for all.
+fn page_count(asked: u64) -> u64
+    ensures { result ≡ page_count asked }
+{
+    match asked {
+        0 => PAGE_LIMIT,
+        count => count.min(PAGE_LIMIT),
     }
 }
 
@@ -283,13 +291,10 @@ fn variables<L: Language>(
 fn page_asked(arguments: Option<&Value>) -> Page
     ensures { result ≡ page_asked (option_map (λ v. view v.now) arguments.entry) }
 {
-    let count = match whole(arguments, "count").unwrap_or(0) {
-        0 => PAGE_LIMIT,
-        count => count.min(PAGE_LIMIT),
-    };
+    let asked = whole(arguments, "count").unwrap_or(0);
     Page {
         start: whole(arguments, "start").unwrap_or(0) as usize,
-        count: count as usize,
+        count: page_count(asked) as usize,
     }
 }
 
@@ -321,9 +326,10 @@ fn variables_of_frame<L: Language>(
         (plain_reply reply)) }
 {
     let names = program.scopes(alloc, frame)?;
-    match scope_at(names, index) {
-        Some(_) => variables_of_scope(alloc, program, frame, index, page),
-        None => Reply::refused(alloc, NO_VARIABLES),
+    if index < names.len() {
+        variables_of_scope(alloc, program, frame, index, page)
+    } else {
+        Reply::refused(alloc, NO_VARIABLES)
     }
 }
 
@@ -370,18 +376,6 @@ fn index_of_reference(reference: u64) -> usize
     ensures { result ≡ index_of_reference reference }
 {
     (reference.saturating_sub(1) % SCOPE_LIMIT as u64) as usize
-}
-
-/// Returns the name of the scope with this index, if there is one.
-fn scope_at(names: Vec<String>, index: usize) -> Option<String>
-    ensures { option_map string_bytes result ≡ slice_get (map string_bytes names.items) index }
-{
-    let mut names = names;
-    if index < names.len() {
-        Some(names.swap_remove(index))
-    } else {
-        None
-    }
 }
 
 /// Returns the reply that shows these variables.

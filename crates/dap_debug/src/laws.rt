@@ -1,6 +1,6 @@
 //! What holds of each session.
 
-ghost use Rattle.dap_debug.specs.Laws.{WorkIsBalanced, RepliesAreBalanced, TextsAreKept, PiecesAreKept, FramesAreFound, ScopesAreFound, VariablesAreFound};
+ghost use Rattle.dap_debug.specs.Laws.{WorkIsBalanced, RepliesAreBalanced, TextsAreKept, PiecesAreKept, TellingIsOne, FramesAreFound, ScopesAreFound, VariablesAreFound};
 ghost use Rattle.dap_debug.specs.Loading.{reads_by};
 ghost use Rattle.dap_debug.specs.Replies.{known_of};
 ghost use Rattle.dap_debug.specs.Sums.{EachEndsOnce};
@@ -13,12 +13,14 @@ use debuggee::Language;
 
 /// Each run ends once: a request that lets the program go on, or ends one that doesn't run, owes one event that tells that
 /// the program has stopped or is gone, and what was owed is told, but for what is still owed while the program runs. And
-/// each byte that is printed or said is told, in order, at most 65,536 in one event. It does nothing: its contract is the laws.
+/// each byte that is printed or said is told, in order, at most 65,536 in one event, and in no other way. It does nothing: its
+/// contract is the laws.
 pub fn debug_laws<L: Language>()
     ensures work { WorkIsBalanced L.takes L.sees }
     ensures replies { RepliesAreBalanced (known_of L.takes L.sees L.shows) }
     ensures texts { TextsAreKept }
     ensures pieces { PiecesAreKept }
+    ensures one { TellingIsOne }
 {}
 
 /// The same of a whole conversation: the ends that its events tell are those that its requests ask for, but for one that is

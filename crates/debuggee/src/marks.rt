@@ -1,6 +1,6 @@
 //! Marks of the places where breakpoints are, so that an arrival looks at its own alone.
 
-ghost use Rattle.std.specs.Prelude.{IfOk, map};
+ghost use Rattle.std.specs.Prelude.{◌<◌, IfOk, map};
 ghost use Rattle.debuggee.specs.Plain.{plain_breakpoint};
 ghost use Rattle.debuggee.specs.Marks.{AreMarked};
 
@@ -10,7 +10,7 @@ use std::alloc::{AllocError, Global};
 /// How many marks there are. Places whose numbers leave the same remainder share one.
 pub const MARKS: usize = 1024;
 
-/// How many bytes of a message count as a look.
+/// How many bytes of a condition and a message count as a look.
 const BYTES_A_LOOK: usize = 64;
 
 /// Where the breakpoints of each mark are. An index that is none of a breakpoint ends them.
@@ -43,14 +43,20 @@ pub fn marks_of(alloc: Global, breakpoints: &[Breakpoint]) -> Result<Marks, Allo
     Ok(Marks { first, next })
 }
 
-/// Returns as how many looks it counts to arrive at a breakpoint. What it says counts too, so that a slice tells no more than
-/// some hundred kilobytes, or what one state makes breakpoints say.
-pub fn looks_of(breakpoint: &Breakpoint) -> usize {
-    let bytes = match &breakpoint.message {
+/// Returns as how many looks it counts to arrive at a breakpoint. Its condition counts too, and what it says, so that a slice
+/// reads and tells no more than some hundred kilobytes, or what one state makes of breakpoints.
+pub(crate) fn looks_of(breakpoint: &Breakpoint) -> usize
+    ensures { 0 < result }
+{
+    let asked = match &breakpoint.condition {
+        Some(condition) => condition.len(),
+        None => 0,
+    };
+    let told = match &breakpoint.message {
         Some(parts) => bytes_of(parts.as_slice()),
         None => 0,
     };
-    1 + bytes / BYTES_A_LOOK
+    1 + asked.saturating_add(told) / BYTES_A_LOOK
 }
 
 /// Returns how many bytes the parts of a message have.

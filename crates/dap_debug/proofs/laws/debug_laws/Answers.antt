@@ -1,6 +1,6 @@
 use Rattle.dap_debug.proofs.Balance.{work_balanced, replies_balanced}
 use Rattle.dap_debug.proofs.Merging.{all_bytes_kept, alternate}
-use Rattle.dap_debug.proofs.Pieces.{kept}
+use Rattle.dap_debug.proofs.Pieces.{kept, told_one}
 use Rattle.dap_debug.specs.Replies.{known_of}
 use Rattle.dap_debug.proofs.laws.debug_laws.Goals as goal
 
@@ -16,3 +16,6 @@ returns-clause-texts g c = λ told. (all_bytes_kept told, alternate told)
 
 pub returns-clause-pieces : goal.returns-clause-pieces
 returns-clause-pieces g c = kept
+
+pub returns-clause-one : goal.returns-clause-one
+returns-clause-one g c = told_one

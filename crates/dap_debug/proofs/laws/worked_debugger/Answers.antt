@@ -46,11 +46,13 @@ returns-clause-halts c = refl
 
 pub returns-clause-entry : goal.returns-clause-entry
 unfolding digits escape_byte
-returns-clause-entry c = (stopped (codes "entry") None, refl, (refl, refl))
+returns-clause-entry c =
+    ((stopped (codes "entry") None, refl, (refl, refl)), λ events stands goes. (rw goes.0 refl, goes.1))
 
 pub returns-clause-pause : goal.returns-clause-pause
 unfolding digits escape_byte
-returns-clause-pause c = (stopped (codes "pause") None, refl, (refl, refl))
+returns-clause-pause c =
+    ((stopped (codes "pause") None, refl, (refl, refl)), λ reply stands paused. (rw paused.0 refl, paused.1))
 
 pub returns-clause-end : goal.returns-clause-end
 unfolding digits escape_byte

@@ -12,7 +12,7 @@ use Rattle.dap_debug.proofs.Texts.{not_nil}
 use Rattle.dap_debug.proofs.laws.worked_requests.Goals as goal
 
 pub returns-clause-frames : goal.returns-clause-frames
-returns-clause-frames c = (refl, refl, refl, refl)
+returns-clause-frames c = (refl, refl, refl, refl, refl)
 
 pub returns-clause-expressions : goal.returns-clause-expressions
 unfolding digits
