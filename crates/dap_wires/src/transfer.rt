@@ -4,7 +4,7 @@ ghost use Rattle.dap_session.specs.Incoming.{incoming_of};
 ghost use Rattle.dap_wires.specs.Senders.{is_report};
 ghost use Rattle.dap_wires.specs.Transfer.{IsRead};
 
-use byte_streams::{GuardedSource, IoFault, Source};
+use byte_streams::{GuardedSource, IoFault};
 use dap_session::Event;
 use std::alloc::Global;
 use std::sync::Wait;
@@ -41,8 +41,12 @@ pub trait Pieces<S> {
         ensures own { is_report result ≡ false };
 }
 
-impl<I: Source, S> Pieces<S> for I {
+impl<I: GuardedSource, S> Pieces<S> for I {
+    ghost use Rattle.std.specs.Prelude.{◌≡◌};
+
     ghost given = { I.supply };
+
+    ghost may_read = { λ source _. (i : I) → I.supply i ≡ I.supply source → I.may_read i };
 
     fn next_piece(
         &mut self,
