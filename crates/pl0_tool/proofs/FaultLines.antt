@@ -1,5 +1,5 @@
 -- What is told of a fault: lines that are added one by one, and the places of steps.
-use Rattle.pl0_tool.proofs.Common.{[], add-one, ap, append_assoc, blocks, depth_of, Frame, frame_line, frame_lines, frame_name, frame_of, FrameView, get_or, length, List, min, more_line, next_step, None, Option, option_map, option_map_or, Path, place_line, program, program_of, same_Some, shown, Shows, slice_get, Some, Standing, StepAt, sym, ℕ, ◌++◌, ◌+◌, ◌-◌, ◌<◌, ◌∙◌, ◌≡◌}
+use Rattle.pl0_tool.proofs.Common.{[], add-one, ap, append_assoc, blocks, depth_of, Frame, frame_line, frame_lines, frame_name, frame_of, FrameView, get_or, length, List, min, more_line, next_step, None, Option, option_map, option_map_or, Path, place_line, program, program_of, refl, same_Some, shown, Shows, slice_get, Some, Standing, StepAt, sym, ℕ, ◌++◌, ◌+◌, ◌-◌, ◌<◌, ◌∙◌, ◌≡◌}
 use Rattle.pl0_tree.specs.declared.tree.Place.{Place}
 use Rattle.pl0_tree.specs.declared.step.Step.{Step}
 use Rattle.pl0_unit.specs.declared.unit.Unit.{Unit as Compiled}
@@ -12,6 +12,11 @@ pub of_place : (o : Option StepAt) (place : Place) (say : Place → List ℕ)
     → option_map (λ (s : StepAt). s.place) o ≡ Some place → option_map_or (λ (s : StepAt). say s.place) o [] ≡ say place
 of_place None place say is = cc
 of_place (Some s) place say is = ap say (same_Some s.place place is)
+
+pub of_no_place : (o : Option StepAt) (say : Place → List ℕ)
+    → option_map (λ (s : StepAt). s.place) o ≡ None → [] ≡ option_map_or (λ (s : StepAt). say s.place) o []
+of_no_place None say is = refl
+of_no_place (Some s) say is = cc
 
 -- what a frame's view says of the tables of its unit
 pub shown_within : (u : Compiled) (o : Option Frame) (view : FrameView) → Shows (program_of u) o view

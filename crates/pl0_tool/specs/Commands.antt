@@ -17,7 +17,7 @@ use Rattle.pl0_tool.specs.declared.running.RunEnd.{RunEnd}
 use Rattle.pl0_tool.specs.declared.running.RunEnd.TheVariants.{Ended, Faulted, FaultedUnwritten, StoppedAt, WriteFailed}
 use Rattle.pl0_tool.specs.Loading.{IsProgramOf}
 use Rattle.pl0_tool.specs.Running.{HasRun, IsWithin}
-use Rattle.pl0_tool.specs.Faulting.{fault_report}
+use Rattle.pl0_tool.specs.Faulting.{fault_report, stop_report}
 use Rattle.pl0_tool.specs.Traced.{Grows, HasTraced}
 use Rattle.pl0_tool.specs.declared.tracing.TraceEnd.{TraceEnd}
 use Rattle.pl0_tool.specs.declared.tracing.TraceEnd.TheVariants.{GoesOn, Ended as TraceEnded, EndedBefore, Faulted as TraceFaulted, WriteFailed as TraceUnwritten}
@@ -29,13 +29,13 @@ IsReport output errors ending report =
 
 -- ---- a run
 
--- What is told, by how the run ended where a machine stands: of a step that faults, the fault and the newest frames.
--- What is told of a run that was stopped is tested.
+-- What is told, by how the run ended where a machine stands: of a step that faults, the fault and the newest frames; of
+-- a run that was stopped, its position and these.
 abbrev pub IsRunReport : RunEnd → List ℕ → Standing → Report → Type 0
 IsRunReport Ended file m report = IsReport [] [] Success report
 IsRunReport (Faulted fault) file m report = IsReport [] (fault_report file m fault) Fault report
 IsRunReport (FaultedUnwritten fault) file m report = IsReport [] (fault_report file m fault) Unwritten report
-IsRunReport StoppedAt file m report = (report.output.items ≡ []) × (report.ending ≡ Stopped)
+IsRunReport StoppedAt file m report = IsReport [] (stop_report file m) Stopped report
 IsRunReport WriteFailed file m report = IsReport [] [] Unwritten report
 
 -- the run from a machine's position on, up to a limit, was written, and it is told how it ended

@@ -1,13 +1,15 @@
 //! What is told of a run that faults.
 
-ghost use Rattle.std.specs.Prelude.{◌≡◌, ◌<◌, IfOk, string_bytes};
+ghost use Rattle.std.specs.Prelude.{◌≡◌, ◌<◌, IfOk, option_map, string_bytes};
 ghost use Rattle.pl0_machine.specs.Machine.{program, frame_of, depth_of};
-ghost use Rattle.pl0_tool.specs.Faulting.{fault_report, first_line, frame_line, more_line, with_frames};
+ghost use Rattle.pl0_tool.specs.Faulting.{fault_report, first_line, frame_line, more_line, stop_line, stop_report, stopped_at, with_frames};
+ghost use Rattle.pl0_tool.specs.Tracing.{step_before};
 
 use crate::blocks::frame_name;
 use pl0_machine::Machine;
 use pl0_meaning::RunFault;
 use pl0_mistakes::fault_line;
+use pl0_tree::Place;
 use pl0_unit::Unit;
 use std::alloc::{AllocError, Global};
 
@@ -42,26 +44,44 @@ pub(crate) fn stop_report(
     alloc: Global,
     file: &str,
     machine: &Machine,
-) -> Result<Vec<u8>, AllocError> {
+) -> Result<Vec<u8>, AllocError>
+    ensures { IfOk result (λ report. report.items ≡ stop_report file.now machine.now) }
+{
     let first = stop_line(alloc, file, machine)?;
     with_frames(alloc, first, file, machine)
 }
 
 /// Returns the line of a run that was stopped before the step at which a machine stands, and nothing where there is none.
-fn stop_line(alloc: Global, file: &str, machine: &Machine) -> Result<Vec<u8>, AllocError> {
+fn stop_line(alloc: Global, file: &str, machine: &Machine) -> Result<Vec<u8>, AllocError>
+    ensures { IfOk result (λ line. line.items ≡ stop_line file.now machine.now) }
+{
+    match place_of(machine) {
+        None => Ok(Vec::new(alloc)),
+        Some(place) => {
+            let line = stopped_at(alloc, file, place, machine.position())?;
+            Ok(line.into_bytes())
+        }
+    }
+}
+
+/// Returns the line of a run that was stopped before the step at a place.
+fn stopped_at(alloc: Global, file: &str, place: Place, position: u64) -> Result<String, AllocError>
+    ensures { IfOk result (λ line. string_bytes line ≡ stopped_at file.now position place) }
+{
+    let line = place.line;
+    let column = place.column;
+    format!(in alloc; "{file}:{line}:{column}: stopped: at position {position}\n")
+}
+
+/// Returns the place of the step at which a machine stands, if a frame is alive.
+fn place_of(machine: &Machine) -> Option<Place>
+    ensures { result ≡ option_map (λ s. s.place) (step_before machine.now) }
+{
+    if machine.depth() == 0 {
+        return None;
+    }
     let unit: &Unit = machine.unit();
-    let next = match machine.depth().checked_sub(1) {
-        Some(newest) => unit.steps.get(machine.frame(newest).next_step),
-        None => None,
-    };
-    let Some(step) = next else {
-        return Ok(Vec::new(alloc));
-    };
-    let line = step.place.line;
-    let column = step.place.column;
-    let steps = machine.position();
-    let text = format!(in alloc; "{file}:{line}:{column}: stopped: at position {steps}\n")?;
-    Ok(text.into_bytes())
+    Some(unit.steps[machine.next_step()].place)
 }
 
 /// Returns a line, and under it a line for each of the newest frames of a machine, the newest first.
@@ -93,12 +113,10 @@ fn first_line(
 ) -> Result<Vec<u8>, AllocError>
     ensures { IfOk result (λ line. line.items ≡ first_line file.now machine.now fault) }
 {
-    if machine.depth() == 0 {
-        return Ok(Vec::new(alloc));
+    match place_of(machine) {
+        None => Ok(Vec::new(alloc)),
+        Some(place) => fault_line(alloc, file, fault, place),
     }
-    let unit: &Unit = machine.unit();
-    let step = unit.steps[machine.next_step()];
-    fault_line(alloc, file, fault, step.place)
 }
 
 /// Returns the line of a frame: its name, and where it stands.

@@ -1,35 +1,15 @@
-use Rattle.pl0_tool.proofs.Common.{arith, frames, IfOk, IsNext, program_of, step_before, subst, sym, top_of, ◌∙◌, ◌≡◌}
-use Rattle.pl0_unit.specs.declared.unit.Unit.{Unit as Compiled}
+use Rattle.pl0_tool.proofs.Common.{IfOk, step_before, subst, sym, ◌∙◌, ◌≡◌}
 use Rattle.pl0_mistakes.specs.Lines.{fault_line}
-use Rattle.pl0_tool.proofs.TracedFrames.{next_within, next_place, IsPlaceOf}
-use Rattle.pl0_tool.proofs.FaultLines.{of_place}
+use Rattle.pl0_tool.proofs.FaultLines.{of_no_place, of_place}
 use Rattle.pl0_tool.proofs.fault.first_line.Goals as goal
-use Rattle.pl0_tool.proofs.fault.first_line.Goals.{After-next_step}
 
-same_unit : (c : After-next_step) → c.deref-unit.result.now ≡ c.args.machine.now.unit
-same_unit c = c.deref-unit.ensures ∙ c.unit.ensures
+pub returns-in-None : goal.returns-in-None
+returns-in-None c =
+    c.new.ensures.items ∙ of_no_place (step_before c.args.machine.now) (fault_line c.args.file.now c.args.fault)
+    (sym c.place_of.ensures ∙ c.in-None.is)
 
-next : (c : After-next_step) → IsNext (program_of c.deref-unit.result.now) (top_of (frames c.args.machine.now))
-    c.next_step.result
-next c =
-    subst (λ (u : Compiled). IsNext (program_of u) (top_of (frames c.args.machine.now)) c.next_step.result)
-    (sym (same_unit c)) c.next_step.ensures
-
-pub index-step-requires : goal.index-step-requires
-index-step-requires c =
-    let u = c.deref-unit.result.now in
-    let is = next (goal.at.index-step-requires c).After-next_step in
-    let within = next_within u (top_of (frames c.args.machine.now)) c.next_step.result is in
-    omega (arith, within, u.steps.ok.0)
-
-pub returns : goal.returns
-returns c =
-    let here = (goal.at.returns c).After-next_step in
-    let m = c.args.machine.now in
-    let u = c.deref-unit.result.now in
-    let o = top_of (frames m) in
-    let s = c.index-step.result.now in
-    let place = subst (λ (v : Compiled). IsPlaceOf v o s.place) (same_unit here)
-    (next_place u o c.next_step.result s (next here) c.index-step.ensures) in
-    let is = of_place (step_before m) s.place (fault_line c.args.file.now c.args.fault) place in
+pub returns-in-Some : goal.returns-in-Some
+returns-in-Some c =
+    let said = fault_line c.args.file.now c.args.fault in
+    let is = of_place (step_before c.args.machine.now) c.in-Some.place said (sym c.place_of.ensures ∙ c.in-Some.is) in
     subst (λ l. IfOk c.fault_line.result (λ line. line.items ≡ l)) (sym is) c.fault_line.ensures
