@@ -1,5 +1,5 @@
 -- What commands tell, from what their parts told.
-use Rattle.std.proofs.Common.{◌≡◌, ℕ, List, [], Result, Ok, Err, Global, Vec, IfOk, refl, sym, subst, inl, inr}
+use Rattle.std.proofs.Common.{◌≡◌, ◌+◌, ◌-◌, ℕ, List, [], Result, Ok, Err, Global, Vec, IfOk, refl, sym, subst, inl, inr}
 use Rattle.pl0_unit.specs.declared.unit.Unit.{Unit as Compiled}
 use Rattle.pl0_machine.specs.Machine.{Standing}
 use Rattle.byte_streams.specs.Streams.{Output}
@@ -17,7 +17,7 @@ use Rattle.pl0_mistakes.specs.Warnings.{warning_lines}
 use Rattle.std.specs.Prelude.{IsErrAnd, MatchResult}
 use Rattle.pl0_tool.specs.Commands.{AreMistakesTold, IsPage, IsReport, IsRunReport, RunTells, TraceTells, ProgramTells, Tells, start_of}
 use Rattle.pl0_tool.specs.Commands.{IsTraceReport, PageTells, ProgramWrites, StartTraces, StartWrites, WritesNumbers, WritesRun}
-use Rattle.pl0_tool.specs.Traced.{Grows, HasTraced, Writes}
+use Rattle.pl0_tool.specs.Traced.{Grows, HasPart, HasTable, HasTraced}
 use Rattle.pl0_tool.specs.declared.tracing.TraceEnd.{TraceEnd}
 use Rattle.pl0_tool.specs.declared.tracing.View.{View}
 use Rattle.pl0_tool.specs.declared.tracing.TraceEnd.TheVariants.{GoesOn, Ended, EndedBefore, Faulted, WriteFailed}
@@ -88,24 +88,30 @@ program_told task file text unit (Ok report) before after is tells = inr (unit, 
 program_told task file text unit (Err e) before after is writes = inr (unit, is, writes)
 
 -- of a trace that ended a part of its table was written
-grown : (before now : Output) → Writes before now → Grows before now
-grown before now (bytes, wrote) = (bytes, wrote.0)
+grown : (head : List ℕ) (from count : ℕ) (before now : Output) (pending : List ℕ)
+    → HasTable head from count before now pending → Grows before now
+grown head from count before now pending (table, is, held) = (held.flushed, held.appended)
 
-pub traced_part : (end : TraceEnd) (m new : Standing) (from count : ℕ) (before now : Output)
-    → HasTraced end m from count new before now → StartTraces before now
-traced_part WriteFailed m new from count before now (bytes, failed) = inr (failed.0.0, failed.0.1)
-traced_part EndedBefore m new from count before now h = inl h.1
-traced_part GoesOn m new from count before now h = inr (grown before now h.2)
-traced_part Ended m new from count before now h = inr (grown before now h.2)
-traced_part (Faulted fault) m new from count before now h = inr (grown before now h.1)
+pub traced_part : (end : TraceEnd) (m new : Standing) (from count : ℕ) (head : List ℕ) (before now : Output)
+    (pending : List ℕ)
+    → HasTraced end m from count new head before now pending → StartTraces before now
+traced_part WriteFailed m new from count head before now pending (told, table, few, is, failed) =
+    inr (failed.0.0, failed.0.1)
+traced_part EndedBefore m new from count head before now pending (stops, same, none) = inl same
+traced_part GoesOn m new from count head before now pending (there, alive, table) =
+    inr (grown head from count before now pending table)
+traced_part Ended m new from count head before now pending (behind, stops, table) =
+    inr (grown head from (new.position - from) before now pending table)
+traced_part (Faulted fault) m new from count head before now pending (stops, table) =
+    inr (grown head from (new.position + 1 - from) before now pending table)
 
 -- what a task that told of a program wrote of it
 program_writes : (task : Task) (file : List ℕ) (unit : Compiled) (report : Report) (before after : Output)
     → ProgramTells task file unit report before after
     → ProgramWrites task unit before after
 program_writes (Run limit) file unit report before after (end, last, ran, within, told) = inr (end, last, ran)
-program_writes (Trace from steps view) file unit report before after (end, last, pending, traced, told) =
-    traced_part end (start_of unit) last from steps before after traced
+program_writes (Trace from steps view) file unit report before after (end, last, head, pending, traced, told) =
+    traced_part end (start_of unit) last from steps head before after pending traced
 program_writes Check file unit report before after (told, same) = same
 program_writes (Listing names) file unit report before after (told, same) = same
 program_writes Tree file unit report before after (told, same) = same
@@ -141,18 +147,20 @@ run_from limit file unit m (Err e) before after at writes =
 
 -- a trace of a machine that stands at the start of a program
 pub traced_from : {E : Type 0} (end : TraceEnd) (file : List ℕ) (unit : Compiled) (m new : Standing)
-    (from count : ℕ) (r : Result Report E) (before now : Output) (pending : List ℕ)
+    (from count : ℕ) (r : Result Report E) (head : List ℕ) (before now : Output) (pending : List ℕ)
     → m ≡ start_of unit
-    → HasTraced end m from count new before now → IfOk r (IsTraceReport end file new pending)
+    → HasTraced end m from count new head before now pending → IfOk r (IsTraceReport end file new pending)
     → MatchResult r (λ report. TraceTells file (start_of unit) from count report before now)
     (λ e. StartTraces before now)
-traced_from end file unit m new from count (Ok report) before now pending at h is =
-    subst (λ (m : Standing). TraceTells file m from count report before now) at (end, new, pending, h, is)
-traced_from end file unit m new from count (Err e) before now pending at h is =
-    traced_part end m new from count before now h
+traced_from end file unit m new from count (Ok report) head before now pending at h is =
+    subst (λ (m : Standing). TraceTells file m from count report before now) at (end, new, head, pending, h, is)
+traced_from end file unit m new from count (Err e) head before now pending at h is =
+    traced_part end m new from count head before now pending h
 
-pub part_written : (before now : Output) → Writes before now → StartTraces before now
-part_written before now h = inr (grown before now h)
+pub part_written : (head : List ℕ) (from count : ℕ) (before now : Output) → HasPart head from count before now
+    → StartTraces before now
+part_written head from count before now (told, pending, few, table) =
+    inr (grown head from told before now pending table)
 
 -- ---- what each task tells of a program
 

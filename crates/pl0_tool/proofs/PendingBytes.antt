@@ -105,6 +105,17 @@ pub holds_all : (at : Output) (pending text : List ℕ) → pending ≡ text →
 holds_all at pending text is =
     record { flushed = []; appended = appends_none at.written; joined = is; kept = refl }
 
+-- more is pending
+pub holds_more : (before now : Output) (pending left text bytes : List ℕ) → left ≡ pending ++ bytes
+    → Holds before now pending text → Holds before now left (text ++ bytes)
+holds_more before now pending left text bytes is held = record {
+  flushed = held.flushed;
+  appended = held.appended;
+  joined = ap (λ l. held.flushed ++ l) is ∙ sym (append_assoc held.flushed pending bytes)
+      ∙ ap (λ l. l ++ bytes) held.joined;
+  kept = held.kept;
+}
+
 -- bytes are written after what was pending, or the output fails in them
 pub put_last : {E : Type 0} (wrote : Result (Unit {0}) E) (before now mid later : Output)
     (pending left text bytes : List ℕ)

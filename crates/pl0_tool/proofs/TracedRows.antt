@@ -1,6 +1,5 @@
 -- What a trace tells: frames that are added one by one, and positions to which a run doesn't come.
-use Rattle.pl0_tool.proofs.Common.{[], ahead, ap, arith, at_position, depth_of, Done, Fault, Frame, frame_of, Holds, IsFrameRow, IsTold, length, List, None, number_of, numbers_in, Option, outcome_of, Output, program, refl, same_Some, slice_get, Some, Standing, Stepped, Stretches, subst, suc, sym, take, take_all, variables_of, Went, zero, ℕ, ℤ, ◌++◌, ◌+◌, ◌<◌, ◌∙◌, ◌∷◌, ◌≡◌, ◌≤◌}
-use Rattle.byte_streams.proofs.Appending.{appends_none}
+use Rattle.pl0_tool.proofs.Common.{[], add-one, ahead, ap, arith, at_position, depth_of, Done, Fault, Frame, frame_of, Holds, IsFrameRow, IsTold, length, List, None, number_of, numbers_in, Option, outcome_of, Output, program, refl, same_Some, slice_get, Some, Standing, Stepped, Stretches, subst, suc, sym, take, take_all, variables_of, Went, zero, ℕ, ℤ, ◌++◌, ◌+◌, ◌-◌, ◌<◌, ◌∙◌, ◌∷◌, ◌≡◌, ◌≤◌}
 use Rattle.pl0_meaning.specs.declared.RunFault.{RunFault}
 use Rattle.pl0_meaning.specs.Runs.{Outcome, Goes, Faults, Stuck}
 use Rattle.pl0_machine.specs.declared.outcome.StepOutcome.{StepOutcome}
@@ -8,9 +7,9 @@ use Rattle.pl0_tool.specs.declared.tracing.FrameRow.{FrameRow}
 use Rattle.pl0_tool.specs.declared.tracing.TraceEnd.{TraceEnd}
 use Rattle.pl0_tool.specs.declared.tracing.TraceEnd.TheVariants.{GoesOn, Ended, EndedBefore, Faulted, WriteFailed}
 use Rattle.pl0_tool.proofs.RunLines.{Came, ahead-ahead, ended_behind, fault_is, runs_on}
-use Rattle.pl0_tool.proofs.PendingBytes.{writes_and_fails, writes_both}
+use Rattle.pl0_tool.proofs.PendingBytes.{holds_all}
 use Rattle.pl0_tool.specs.Running.{RanToNumber}
-use Rattle.pl0_tool.specs.Traced.{Fails, HasTraced, PutsRow, StopsBefore, Writes}
+use Rattle.pl0_tool.specs.Traced.{FailsInPart, HasPart, HasTable, HasTraced, IsRowOf, IsTable, PutsRow, StopsBefore}
 
 -- ---- lists that grow
 
@@ -159,17 +158,27 @@ same_unit m new told stepped = by_outcome (outcome_of m) stepped
     by_outcome (Faults fault) s = ap (λ (m : Standing). m.unit) s.1
     by_outcome Stuck s = absurd s
 
--- ---- what is written
+-- ---- the rows of a table
 
-pub writes_nothing : (at : Output) → Writes at at
-writes_nothing at = ([], (appends_none at.written, refl))
+-- a table of no rows is its head, which is pending
+pub table_none : (head : List ℕ) (from : ℕ) (out : Output) → HasTable head from 0 out out head
+table_none head from out = (head, refl, holds_all out head head refl)
 
-writes_more : (before mid after : Output) → Writes before mid → Writes mid after → Writes before after
-writes_more before mid after (first, one) (next, two) = (first ++ next, writes_both before mid after first next one two)
+-- a table of a row more
+pub table_more : (head : List ℕ) (from n position : ℕ) (table row : List ℕ) → position ≡ from + n
+    → IsTable head from n table → IsRowOf position row → IsTable head from (n + 1) (table ++ row)
+table_more head from n position table row there is of =
+    let more : IsTable head from (suc n) (table ++ row) =
+    (table, row, is, subst (λ p. IsRowOf p row) there of, refl) in
+    rw add-one more
 
--- what is held was written but for what is pending
-pub held_some : (before now : Output) (pending text : List ℕ) → Holds before now pending text → Writes before now
-held_some before now pending text held = (held.flushed, (held.appended, held.kept))
+-- a row more is pending
+row_more : (head : List ℕ) (from n position : ℕ) (row : List ℕ) (before at after : Output) (pending left : List ℕ)
+    → position ≡ from + n → HasTable head from n before at pending → IsRowOf position row
+    → ((first : Output) (table : List ℕ) → Holds first at pending table → Holds first after left (table ++ row))
+    → HasTable head from (n + 1) before after left
+row_more head from n position row before at after pending left there (table, is, held) of puts =
+    (table ++ row, table_more head from n position table row there is of, puts before table held)
 
 -- ---- a trace from a position to which a machine was taken
 
@@ -186,69 +195,97 @@ pub position_there : (start m : Standing) (from p : ℕ) → m ≡ at_position s
 position_there start m from p is = ap (λ (m : Standing). at_position m p) is
 
 -- no position was told, since the run is over before the first
-pub traced_nowhere : (end : TraceEnd) (start new : Standing) (from count : ℕ) (out : Output)
-    → StopsBefore end start from new → HasTraced end start from count new out out
-traced_nowhere EndedBefore start new from count out stops = (stops, refl)
-traced_nowhere (Faulted fault) start new from count out (there, before, faults) =
-    ((there, (omega (arith, before)), faults), writes_nothing out)
-traced_nowhere GoesOn start new from count out stops = absurd stops
-traced_nowhere Ended start new from count out stops = absurd stops
-traced_nowhere WriteFailed start new from count out stops = absurd stops
+pub traced_nowhere : (end : TraceEnd) (start new : Standing) (from count : ℕ) (head : List ℕ) (out : Output)
+    → StopsBefore end start from new → HasTraced end start from count new head out out head
+traced_nowhere EndedBefore start new from count head out stops = (stops, refl, refl)
+traced_nowhere (Faulted fault) start new from count head out (there, before, faults) =
+    let none : 0 ≡ new.position + 1 - from = omega (arith, before) in (
+      (there, (omega (arith, before)), faults),
+      subst (λ k. HasTable head from k out out head) none (table_none head from out),
+    )
+traced_nowhere GoesOn start new from count head out stops = absurd stops
+traced_nowhere Ended start new from count head out stops = absurd stops
+traced_nowhere WriteFailed start new from count head out stops = absurd stops
+
+position_of : (mid now : Standing) (p : ℕ) → now ≡ at_position mid p → now.position ≡ p
+position_of mid now p is = ap (λ (m : Standing). m.position) is
 
 -- a position more was told, and the run goes on
 pub told_on : (mid now new : Standing) (from n : ℕ) (told : Option StepOutcome) (number : Option ℤ)
-    (before at after : Output)
-    → told ≡ Some (Went number) → now ≡ at_position mid (from + n) → Writes before at → PutsRow told now new at after
-    → (0 < depth_of new) × (new ≡ at_position mid (from + (n + 1))) × Writes before after
-told_on mid now new from n told number before at after is here wrote puts =
-    let row = subst (λ t. PutsRow t now new at after) is puts in
+    (head pending left : List ℕ) (before at after : Output)
+    → told ≡ Some (Went number) → now ≡ at_position mid (from + n) → HasTable head from n before at pending
+    → PutsRow told now new pending left at after
+    → (0 < depth_of new) × (new ≡ at_position mid (from + (n + 1))) × HasTable head from (n + 1) before after left
+told_on mid now new from n told number head pending left before at after is here table puts =
+    let row = subst (λ t. PutsRow t now new pending left at after) is puts in
     let next : from + n + 1 ≡ from + (n + 1) = omega arith in (
-      runs_on now new number row.0,
-      went_on now new number row.0
+      runs_on now new number row.2,
+      went_on now new number row.2
           ∙ ap (λ (m : Standing). at_position m (m.position + 1)) here
           ∙ ap (λ p. at_position mid p) next,
-      writes_more before at after wrote row.1,
+      row_more head from n now.position row.0 before at after pending left (position_of mid now (from + n) here) table row.1 row.3,
     )
 
 -- the output failed in a row
-pub told_failed : (now new : Standing) (told : Option StepOutcome) (before at after : Output)
-    → told ≡ None → Writes before at → PutsRow told now new at after → Fails before after
-told_failed now new told before at after is (first, wrote) puts =
-    let failed = subst (λ t. PutsRow t now new at after) is puts in
-    (first ++ failed.0, writes_and_fails before at after first failed.0 wrote failed.1)
+pub told_failed : (mid now new : Standing) (from n count : ℕ) (told : Option StepOutcome)
+    (head pending left : List ℕ) (before at after : Output)
+    → told ≡ None → n < count → now ≡ at_position mid (from + n) → HasTable head from n before at pending
+    → PutsRow told now new pending left at after → FailsInPart head from count before after
+told_failed mid now new from n count told head pending left before at after is lt here (table, rows, held) puts =
+    let failed = subst (λ t. PutsRow t now new pending left at after) is puts in (
+      n + 1,
+      table ++ failed.0,
+      omega (arith, lt),
+      table_more head from n now.position table failed.0 (position_of mid now (from + n) here) rows failed.1,
+      failed.2 before table held,
+    )
+
+-- memory ran out in a row
+pub told_part : (from n count : ℕ) (head pending : List ℕ) (before at after : Output)
+    → n < count → after ≡ at → HasTable head from n before at pending → HasPart head from count before after
+told_part from n count head pending before at after lt same table =
+    (n, pending, omega (arith, lt), subst (λ o. HasTable head from n before o pending) (sym same) table)
 
 -- the run ends with a position that was told
 pub traced_end : (start mid now new : Standing) (from n count : ℕ) (told : Option StepOutcome)
-    (before at after : Output)
+    (head pending left : List ℕ) (before at after : Output)
     → told ≡ Some Done → n < count → mid ≡ at_position start from → now ≡ at_position mid (from + n)
-    → Writes before at → PutsRow told now new at after → HasTraced Ended start from count new before after
-traced_end start mid now new from n count told before at after is lt to_mid here wrote puts =
-    let row = subst (λ t. PutsRow t now new at after) is puts in
-    let behind = ended_behind now new row.0 in
+    → HasTable head from n before at pending → PutsRow told now new pending left at after
+    → HasTraced Ended start from count new head before after left
+traced_end start mid now new from n count told head pending left before at after is lt to_mid here table puts =
+    let row = subst (λ t. PutsRow t now new pending left at after) is puts in
+    let behind = ended_behind now new row.2 in
     let there : new ≡ at_position start (from + n + 1) =
     behind.0
     ∙ ap (λ (m : Standing). at_position m (m.position + 1)) here
     ∙ position_there start mid from (from + n + 1) to_mid in
-    let position : new.position ≡ from + n + 1 = ap (λ (m : Standing). m.position) there in (
+    let position = position_of start new (from + n + 1) there in
+    let many : n + 1 ≡ new.position - from = omega (arith, position) in (
       omega (arith, position),
       (there ∙ ap (λ p. at_position start p) (sym position), (omega (arith, position, lt)), behind.1),
-      writes_more before at after wrote row.1,
+      subst (λ k. HasTable head from k before after left) many
+          (row_more head from n now.position row.0 before at after pending left (position_of mid now (from + n) here)
+          table row.1 row.3),
     )
 
 -- the step of a position that was told faults
 pub traced_fault : (start mid now new : Standing) (fault : RunFault) (from n count : ℕ) (told : Option StepOutcome)
-    (before at after : Output)
+    (head pending left : List ℕ) (before at after : Output)
     → told ≡ Some (Fault fault) → n < count → mid ≡ at_position start from → now ≡ at_position mid (from + n)
-    → Writes before at → PutsRow told now new at after → HasTraced (Faulted fault) start from count new before after
-traced_fault start mid now new fault from n count told before at after is lt to_mid here wrote puts =
-    let row = subst (λ t. PutsRow t now new at after) is puts in
+    → HasTable head from n before at pending → PutsRow told now new pending left at after
+    → HasTraced (Faulted fault) start from count new head before after left
+traced_fault start mid now new fault from n count told head pending left before at after is lt to_mid here table puts =
+    let row = subst (λ t. PutsRow t now new pending left at after) is puts in
     let there : new ≡ at_position start (from + n) =
-    same_place now new fault row.0 ∙ here ∙ position_there start mid from (from + n) to_mid in
-    let position : new.position ≡ from + n = ap (λ (m : Standing). m.position) there in (
+    same_place now new fault row.2 ∙ here ∙ position_there start mid from (from + n) to_mid in
+    let position = position_of start new (from + n) there in
+    let many : n + 1 ≡ new.position + 1 - from = omega (arith, position) in (
       (
         there ∙ ap (λ p. at_position start p) (sym position),
         (omega (arith, position, lt)),
-        fault_is now new fault row.0,
+        fault_is now new fault row.2,
       ),
-      writes_more before at after wrote row.1,
+      subst (λ k. HasTable head from k before after left) many
+          (row_more head from n now.position row.0 before at after pending left (position_of mid now (from + n) here)
+          table row.1 row.3),
     )

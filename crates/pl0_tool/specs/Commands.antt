@@ -61,11 +61,12 @@ IsTraceReport EndedBefore file m pending report = IsReport pending (ends_line m.
 IsTraceReport (TraceFaulted fault) file m pending report = IsReport pending (fault_report file m fault) Fault report
 IsTraceReport TraceUnwritten file m pending report = IsReport [] [] Unwritten report
 
--- positions of the run were told: the first part of their table was written, and this is told of the rest
+-- positions of the run were told: the first part of their table, which has some head, was written, and this is told of
+-- the rest
 abbrev pub TraceTells : List ℕ → Standing → ℕ → ℕ → Report → Output → Output → Type 0
 TraceTells file start from steps report before after =
-    (end : TraceEnd) × (last : Standing) × (pending : List ℕ)
-    × HasTraced end start from steps last before after × IsTraceReport end file last pending report
+    (end : TraceEnd) × (last : Standing) × (head : List ℕ) × (pending : List ℕ)
+    × HasTraced end start from steps last head before after pending × IsTraceReport end file last pending report
 
 -- ---- a page
 

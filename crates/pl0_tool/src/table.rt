@@ -1,5 +1,9 @@
 //! The table of a trace: a line for each position.
 
+ghost use Rattle.std.specs.Prelude.{◌≡◌, ◌++◌, ℕ, List, decimal, OnOk};
+ghost use Rattle.pl0_lessons.specs.Columns.{column, right};
+ghost use Rattle.pl0_tool.specs.Traced.{IsRowOf};
+
 use crate::blocks::frame_name;
 use crate::drawing::{Drawing, FrameHead};
 use crate::lines::first_line;
@@ -84,16 +88,28 @@ fn instructions_head(told: bool) -> &'static str {
 ///
 /// # Errors
 ///
-/// `AllocError`, where an allocation failed.
+/// `AllocError`, where an allocation failed; a part of it may be appended.
 pub(crate) fn put_row(
     alloc: Global,
     page: &mut Vec<u8>,
     unit: &Unit,
     row: &Row,
-) -> Result<(), AllocError> {
-    put_step(alloc, page, unit.tree.text.as_slice(), row)?;
-    put_state(alloc, page, unit, row)?;
-    page.extend_from_slice(row.instructions.as_slice())
+) -> Result<(), AllocError>
+    ensures { OnOk result ((text : List ℕ) × IsRowOf row.now.position text
+        × (page.new.items ≡ page.old.items ++ text)) }
+{
+    put_column(alloc, page, POSITION_WIDTH, row.position)?;
+    let rest = rest_of_row(alloc, unit, row)?;
+    page.extend_from_slice(rest.as_slice())
+}
+
+/// Returns what is told of a position behind its number.
+fn rest_of_row(alloc: Global, unit: &Unit, row: &Row) -> Result<Vec<u8>, AllocError> {
+    let mut rest = Vec::new(alloc);
+    put_step(alloc, &mut rest, unit.tree.text.as_slice(), row)?;
+    put_state(alloc, &mut rest, unit, row)?;
+    rest.extend_from_slice(row.instructions.as_slice())?;
+    Ok(rest)
 }
 
 /// Appends the state before the step of a row: the machine, where it is drawn, or else the frames.
@@ -121,7 +137,9 @@ fn put_column(
     page: &mut Vec<u8>,
     width: usize,
     number: u64,
-) -> Result<(), AllocError> {
+) -> Result<(), AllocError>
+    ensures { OnOk result (page.new.items ≡ page.old.items ++ column (right width (decimal number))) }
+{
     let number = format!(in alloc; "{number}")?;
     put_right_column(page, width, number.as_bytes())
 }
@@ -130,7 +148,6 @@ fn put_column(
 
 /// Appends what is told of the step of a row, in a program of this text.
 fn put_step(alloc: Global, page: &mut Vec<u8>, text: &[u8], row: &Row) -> Result<(), AllocError> {
-    put_column(alloc, page, POSITION_WIDTH, row.position)?;
     put_place(alloc, page, row.place)?;
     put_left_column(page, SOURCE_WIDTH, source(text, row.kind, row.place))?;
     put_written(alloc, page, row.outcome)

@@ -2,7 +2,7 @@
 
 ghost use Rattle.std.specs.Prelude.{◌≡◌, ◌<◌, ◌≤◌, ◌⊎◌, ℕ, length, IfOk, MatchOption, MatchResult};
 ghost use Rattle.pl0_machine.specs.Machine.{program, frame_of, depth_of, variables_of, outcome_of, Stepped};
-ghost use Rattle.pl0_tool.specs.Traced.{HasTraced, PutsRow, StopsBefore, Writes};
+ghost use Rattle.pl0_tool.specs.Traced.{HasPart, HasTraced, PutsRow, StopsBefore};
 ghost use Rattle.pl0_tool.specs.Tracing.{IsFrameRow, AreFrameRows, IsRow, at_position, numbers_in};
 
 use crate::drawing::{Drawing, draw_if};
@@ -71,10 +71,10 @@ pub enum TraceEnd {
 }
 
 /// Tells up to `count` positions of a run, from `from` on, in order, in a table of which `page` has the head. There
-/// are fewer only where the run ends or faults. What is told of each position, [`next_row`] says; how it is written is
-/// tested. Where more than `room` bytes of the table are pending in `page` after a position, they are written. The
-/// machine goes to `from` without telling anything, and then stands at the end, at the step that faults, or behind what
-/// was told.
+/// are fewer only where the run ends or faults. Each has a row, which begins with the position; what it tells,
+/// [`next_row`] says, and how that is written is tested. Where more than `room` bytes of the table are pending in `page`
+/// after a position, they are written. The machine goes to `from` without telling anything, and then stands at the end,
+/// at the step that faults, or behind what was told.
 ///
 /// # Errors
 ///
@@ -93,8 +93,10 @@ pub fn trace<O: Sink>(
     requires alive { 0 < depth_of machine.old }
     requires within { machine.old.position ≤ from }
     ensures told { MatchResult result
-        (λ end. HasTraced end machine.old from count machine.new (O.output output.old) (O.output output.new))
-        (λ _. Writes (O.output output.old) (O.output output.new)) }
+        (λ end. HasTraced end machine.old from count machine.new page.old.items
+        (O.output output.old) (O.output output.new) page.new.items)
+        (λ _. HasPart page.old.items from count
+        (O.output output.old) (O.output output.new)) }
     ensures few { IfOk result (λ _. (length page.new.items ≤ room) ⊎ (page.new.items ≡ page.old.items)) }
 {
     if let Some(end) = go_to(rt, alloc, machine, from) {
@@ -125,7 +127,8 @@ fn tell_row<O: Sink>(
 ) -> Result<Option<StepOutcome>, AllocError>
     requires { 0 < depth_of machine.old }
     ensures told { MatchResult result
-        (λ told. PutsRow told machine.old machine.new (O.output output.old) (O.output output.new))
+        (λ told. PutsRow told machine.old machine.new page.old.items page.new.items
+        (O.output output.old) (O.output output.new))
         (λ _. O.output output.new ≡ O.output output.old) }
     ensures few { IfOk result (λ _. length page.new.items ≤ room) }
 {
