@@ -1,5 +1,5 @@
--- What a trace tells: frames that are added one by one, and positions to which a run doesn't come.
-use Rattle.pl0_tool.proofs.Common.{[], add-one, ahead, ap, arith, at_position, depth_of, Done, Fault, Frame, frame_of, Holds, IsFrameRow, IsTold, length, List, None, number_of, numbers_in, Option, outcome_of, Output, program, refl, same_Some, slice_get, Some, Standing, Stepped, Stretches, subst, suc, sym, take, take_all, variables_of, Went, zero, ℕ, ℤ, ◌++◌, ◌+◌, ◌-◌, ◌<◌, ◌∙◌, ◌∷◌, ◌≡◌, ◌≤◌}
+-- What a trace tells: frames and rows that are added one by one, and positions to which a run doesn't come.
+use Rattle.pl0_tool.proofs.Common.{[], add-one, ahead, ap, arith, at_position, depth_of, Done, Fault, Frame, frame_of, IsFrameRow, IsTold, length, List, None, number_of, numbers_in, Option, outcome_of, Output, program, refl, same_Some, slice_get, Some, Standing, Stepped, Stretches, subst, suc, sym, take, take_all, variables_of, Went, zero, ℕ, ℤ, ◌++◌, ◌+◌, ◌-◌, ◌<◌, ◌∙◌, ◌∷◌, ◌≡◌, ◌≤◌}
 use Rattle.pl0_meaning.specs.declared.RunFault.{RunFault}
 use Rattle.pl0_meaning.specs.Runs.{Outcome, Goes, Faults, Stuck}
 use Rattle.pl0_machine.specs.declared.outcome.StepOutcome.{StepOutcome}
@@ -165,20 +165,25 @@ pub table_none : (head : List ℕ) (from : ℕ) (out : Output) → HasTable head
 table_none head from out = (head, refl, holds_all out head head refl)
 
 -- a table of a row more
-pub table_more : (head : List ℕ) (from n position : ℕ) (table row : List ℕ) → position ≡ from + n
+table_more : (head : List ℕ) (from n position : ℕ) (table row : List ℕ) → position ≡ from + n
     → IsTable head from n table → IsRowOf position row → IsTable head from (n + 1) (table ++ row)
 table_more head from n position table row there is of =
     let more : IsTable head from (suc n) (table ++ row) =
     (table, row, is, subst (λ p. IsRowOf p row) there of, refl) in
     rw add-one more
 
--- a row more is pending
-row_more : (head : List ℕ) (from n position : ℕ) (row : List ℕ) (before at after : Output) (pending left : List ℕ)
-    → position ≡ from + n → HasTable head from n before at pending → IsRowOf position row
-    → ((first : Output) (table : List ℕ) → Holds first at pending table → Holds first after left (table ++ row))
-    → HasTable head from (n + 1) before after left
-row_more head from n position row before at after pending left there (table, is, held) of puts =
-    (table ++ row, table_more head from n position table row there is of, puts before table held)
+-- where a machine stands
+position_of : (mid now : Standing) (p : ℕ) → now ≡ at_position mid p → now.position ≡ p
+position_of mid now p is = ap (λ (m : Standing). m.position) is
+
+-- a row more was told
+row_more : (mid now new : Standing) (from n : ℕ) (outcome : StepOutcome) (head pending left : List ℕ)
+    (before at after : Output)
+    → now ≡ at_position mid (from + n) → HasTable head from n before at pending
+    → PutsRow (Some outcome) now new pending left at after → HasTable head from (n + 1) before after left
+row_more mid now new from n outcome head pending left before at after here (table, is, held) (row, of, stepped, puts) =
+    let there = position_of mid now (from + n) here in
+    (table ++ row, table_more head from n now.position table row there is of, puts before table held)
 
 -- ---- a trace from a position to which a machine was taken
 
@@ -207,9 +212,6 @@ traced_nowhere GoesOn start new from count head out stops = absurd stops
 traced_nowhere Ended start new from count head out stops = absurd stops
 traced_nowhere WriteFailed start new from count head out stops = absurd stops
 
-position_of : (mid now : Standing) (p : ℕ) → now ≡ at_position mid p → now.position ≡ p
-position_of mid now p is = ap (λ (m : Standing). m.position) is
-
 -- a position more was told, and the run goes on
 pub told_on : (mid now new : Standing) (from n : ℕ) (told : Option StepOutcome) (number : Option ℤ)
     (head pending left : List ℕ) (before at after : Output)
@@ -223,7 +225,7 @@ told_on mid now new from n told number head pending left before at after is here
       went_on now new number row.2
           ∙ ap (λ (m : Standing). at_position m (m.position + 1)) here
           ∙ ap (λ p. at_position mid p) next,
-      row_more head from n now.position row.0 before at after pending left (position_of mid now (from + n) here) table row.1 row.3,
+      row_more mid now new from n (Went number) head pending left before at after here table row,
     )
 
 -- the output failed in a row
@@ -264,8 +266,7 @@ traced_end start mid now new from n count told head pending left before at after
       omega (arith, position),
       (there ∙ ap (λ p. at_position start p) (sym position), (omega (arith, position, lt)), behind.1),
       subst (λ k. HasTable head from k before after left) many
-          (row_more head from n now.position row.0 before at after pending left (position_of mid now (from + n) here)
-          table row.1 row.3),
+          (row_more mid now new from n Done head pending left before at after here table row),
     )
 
 -- the step of a position that was told faults
@@ -286,6 +287,5 @@ traced_fault start mid now new fault from n count told head pending left before 
         fault_is now new fault row.2,
       ),
       subst (λ k. HasTable head from k before after left) many
-          (row_more head from n now.position row.0 before at after pending left (position_of mid now (from + n) here)
-          table row.1 row.3),
+          (row_more mid now new from n (Fault fault) head pending left before at after here table row),
     )

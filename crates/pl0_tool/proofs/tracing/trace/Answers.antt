@@ -34,8 +34,8 @@ returns-in-Ok-Some-Done-clause-told g c =
     let is : c.in-Ok-Some-Done.field-0 ≡ Some Done =
     c.in-Ok-Some-Done.field-0-is ∙ ap (λ (o : StepOutcome). Some o) c.in-Ok-Some-Done.field-0-0-is in
     traced_end c.args.machine.now c.go_to.new.machine c.loop-index.machine c.tell_row.new.machine c.args.from
-    c.loop-index.index c.args.count c.in-Ok-Some-Done.field-0 _ _ _ _ _ _ is c.loop-index-test.true c.in_default.ensures.1
-    c.loop-index.invariant.1 c.loop-index.invariant.2 c.in-Ok-Some-Done.ensures.told
+    c.loop-index.index c.args.count c.in-Ok-Some-Done.field-0 _ _ _ _ _ _ is c.loop-index-test.true
+    c.in_default.ensures.1 c.loop-index.invariant.1 c.loop-index.invariant.2 c.in-Ok-Some-Done.ensures.told
 
 pub returns-in-Ok-Some-Fault-clause-told : goal.returns-in-Ok-Some-Fault-clause-told
 returns-in-Ok-Some-Fault-clause-told g c =
@@ -43,8 +43,8 @@ returns-in-Ok-Some-Fault-clause-told g c =
     let is : c.in-Ok-Some-Fault.field-0 ≡ Some (Fault fault) =
     c.in-Ok-Some-Fault.field-0-is ∙ ap (λ (o : StepOutcome). Some o) c.in-Ok-Some-Fault.field-0-0-is in
     traced_fault c.args.machine.now c.go_to.new.machine c.loop-index.machine c.tell_row.new.machine fault c.args.from
-    c.loop-index.index c.args.count c.in-Ok-Some-Fault.field-0 _ _ _ _ _ _ is c.loop-index-test.true c.in_default.ensures.1
-    c.loop-index.invariant.1 c.loop-index.invariant.2 c.in-Ok-Some-Fault.ensures.told
+    c.loop-index.index c.args.count c.in-Ok-Some-Fault.field-0 _ _ _ _ _ _ is c.loop-index-test.true
+    c.in_default.ensures.1 c.loop-index.invariant.1 c.loop-index.invariant.2 c.in-Ok-Some-Fault.ensures.told
 
 pub loop-index-preserved : goal.loop-index-preserved
 loop-index-preserved g c =
