@@ -11,7 +11,7 @@ pub use Rattle.dap_msg.specs.Scopes.{AsksScopes, ReferenceFits, SaysScope, scope
 pub use Rattle.dap_msg.specs.SetBreakpoints.{breakpoint, breakpoint_limit, breakpoint_of_object, breakpoint_refusal_text, last_line, only_object, read_each, set_breakpoints_arguments, some_text, source_breakpoint, source_breakpoints, source_path, text_limit}
 pub use Rattle.dap_msg.specs.StackTrace.{AsksStackTrace, FrameFits, SaysFrame, stack_frame, stack_trace_arguments, stack_trace_body}
 pub use Rattle.dap_msg.specs.Variables.{AsksVariables, SaysVariable, variable, variables_arguments, variables_body}
-pub use Rattle.dap_msg.specs.Writing.{Fits, frame_end, IsContent, is_plain, is_plain_byte, ItemsFit, joined_text, MembersFit, numbers_text, opening, PutsItems, PutsMembers, PutsOpening, PutsValue}
+pub use Rattle.dap_msg.specs.Writing.{Fits, frame_end, IsContent, is_plain, is_plain_byte, ItemsFit, joined_text, list_opening, MembersFit, numbers_text, opening, PutsItems, PutsMembers, PutsOpening, PutsValue}
 pub use Rattle.dap_msg.specs.declared.command.Command.{Command}
 pub use Rattle.dap_msg.specs.declared.outgoing.StackFrame.{StackFrame}
 pub use Rattle.dap_msg.specs.declared.outgoing.Variable.{Variable}

@@ -1,11 +1,11 @@
 -- What is put together from parts is the value's text.
-use Rattle.dap_msg.proofs.Common.{[], agree_below_at, and_from, and_parts, ap, append-nil, append_assoc, arith, Bool, breakpoint, breakpoint_refusal_text, codes, comma_if, compact_text, cond_both, Data, decimal, eqb-false, Err, false, Fits, frame_end, FrameFits, get_or, IfOk, is_plain, is_plain_byte, IsContent, IsUtf8, items_of, items_text, ItemsFit, joined_text, leb-true, length, List, map, map-append, member, Members, MembersFit, negsuc, numbers_text, no_members, None, not-true, number, object, Ok, Option, pos, PutsItems, PutsMembers, PutsOpening, PutsValue, ReferenceFits, refl, response_end, Result, scope, Some, stack_frame, stack_trace_body, StackFrame, string, suc, sym, take, take_all, take_more, true, unsigned, variable, Variable, whole, with_body, zero, ℕ, ℤ, ◌%◌, ◌++◌, ◌+◌, ◌/◌, ◌<◌, ◌==◌, ◌^◌, ◌∙◌, ◌∷◌, ◌≡◌, ◌≤◌}
+use Rattle.dap_msg.proofs.Common.{[], agree_below_at, and_from, and_parts, ap, append-nil, append_assoc, arith, Bool, breakpoint, breakpoint_refusal_text, codes, comma_if, compact_text, cond_both, Data, decimal, eqb-false, Err, false, Fits, frame_end, FrameFits, get_or, IfOk, is_plain, is_plain_byte, IsContent, IsUtf8, items_of, items_text, ItemsFit, joined_text, leb-true, length, List, list_opening, map, map-append, member, Members, MembersFit, negsuc, numbers_text, no_members, None, not-true, number, object, Ok, Option, pos, PutsItems, PutsMembers, PutsOpening, PutsValue, ReferenceFits, refl, response_end, Result, scope, Some, stack_frame, stack_trace_body, StackFrame, string, suc, sym, take, take_all, take_more, true, unsigned, variable, Variable, whole, with_body, zero, ℕ, ℤ, ◌%◌, ◌++◌, ◌+◌, ◌/◌, ◌<◌, ◌==◌, ◌^◌, ◌∙◌, ◌∷◌, ◌≡◌, ◌≤◌}
 use Rattle.std.specs.Fmt.{signed_decimal, digits, digits_onto, digit_glyph}
 use Rattle.std.proofs.lemmas.Grind.{flat_map-append, common_steps}
 use Rattle.std.specs.Prelude.{◌≢◌}
 use Rattle.std.proofs.lemmas.List.{append_cancel_left, append_cancel_right}
 use Rattle.serde_json.specs.Written.{members_text}
-use Rattle.dap_msg.specs.Lists.{array_of}
+use Rattle.dap_msg.specs.Lists.{list_body}
 use Rattle.dap_msg.specs.Outgoing.{exception_text, exited_body, number_line, output_body, reason_text, refused_value, stop_end, stopped_body}
 use Rattle.dap_msg.specs.StackTrace.{source}
 use Rattle.dap_msg.specs.Evaluate.{value_body}
@@ -152,10 +152,10 @@ opening_put d s0 s1 s2 value ended = record { text = rw (ended, value.text) (thr
 
 -- a body that has nothing but a list
 pub list_put : (key : List ℕ) (ds : List Data) (s0 s1 s2 s3 : List ℕ)
-    → s1 ≡ s0 ++ (codes "{\"body\":{" ++ (quoted key ++ codes ":[")) → PutsItems ds s1 s2 → s3 ≡ s2 ++ codes "]},"
-    → PutsOpening (Some (object (member key (array_of ds) no_members))) s0 s3
+    → s1 ≡ s0 ++ list_opening key → PutsItems ds s1 s2 → s3 ≡ s2 ++ codes "]},"
+    → PutsOpening (Some (list_body key ds)) s0 s3
 list_put key ds s0 s1 s2 s3 opened items ended =
-    let d = object (member key (array_of ds) no_members) in
+    let d = list_body key ds in
     opening_put d s0 (s2 ++ codes "]}") s3 (record {
       text = rw (items.text, opened)
           (three s0 _ _ _ ∙ ap (λ t. s0 ++ (codes "{\"body\":{" ++ t))

@@ -5,6 +5,7 @@ use Rattle.std.specs.List.{list_all}
 use Rattle.serde_json.specs.Data.{Data, null, boolean, number, unsigned, negative, float, string, array, object, Items, no_items, item, Members, no_members, member}
 use Rattle.serde_json.specs.View.{items_of}
 use Rattle.serde_json.specs.Written.{comma_if, compact_text, members_text}
+use Rattle.json.specs.Print.{quoted}
 use Rattle.dap_msg.specs.StackTrace.{source}
 
 -- each number in the value is a whole number of 64 bits that isn't negative
@@ -68,6 +69,10 @@ joined_text later (d ∷ ds) = comma_if later ++ (compact_text d ++ joined_text 
 pub record PutsItems (ds : List Data) (old new : List ℕ) : Type 0 where
   pub text : new ≡ old ++ joined_text false ds
   pub fits : ItemsFit (items_of ds)
+
+-- the text of a message up to the values of a list that is the one member of its body
+abbrev pub list_opening : List ℕ → List ℕ
+list_opening key = codes "{\"body\":{" ++ (quoted key ++ codes ":[")
 
 -- what stands after its name in a frame whose source has this path
 abbrev pub frame_end : List ℕ → List ℕ

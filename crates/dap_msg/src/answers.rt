@@ -3,14 +3,13 @@
 
 ghost use Rattle.std.specs.Prelude.{◌≡◌, ◌++◌, ℕ, List, [], true, IfOk, OnOk, Some, codes, map, string_bytes};
 ghost use Rattle.serde_json.specs.Data.{string, member};
-ghost use Rattle.dap_msg.specs.Writing.{frame_end, numbers_text, PutsValue, PutsOpening, PutsItems, PutsMembers};
+ghost use Rattle.dap_msg.specs.Writing.{frame_end, list_opening, numbers_text, PutsValue, PutsOpening, PutsItems, PutsMembers};
 ghost use Rattle.dap_msg.specs.Evaluate.{value_body};
 ghost use Rattle.dap_msg.specs.Outgoing.{success_value, refused_value, refusal_text, response_end, body_data};
+ghost use Rattle.dap_msg.specs.Lists.{list_body};
 ghost use Rattle.dap_msg.specs.Questions.{shown_data};
-ghost use Rattle.dap_msg.specs.Scopes.{scope, scopes_body};
-ghost use Rattle.dap_msg.specs.SetBreakpoints.{breakpoint, breakpoints_body};
+ghost use Rattle.dap_msg.specs.SetBreakpoints.{breakpoint};
 ghost use Rattle.dap_msg.specs.StackTrace.{stack_frame, stack_trace_body};
-ghost use Rattle.dap_msg.specs.Variables.{variable, variables_body};
 ghost use Rattle.dap_msg.specs.Writing.{IsContent};
 ghost use Rattle.dap_msg.specs.declared.outgoing.BreakpointAnswer.TheVariants.{At, Unverified};
 
@@ -87,7 +86,9 @@ fn put_body(text: &mut Draft, body: &Body) -> Result<(), AllocError>
     match body {
         Body::None => text.put("{"),
         Body::Capabilities => text.put(CAPABILITIES),
-        Body::Breakpoints(answers) => put_breakpoints_body(text, answers.as_slice()),
+        Body::Breakpoints(answers) => {
+            put_list(text, "{\"body\":{\"breakpoints\":[", answers.as_slice())
+        }
         Body::Threads => text.put("{\"body\":{\"threads\":[{\"id\":1,\"name\":\"main\"}]},"),
         Body::Continued => text.put("{\"body\":{\"allThreadsContinued\":true},"),
         Body::Shown(shown) => put_shown(text, shown),
@@ -116,35 +117,74 @@ fn put_numbers(text: &mut Draft, request_seq: u64, seq: u64) -> Result<(), Alloc
     text.put_whole(seq)
 }
 
-/// Appends the beginning of the answer to `setBreakpoints`.
-fn put_breakpoints_body(text: &mut Draft, answers: &[BreakpointAnswer]) -> Result<(), AllocError>
-    ensures { OnOk result (PutsOpening (Some (breakpoints_body answers.now)) text.old text.new) }
+/// Something that is written as a value.
+trait Written {
+    ghost use Rattle.std.specs.Prelude.{OnOk};
+    ghost use Rattle.serde_json.specs.Data.{Data};
+    ghost use Rattle.dap_msg.specs.Writing.{PutsValue};
+
+    /// The value as which it is written.
+    ghost value: { Self → Data };
+
+    /// Appends it to a text.
+    fn put_to(&self, text: &mut Draft) -> Result<(), AllocError>
+        ensures { OnOk result (PutsValue (value self.now) text.old text.new) };
+}
+
+/// Appends the beginning of an answer whose body is a list: what stands before its items, and these with commas between
+/// them.
+fn put_list<T: Written>(text: &mut Draft, opening: &str, all: &[T]) -> Result<(), AllocError>
+    ensures { (key : List ℕ) → opening.now ≡ list_opening key
+        → OnOk result (PutsOpening (Some (list_body key (map T.value all.now))) text.old text.new) }
 {
-    text.put("{\"body\":{\"breakpoints\":[")?;
-    put_breakpoints(text, answers)?;
+    text.put(opening)?;
+    let mut is_later = false;
+    for one in all {
+        text.put_comma_if(is_later)?;
+        one.put_to(text)?;
+        is_later = true;
+    }
     text.put("]},")
 }
 
-/// Appends answers to lines with commas between them.
-fn put_breakpoints(text: &mut Draft, answers: &[BreakpointAnswer]) -> Result<(), AllocError>
-    ensures { OnOk result (PutsItems (map breakpoint answers.now) text.old text.new) }
-{
-    let mut is_later = false;
-    for answer in answers {
-        text.put_comma_if(is_later)?;
-        put_breakpoint(text, answer)?;
-        is_later = true;
+impl Written for BreakpointAnswer {
+    ghost use Rattle.dap_msg.specs.SetBreakpoints.{breakpoint};
+
+    ghost value = { breakpoint };
+
+    fn put_to(&self, text: &mut Draft) -> Result<(), AllocError> {
+        match *self {
+            BreakpointAnswer::At(line) => put_verified(text, line),
+            BreakpointAnswer::Unverified(why) => put_unverified(text, why),
+        }
     }
-    Ok(())
 }
 
-/// Appends the answer to a line.
-fn put_breakpoint(text: &mut Draft, answer: &BreakpointAnswer) -> Result<(), AllocError>
-    ensures { OnOk result (PutsValue (breakpoint answer.now) text.old text.new) }
-{
-    match *answer {
-        BreakpointAnswer::At(line) => put_verified(text, line),
-        BreakpointAnswer::Unverified(why) => put_unverified(text, why),
+impl Written for Scope {
+    ghost use Rattle.dap_msg.specs.Scopes.{scope};
+
+    ghost value = { scope };
+
+    fn put_to(&self, text: &mut Draft) -> Result<(), AllocError> {
+        text.put("{\"expensive\":false,\"name\":\"")?;
+        text.put_escaped(self.name.as_str())?;
+        text.put("\",\"variablesReference\":")?;
+        text.put_whole(self.reference)?;
+        text.put("}")
+    }
+}
+
+impl Written for Variable {
+    ghost use Rattle.dap_msg.specs.Variables.{variable};
+
+    ghost value = { variable };
+
+    fn put_to(&self, text: &mut Draft) -> Result<(), AllocError> {
+        text.put("{\"name\":\"")?;
+        text.put_escaped(self.name.as_str())?;
+        text.put("\",\"value\":\"")?;
+        text.put_signed(self.value)?;
+        text.put("\",\"variablesReference\":0}")
     }
 }
 
@@ -176,8 +216,8 @@ fn put_shown(text: &mut Draft, shown: &Shown) -> Result<(), AllocError>
             frames,
             total,
         } => put_stack_trace_body(text, path.as_str(), frames.as_slice(), *total),
-        Shown::Scopes(found) => put_scopes_body(text, found.as_slice()),
-        Shown::Variables(found) => put_variables_body(text, found.as_slice()),
+        Shown::Scopes(found) => put_list(text, "{\"body\":{\"scopes\":[", found.as_slice()),
+        Shown::Variables(found) => put_list(text, "{\"body\":{\"variables\":[", found.as_slice()),
         Shown::Value(value) => put_value_body(text, *value),
     }
 }
@@ -239,72 +279,6 @@ fn put_frame(text: &mut Draft, frame: &StackFrame, end: &str) -> Result<(), Allo
     text.put(",\"name\":\"")?;
     text.put_escaped(frame.name.as_str())?;
     text.put(end)
-}
-
-/// Appends the beginning of the answer to `scopes`.
-fn put_scopes_body(text: &mut Draft, scopes: &[Scope]) -> Result<(), AllocError>
-    ensures { OnOk result (PutsOpening (Some (scopes_body scopes.now)) text.old text.new) }
-{
-    text.put("{\"body\":{\"scopes\":[")?;
-    put_scopes(text, scopes)?;
-    text.put("]},")
-}
-
-/// Appends scopes with commas between them.
-fn put_scopes(text: &mut Draft, scopes: &[Scope]) -> Result<(), AllocError>
-    ensures { OnOk result (PutsItems (map scope scopes.now) text.old text.new) }
-{
-    let mut is_later = false;
-    for scope in scopes {
-        text.put_comma_if(is_later)?;
-        put_scope(text, scope)?;
-        is_later = true;
-    }
-    Ok(())
-}
-
-/// Appends a scope.
-fn put_scope(text: &mut Draft, found: &Scope) -> Result<(), AllocError>
-    ensures { OnOk result (PutsValue (scope found.now) text.old text.new) }
-{
-    text.put("{\"expensive\":false,\"name\":\"")?;
-    text.put_escaped(found.name.as_str())?;
-    text.put("\",\"variablesReference\":")?;
-    text.put_whole(found.reference)?;
-    text.put("}")
-}
-
-/// Appends the beginning of the answer to `variables`.
-fn put_variables_body(text: &mut Draft, variables: &[Variable]) -> Result<(), AllocError>
-    ensures { OnOk result (PutsOpening (Some (variables_body variables.now)) text.old text.new) }
-{
-    text.put("{\"body\":{\"variables\":[")?;
-    put_variables(text, variables)?;
-    text.put("]},")
-}
-
-/// Appends variables with commas between them.
-fn put_variables(text: &mut Draft, variables: &[Variable]) -> Result<(), AllocError>
-    ensures { OnOk result (PutsItems (map variable variables.now) text.old text.new) }
-{
-    let mut is_later = false;
-    for variable in variables {
-        text.put_comma_if(is_later)?;
-        put_variable(text, variable)?;
-        is_later = true;
-    }
-    Ok(())
-}
-
-/// Appends a variable.
-fn put_variable(text: &mut Draft, shown: &Variable) -> Result<(), AllocError>
-    ensures { OnOk result (PutsValue (variable shown.now) text.old text.new) }
-{
-    text.put("{\"name\":\"")?;
-    text.put_escaped(shown.name.as_str())?;
-    text.put("\",\"value\":\"")?;
-    text.put_signed(shown.value)?;
-    text.put("\",\"variablesReference\":0}")
 }
 
 /// Appends the beginning of the answer to `evaluate`.

@@ -1,4 +1,4 @@
-use Rattle.dap_msg.proofs.Common.{on_ok_weaker}
+use Rattle.dap_msg.proofs.Common.{codes, on_ok_weaker, refl}
 use Rattle.std.specs.Fmt.{digits}
 use Rattle.json.specs.Print.{escape_byte}
 use Rattle.dap_msg.proofs.Pieces.{one_fits}
@@ -21,3 +21,8 @@ unfolding escape_byte
 returns-in-Continued c =
     rw c.in-Continued.is (on_ok_weaker c.put-in-Continued.result (λ e. record { text = e; fits = (tt, tt) })
     c.put-in-Continued.ensures)
+
+pub returns-in-Breakpoints : goal.returns-in-Breakpoints
+unfolding escape_byte
+returns-in-Breakpoints c =
+    rw c.in-Breakpoints.is (rw c.as_slice.ensures at (c.put_list.ensures (codes "breakpoints") refl))
