@@ -1,7 +1,7 @@
 -- What several lemma files import, from the libraries and from the definitions.
 pub use Rattle.pl0_code.proofs.BlockLists.{blocks_count, blocks_table, list_blocks_rows}
 pub use Rattle.pl0_code.specs.Blocks.{block_rows, procedures_rows}
-pub use Rattle.pl0_code.specs.Chains.{chain, declared_as, names_before, names_of, outer, resolver}
+pub use Rattle.pl0_code.specs.Chains.{chain, declared_as, names_before, names_in, names_of, outer, resolver}
 pub use Rattle.pl0_code.specs.Lines.{Row, row, rows}
 pub use Rattle.pl0_code.specs.Rows.{call_declared, call_of, condition_rows, expression_rows, read_declared, read_of, Resolver, statement_rows, step_count, store_declared, store_of}
 pub use Rattle.pl0_code.specs.Sizes.{block_length, blocks_length, condition_length, entry, expression_length, procedures_length, statement_length}

@@ -1,5 +1,5 @@
 -- No `INT` makes more cells than a program declares variables, and three.
-use Rattle.pl0_code.proofs.Common.{[], ABlock, arith, Assign, Binary, Block, block_length, block_rows, block_steps, Call, call_declared, call_of, common_steps, Compare, Condition, condition_rows, Constant, Declared, Empty, Enter, Expression, expression_rows, Found, If, Instruction, length, List, map, Negate, NoMore, None, Number, Odd, Option, Path, Procedures, procedures_length, procedures_rows, procedures_steps, read_declared, read_of, Resolver, resolver, Row, slice_get, Some, Statement, statement_rows, step_count, store_declared, store_of, subst, suc, Then, While, Write, zero, ℕ, ◌++◌, ◌+◌, ◌∷◌, ◌≡◌, ◌≤◌}
+use Rattle.pl0_code.proofs.Common.{[], ABlock, arith, Assign, Binary, Block, block_length, block_rows, Call, call_declared, call_of, common_steps, Compare, Condition, condition_rows, Constant, Declared, Empty, Enter, Expression, expression_rows, Found, If, Instruction, length, List, map, Negate, NoMore, None, Number, Odd, Option, Path, Procedures, procedures_length, procedures_rows, procedures_steps, read_declared, read_of, Resolver, resolver, Row, slice_get, Some, Statement, statement_rows, store_declared, store_of, subst, suc, Then, While, Write, zero, ℕ, ◌++◌, ◌+◌, ◌∷◌, ◌≡◌, ◌≤◌}
 use Rattle.pl0_tree.specs.Tree.{AProcedure as AndProcedure, Variable as Named}
 use Rattle.pl0_code.proofs.ReadSizes.{variable_count, variables_count}
 

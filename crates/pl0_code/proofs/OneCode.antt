@@ -1,9 +1,8 @@
 -- A program has one code: two listings that are code of it agree at each address.
-use Rattle.pl0_code.proofs.Common.{[], ABlock, AConstant, ap, AProcedure, arith, Assign, AVariable, Binary, Block, block_at, block_length, Call, cell, Coded, CodedBlock, CodedCondition, CodedExpression, CodedProcedures, CodedStatement, common_steps, Compare, Condition, condition_length, Empty, Enter, Expression, expression_length, Home, home, If, inl, inr, Instruction, IsBefore, Jump, JumpIfZero, Lays, LaysCall, LaysDeclaredCall, LaysDeclaredRead, LaysDeclaredStore, LaysRead, LaysStore, length, level, List, Listing, Literal, Load, map, Meaning, Negate, NoMore, None, Number, Odd, Operate, operator_operation, Option, option_and_then, option_map, Path, Place, Procedure, procedure_at, procedure_list, Procedures, procedures, procedures_length, refl, relation_operation, same_Some, slice_get, slice_get-map, Some, Statement, statement_length, StepAt, steps, Store, subst, suc, sym, Then, While, Write, zero, ℕ, ◌+◌, ◌<◌, ◌∙◌, ◌∷◌, ◌≡◌, ◌≤◌, ◌⊎◌}
+use Rattle.pl0_code.proofs.Common.{[], ABlock, AConstant, ap, AProcedure, arith, Assign, AVariable, Binary, Block, block_at, block_length, Call, cell, Coded, CodedBlock, CodedCondition, CodedExpression, CodedProcedures, CodedStatement, common_steps, Compare, Condition, condition_length, Empty, Enter, Expression, expression_length, Home, home, If, inl, inr, Instruction, IsBefore, Jump, JumpIfZero, Lays, LaysCall, LaysDeclaredCall, LaysDeclaredRead, LaysDeclaredStore, LaysRead, LaysStore, length, level, List, Listing, map, Meaning, Negate, NoMore, None, Number, Odd, Operate, operator_operation, Option, option_and_then, option_map, Path, Place, Procedure, procedure_at, procedure_list, Procedures, procedures, procedures_length, refl, relation_operation, same_Some, slice_get, slice_get-map, Some, Statement, statement_length, StepAt, steps, subst, suc, sym, Then, While, Write, zero, ℕ, ◌+◌, ◌<◌, ◌∙◌, ◌∷◌, ◌≡◌, ◌≤◌, ◌⊎◌}
 use Rattle.pl0_tree.specs.Tree.{Variable, AProcedure as AndProcedure}
 use Rattle.pl0_tree.specs.Ascending.{Ascend}
 use Rattle.pl0_meaning.proofs.Homes.{IsDeclaredBy, home_is}
-use Rattle.pl0_unit.specs.declared.instruction.Instruction.TheVariants.{Call as CallTo}
 use Rattle.pl0_unit.specs.declared.instruction.Operation.TheVariants as operation
 
 -- ---- how many instructions code comes to

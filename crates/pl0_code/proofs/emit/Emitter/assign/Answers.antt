@@ -1,15 +1,15 @@
-use Rattle.pl0_code.proofs.Common.{[], ap, append_assoc, blocks_of, CanBeAssigned, expression_rows, found_in, IsFoundTo, length, None, plain_expression, plain_name, row, Some, store_of, subst, sym, ◌++◌, ◌∙◌, ◌∷◌}
+use Rattle.pl0_code.proofs.Common.{[], ap, append_assoc, CanBeAssigned, expression_rows, IsFoundTo, length, names_in, None, plain_expression, plain_name, row, Some, store_of, subst, sym, ◌++◌, ◌∙◌, ◌∷◌}
 use Rattle.pl0_code.proofs.Successes.{on_ok}
 use Rattle.pl0_code.proofs.emit.Emitter.assign.Goals as goal
 
 pub store_to-requires : goal.store_to-requires
 store_to-requires c =
-    let r = found_in 0 (blocks_of c.args.open_blocks.now) in
+    let r = names_in c.args.open_blocks.now in
     subst (λ o. IsFoundTo CanBeAssigned o) (sym (c.find-found.ensures ∙ ap r c.as_str.ensures.value)) c.requires.0
 
 pub returns : goal.returns
 returns c =
-    let r = found_in 0 (blocks_of c.args.open_blocks.now) in
+    let r = names_in c.args.open_blocks.now in
     let l0 = c.args.self.now.listing in
     let taken = c.in_ok-step.ensures in
     let e = plain_expression c.args.value.now in

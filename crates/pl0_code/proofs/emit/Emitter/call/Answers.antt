@@ -1,15 +1,15 @@
-use Rattle.pl0_code.proofs.Common.{[], ap, blocks_of, call_of, CanBeCalled, found_in, IsFoundTo, plain_name, row, Some, subst, sym, ◌++◌, ◌∙◌, ◌∷◌}
+use Rattle.pl0_code.proofs.Common.{[], ap, call_of, CanBeCalled, IsFoundTo, names_in, plain_name, row, Some, subst, sym, ◌++◌, ◌∙◌, ◌∷◌}
 use Rattle.pl0_code.proofs.Successes.{on_ok}
 use Rattle.pl0_code.proofs.emit.Emitter.call.Goals as goal
 
 pub call_to-requires : goal.call_to-requires
 call_to-requires c =
-    let r = found_in 0 (blocks_of c.args.open_blocks.now) in
+    let r = names_in c.args.open_blocks.now in
     subst (λ o. IsFoundTo CanBeCalled o) (sym (c.find-found.ensures ∙ ap r c.as_str.ensures.value)) c.requires
 
 pub returns : goal.returns
 returns c =
-    let r = found_in 0 (blocks_of c.args.open_blocks.now) in
+    let r = names_in c.args.open_blocks.now in
     let l0 = c.args.self.now.listing in
     let taken = c.in_ok-step.ensures in
     let n = c.in_ok-step.step in
