@@ -16,18 +16,17 @@ const DOTS: &str = "...";
 /// # Errors
 ///
 /// An allocation failed.
-pub fn shown_text(text: String) -> Result<String, AllocError>
+pub fn shown_text(mut text: String) -> Result<String, AllocError>
     ensures text { IfOk result (λ shown. string_bytes shown ≡ shown_text (string_bytes text)) }
     ensures short { IfOk result (λ shown. length (string_bytes shown) ≤ text_limit) }
 {
     if text.len() <= TEXT_LIMIT {
         return Ok(text);
     }
-    let mut shown = text;
-    let end = shown.as_str().floor_char_boundary(TEXT_LIMIT - DOTS.len());
-    shown.truncate(end);
-    shown.push_str(DOTS)?;
-    Ok(shown)
+    let end = text.as_str().floor_char_boundary(TEXT_LIMIT - DOTS.len());
+    text.truncate(end);
+    text.push_str(DOTS)?;
+    Ok(text)
 }
 
 /// Returns as many characters of a text as have 65,536 bytes at most, and what is left, unless all fit.

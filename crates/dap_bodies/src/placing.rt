@@ -5,7 +5,7 @@ ghost use Rattle.serde_json.specs.View.{view};
 ghost use Rattle.dap_bodies.specs.Bodies.{plain_shown_breakpoint, breakpoints, body_of};
 
 use crate::cutting::shown_text;
-use crate::values::{Row, Shown, list_of};
+use crate::values::{BYTE_SIZE, Row, Shown, list_of};
 use serde_json::{Value, json};
 use std::alloc::{AllocError, Global};
 
@@ -34,7 +34,7 @@ impl Shown for Breakpoint {
             }),
             Breakpoint::Refused(why) => {
                 let why = shown_text(why)?;
-                let size = BREAKPOINT_SIZE + 6 * why.len();
+                let size = BREAKPOINT_SIZE + BYTE_SIZE * why.len();
                 let value = json!(in alloc; {"message": why, "verified": false})?;
                 Ok(Row { value, size })
             }

@@ -6,15 +6,17 @@ ghost use Rattle.dap_bodies.specs.Bodies.{frame_members, plain_shown_frame, stac
 
 use crate::cutting::shown_text;
 use crate::events::THREAD;
-use crate::values::{Row, Shown, list_of};
+use crate::values::{BYTE_SIZE, Row, Shown, list_of};
 use serde_json::{Value, json};
 use std::alloc::{AllocError, Global};
 
-/// How many bytes a row takes at most where it is written, without those of its texts.
+/// How many bytes a frame takes at most where it is written, without those of its texts.
 const FRAME_SIZE: usize = 248;
 
+/// The same of a scope.
 const SCOPE_SIZE: usize = 227;
 
+/// The same of a variable.
 const VARIABLE_SIZE: usize = 200;
 
 /// A frame of the stack.
@@ -36,20 +38,13 @@ impl Shown for StackFrame {
     ghost shown = { λ frame. frame_value (plain_shown_frame frame) };
 
     fn into_row(self, alloc: Global) -> Result<Row, AllocError> {
-        let name = shown_text(self.name)?;
-        let path = shown_text(self.path)?;
-        let size = FRAME_SIZE + 6 * (name.len() + path.len());
-        let (id, line, column) = (self.id, self.line, self.column);
-        let value = frame_members(
-            alloc,
-            StackFrame {
-                id,
-                name,
-                path,
-                line,
-                column,
-            },
-        )?;
+        let frame = StackFrame {
+            name: shown_text(self.name)?,
+            path: shown_text(self.path)?,
+            ..self
+        };
+        let size = FRAME_SIZE + BYTE_SIZE * (frame.name.len() + frame.path.len());
+        let value = frame_members(alloc, frame)?;
         Ok(Row { value, size })
     }
 }
@@ -108,7 +103,7 @@ impl Shown for Scope {
 
     fn into_row(self, alloc: Global) -> Result<Row, AllocError> {
         let name = shown_text(self.name)?;
-        let size = SCOPE_SIZE + 6 * name.len();
+        let size = SCOPE_SIZE + BYTE_SIZE * name.len();
         let value = json!(in alloc; {
             "expensive": false,
             "name": name,
@@ -157,7 +152,7 @@ impl Shown for Variable {
             reference,
         } = self;
         let (name, value) = (shown_text(name)?, shown_text(value)?);
-        let size = VARIABLE_SIZE + 6 * (name.len() + value.len());
+        let size = VARIABLE_SIZE + BYTE_SIZE * (name.len() + value.len());
         let value = json!(in alloc; {
             "name": name,
             "value": value,

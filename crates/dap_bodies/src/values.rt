@@ -10,6 +10,9 @@ use std::alloc::{AllocError, Global};
 /// How many bytes the items of a list have at most.
 const LIST_LIMIT: usize = 1_000_000;
 
+/// How many bytes a byte of a text takes at most where it is written, as `\u0000`.
+pub(crate) const BYTE_SIZE: usize = 6;
+
 /// A value, and how many bytes it takes at most where it is written.
 #[derive(Drop)]
 pub(crate) struct Row {
