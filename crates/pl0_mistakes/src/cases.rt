@@ -7,7 +7,7 @@ use crate::scene::KEYWORDS;
 const LONGER: &str = "const var procedure call begin end then while";
 
 /// The keywords behind which a blank may be forgotten.
-const BEFORE_BLANKS: &str = "const var call procedure begin if while";
+pub(crate) const BEFORE_BLANKS: &str = "const var call procedure begin if while";
 
 /// Returns the keyword that a word is but for its case; `None` if it is none.
 pub(crate) fn keyword_in_lower_case(word: Token<'_>) -> Option<Token<'static>> {
@@ -31,9 +31,9 @@ pub(crate) fn keyword_nearby(word: Token<'_>) -> Option<Token<'static>> {
     None
 }
 
-/// Returns the keyword with which a longer word begins.
-pub(crate) fn keyword_in_front(word: Token<'_>) -> Option<Token<'static>> {
-    for text in BEFORE_BLANKS.split_whitespace() {
+/// Returns the one of these keywords with which a longer word begins.
+pub(crate) fn keyword_in_front(word: Token<'_>, keywords: &'static str) -> Option<Token<'static>> {
+    for text in keywords.split_whitespace() {
         let keyword = text.as_bytes();
         if word.bytes.starts_with(keyword) && word.bytes != keyword {
             return Some(Token { bytes: keyword });

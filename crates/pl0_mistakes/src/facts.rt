@@ -3,11 +3,12 @@
 ghost use Rattle.std.specs.Prelude.{◌≡◌};
 ghost use Rattle.pl0_mistakes.specs.Sentences.{opens_statement};
 
-use crate::cases::{keyword_in_front, keyword_in_lower_case, keyword_nearby};
-use crate::found::Token;
+use crate::cases::{BEFORE_BLANKS, keyword_in_front, keyword_in_lower_case, keyword_nearby};
+use crate::found::{Token, next_token};
 use crate::names::{Kind, is_procedure_in, kind_of};
 use crate::scene::{Scene, is_comparison, is_declaring, is_name};
 use crate::words::is_of;
+use pl0_tree::is_space;
 
 /// Whether what a row names holds at a place.
 pub(crate) fn holds(fact: &str, scene: Scene<'_>) -> bool {
@@ -17,9 +18,9 @@ pub(crate) fn holds(fact: &str, scene: Scene<'_>) -> bool {
         "parenthesis" => past.parentheses > 0,
         "procedure" => past.procedures > 0,
         "declaring" => is_declaring(past.opener),
-        "compared" => past.compared || past.opener.is("odd"),
+        "compared" => past.compared,
         "condition" => in_condition(scene),
-        "expression" => past.opener.is_one_of(":= ! if while odd"),
+        "expression" => past.opener.is_one_of(":= ! if while"),
         "opening" => at_opening(scene),
         "target" => is_target(scene),
         "ended" => ends_statement(scene),
@@ -32,6 +33,7 @@ pub(crate) fn holds(fact: &str, scene: Scene<'_>) -> bool {
         "lacks-comma" => lacks_comma(scene),
         "lacks-semicolon" => begins_part(scene) && ends_part(scene),
         "naming" => is_naming(scene),
+        "starts-line" => scene.starts_line,
         _ => holds_of_names(fact, scene),
     }
 }
@@ -51,6 +53,7 @@ fn holds_of_names(fact: &str, scene: Scene<'_>) -> bool {
         "no-blank-behind-begin" => lacks_blank_behind_begin(scene),
         "touching" => scene.front.ends_with(last.bytes),
         "letter-behind" => is_before_letter(scene),
+        "digit-behind" => matches!(scene.onward, [_, b'0'..=b'9', ..]),
         "base" => has_base(scene),
         "exponent" => has_exponent(scene),
         "letter" => begins_with(scene, 195, 211),
@@ -100,10 +103,24 @@ fn is_first_in_line(scene: Scene<'_>) -> bool {
         && !nearly.is_some_and(|keyword| keyword.is_one_of("end then do"))
 }
 
+/// Whether the token is the last of its line, and no word that nearly is a keyword.
+fn is_last_in_line(scene: Scene<'_>) -> bool {
+    let nearly = keyword_nearby(scene.found).or(keyword_in_lower_case(scene.found));
+    match next_token(scene.onward) {
+        Some((_, after)) if nearly.is_none() => {
+            let ahead = after
+                .iter()
+                .find(|byte| **byte == b'\n' || !is_space(**byte));
+            ahead == Some(&b'\n')
+        }
+        _ => false,
+    }
+}
+
 /// Whether a `,` is missing before the token: it is a name that is declared as the one before, as what comes next tells.
 fn lacks_comma(scene: Scene<'_>) -> bool {
     let opener = scene.past.opener;
-    let declared = opener.is("var") && scene.next.is_one_of(", ;")
+    let declared = opener.is("var") && (scene.next.is_one_of(", ;") || is_last_in_line(scene))
         || opener.is("const") && scene.next.is("=");
     declared && is_name(scene.found) && ends_part(scene)
 }
@@ -161,7 +178,7 @@ fn opens_statement(token: Token<'_>) -> bool
         || token.is("do")
 }
 
-/// Whether the place is in the condition of an `if` or a `while`, with no `odd` before it there.
+/// Whether the place is in the condition of an `if` or a `while`.
 fn in_condition(scene: Scene<'_>) -> bool {
     scene.past.opener.is_one_of("if while")
 }
@@ -209,8 +226,8 @@ fn lacks_blank(scene: Scene<'_>) -> bool {
     let last = scene.past.last;
     is_target(scene)
         && is_new(scene, last)
-        && !last.is_one_of("variable variables constant constants")
-        && keyword_in_front(last).is_some_and(|keyword| {
+        && !is_name(scene.found)
+        && keyword_in_front(last, BEFORE_BLANKS).is_some_and(|keyword| {
             !keyword.is_one_of("if while") || is_comparison(scene.found)
         })
 }
@@ -218,12 +235,11 @@ fn lacks_blank(scene: Scene<'_>) -> bool {
 /// Whether the name that was assigned may be `begin` and a name, and no `begin` is open where one is wanted.
 fn lacks_blank_behind_begin(scene: Scene<'_>) -> bool {
     let past = scene.past;
-    let keyword = keyword_in_front(past.before_opener);
     past.begins == 0
         && past.opener.is(":=")
         && scene.found.is_one_of("; end")
         && is_new(scene, past.before_opener)
-        && keyword.is_some_and(|keyword| keyword.is("begin"))
+        && keyword_in_front(past.before_opener, "begin").is_some()
 }
 
 /// Whether a `-` or a `.` stands at the place, right before a letter.

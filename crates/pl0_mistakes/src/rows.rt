@@ -71,6 +71,7 @@ fn token_of<'a>(key: &str, scene: Scene<'a>) -> Token<'a> {
         "in:" => past.opener,
         "ended:" => past.ended,
         "next:" => scene.next,
+        "third:" => scene.third,
         _ => scene.found,
     }
 }

@@ -30,7 +30,7 @@ pub struct Past<'a> {
     /// The last token, and the one before it.
     pub last: Token<'a>,
     pub second_last: Token<'a>,
-    /// The last keyword, `;`, `:=` or `!`: with it began what the place is in.
+    /// The last keyword but `odd`, `;`, `:=` or `!`: with it began what the place is in.
     pub opener: Token<'a>,
     /// The token before the opener: what is assigned, where that is `:=`.
     pub before_opener: Token<'a>,
@@ -40,7 +40,7 @@ pub struct Past<'a> {
     pub begins: u32,
     pub parentheses: u32,
     pub procedures: u32,
-    /// Whether a sign that compares stands behind the opener.
+    /// Whether a sign that compares, or `odd`, stands behind the opener.
     pub compared: bool,
 }
 
@@ -140,7 +140,7 @@ impl<'a> Past<'a> {
     pub(crate) fn followed_by(self, token: Token<'a>) -> Past<'a>
         ensures { result.last.bytes.now ≡ token.entry.bytes.now }
     {
-        let opens = is_keyword(token) || token.is_one_of("; := !");
+        let opens = is_keyword(token) && !token.is("odd") || token.is_one_of("; := !");
         Past {
             last: token,
             second_last: self.last,
@@ -158,7 +158,7 @@ impl<'a> Past<'a> {
             } else {
                 counted(self.procedures, token, "procedure", "")
             },
-            compared: is_comparison(token) || self.compared && !opens,
+            compared: is_comparison(token) || token.is("odd") || self.compared && !opens,
         }
     }
 

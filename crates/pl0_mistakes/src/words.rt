@@ -1,6 +1,6 @@
 //! Words that rows name: of other languages, and of the text.
 
-use crate::cases::{keyword_in_front, keyword_in_lower_case, keyword_nearby};
+use crate::cases::{BEFORE_BLANKS, keyword_in_front, keyword_in_lower_case, keyword_nearby};
 use crate::found::Token;
 use crate::names::{name_nearby, procedure_with};
 use crate::scene::{Scene, is_comparison, is_declaring, is_keyword, is_name};
@@ -27,31 +27,29 @@ fn words_of(word: &str) -> &'static str {
     match word {
         "BETWEEN" => BETWEEN,
         "BEGINNING" => BEGINNING,
-        "REPEATING" => "for foreach repeat until loop goto whilst",
-        "CHOOSING" => "case switch select match when unless",
+        "REPEATING" => "for foreach repeat until loop goto whilst pour solange wiederhole",
+        "CHOOSING" => "case switch select match when unless wenn falls si",
         "IMPORTING" => "program module unit import include using uses package require",
         "CALLING" => "gosub perform invoke run",
         "LITERAL" => "true false none null nil undefined",
-        "CLOSING" => "fi od done wend endif endwhile next",
-        "ELSE" => "else elif elseif elsif otherwise",
-        "LOGICAL" => "and or xor not",
+        "CLOSING" => "fi od done wend endif endwhile endprocedure next",
+        "ELSE" => "else elif elseif elsif otherwise sonst sinon",
+        "LOGICAL" => "and or xor not even und oder nicht et ou",
         "REMAINDER" => "mod rem modulo",
         "DIVISION" => "div",
-        "COMPARING" => "is eq ne lt gt le ge equals",
         "WRITING" => WRITING,
-        "READING" => "read readln input scanf get gets getline cin scanner prompt",
+        "READING" => "read readln input scanf get gets getline cin scanner prompt lies lire",
         "TYPE" => TYPES,
-        "CONSTANT" => "constant constants final readonly",
-        "PROCEDURE" => "def func function fun fn void proc sub method",
+        "CONSTANT" => "constant constants final readonly define konstante",
+        "PROCEDURE" => "def func function fun fn void proc sub method prozedur",
         "CHANGING" => "inc dec",
-        "FUNCTION" => FUNCTIONS,
         _ => "",
     }
 }
 
 /// Words of other languages where an operand, a statement or its rest may end.
 const BETWEEN: &str =
-    "and or xor not mod div rem else elif elseif elsif until to downto step in is fi od done wend endif endwhile";
+    "and or xor not mod div rem else elif elseif elsif sonst sinon until to downto step in is fi od done wend endif endwhile endprocedure";
 
 /// Words of other languages with which a statement begins, or an operand. They are read as names.
 const BEGINNING: &str =
@@ -59,15 +57,11 @@ const BEGINNING: &str =
 
 /// Words by which other languages write.
 const WRITING: &str =
-    "write writeln print println printf puts cout echo display output out put disp say show console system";
+    "write writeln print println printf puts cout echo display output out put disp say show console system schreibe afficher ecrire";
 
 /// Words by which other languages declare variables.
 const TYPES: &str =
-    "int integer long short float double real char bool boolean string let dim auto variable variables";
-
-/// Names of functions that other languages have.
-const FUNCTIONS: &str =
-    "even abs sqr sqrt min max mod pow power square random succ pred ord trunc round length sum";
+    "int integer long short unsigned float double real char bool boolean string let local dim auto variable variables";
 
 /// Returns the word of a text for which another one stands in a row.
 pub(crate) fn word<'a>(name: &str, scene: Scene<'a>) -> Option<Token<'a>> {
@@ -75,7 +69,8 @@ pub(crate) fn word<'a>(name: &str, scene: Scene<'a>) -> Option<Token<'a>> {
     match name {
         "last" => Some(last),
         "next" => Some(scene.next),
-        "keyword in last" => keyword_in_front(last),
+        "keyword in last" => keyword_in_front(last, BEFORE_BLANKS),
+        "keyword in here" => keyword_in_front(scene.found, "then do"),
         "last in lower case" => keyword_in_lower_case(last),
         "here in lower case" => keyword_in_lower_case(scene.found),
         "keyword like last" => keyword_nearby(last),
