@@ -1,5 +1,3 @@
--- A conversation over an inbox is one over what is known of it; for `serve_language`.
-mod Arriving
 -- Each run ends once; for `debug_laws`.
 mod Balance
 -- Identifiers and references lead back; for `shown_laws`.

@@ -1,7 +1,7 @@
 -- What a session promises of what is seen of it, its conversation keeps of what is seen.
-use Rattle.std.proofs.Common.{◌≡◌, ℕ, Bool, true, List, [], ◌∷◌, ap, subst, Option, None, Some, inl, inr}
-use Rattle.std.specs.Prelude.{Result, Ok, Err}
-use Rattle.byte_streams.specs.Streams.{StreamLog}
+use Rattle.std.proofs.Common.{◌≡◌, ℕ, Bool, true, List, [], ◌∷◌, ap, subst, Option, None, Some, inl, inr, rules}
+use Rattle.std.specs.Prelude.{Result, Ok, Err, IfOk}
+use Rattle.byte_streams.specs.Streams.{StreamLog, Supply, Output}
 use Rattle.dap_server.specs.Requests.{Request}
 use Rattle.dap_server.specs.Conversation.{State, state, Replies, Handles, Conversation}
 use Rattle.dap_server.specs.Inbox.{PlainItem, Bytes, Event, End, Failed, NoMemory, Gives, TakesOne}
@@ -9,9 +9,11 @@ use Rattle.dap_server.specs.Serving.{FailsAt, FailsInFront, IsDone, BreaksWithin
 use Rattle.dap_server.specs.ServingInbox.{ServingEndsBy, EndsWithin, EndsAt}
 use Rattle.dap_server.specs.Working as courses
 use Rattle.dap_server.specs.Working.{Works, Polls, Course, EndsInWork, WorkerEnds, ServedWorker, OwesNothing as WorkerOwesNothing}
+use Rattle.dap_reader.specs.Serving.{ServedInput}
+use Rattle.dap_reader.specs.declared.serving.StartFault.{StartFault}
 use Rattle.dap_debug.specs.Replies.{Known}
 use Rattle.dap_debug.specs.Loading.{ReadsFiles, Situation, situation}
-use Rattle.dap_debug.specs.Serving.{replied_by, worked_by, runs_in, Debugged, OwesNothing}
+use Rattle.dap_debug.specs.Serving.{replied_by, worked_by, runs_in, Debugged, DebuggedFrom, OwesNothing}
 use Rattle.dap_debug.specs.Standings.{unused}
 use Rattle.dap_server.specs.declared.ending.Ending.{Ending}
 use Rattle.dap_server.specs.declared.ending.Ending.TheVariants as ending
@@ -237,3 +239,24 @@ module _ {S T F I : Type 0} (see : S → Situation T F) (known : Known T) (reads
         there = is.there;
         is_open = is.is_open;
       })
+
+pub debugged_from : {S T F : Type 0} (see : S → Situation T F) (known : Known T) (reads : ReadsFiles F)
+    (before after : S) (files later_files : F) (input later_input : Supply) (output later : Output)
+    (served : Result (Result Ending ServeFault) StartFault) (ended : Result Ending ServeFault)
+    → see before ≡ situation unused files → (see after).files ≡ later_files
+    → IfOk served (λ ended. ServedInput (seen_replies see (replied_by known reads)) (seen_works see (worked_by known))
+    (λ s. runs_in (see s)) before after input later_input output later ended)
+    → served ≡ Ok ended → DebuggedFrom known reads files later_files input later_input output later ended
+debugged_from see known reads before after files later_files input later_input output later (Ok ended) now first kept
+    (taken, whole, front, is, failures) same =
+    subst (λ ended. DebuggedFrom known reads files later_files input later_input output later ended)
+    (search (same, rules)) (
+      taken,
+      whole,
+      front,
+      debugged see known reads _ _ before after files later_files input taken _ _ ended first kept is,
+      failures,
+    )
+debugged_from see known reads before after files later_files input later_input output later (Err e) now first kept is
+    same =
+    absurd (search (same, rules))

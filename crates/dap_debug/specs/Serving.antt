@@ -1,8 +1,8 @@
 -- Defines what is promised of a conversation over a language: `Debugged` is the contract of `serve_language_inbox`,
 -- and `DebuggedByReader` that of `serve_language`.
-use Rattle.std.specs.Prelude.{◌≡◌, ℕ, Bool, List, Option, Result, Ok, Err}
+use Rattle.std.specs.Prelude.{◌≡◌, Bool, Option, Result, Ok, Err}
 use Rattle.byte_streams.specs.Streams.{StreamLog, Supply, Output, IsOfWhole}
-use Rattle.dap_reader.specs.Arriving.{unread, Looks}
+use Rattle.dap_reader.specs.Serving.{Looks, FrontOf}
 use Rattle.serde_json.specs.Data.{Data}
 use Rattle.dap_server.specs.Messages.{PlainReply}
 use Rattle.dap_server.specs.Conversation.{Replies}
@@ -60,21 +60,21 @@ OwesNothing known reads gives polls files inbox now written later =
     WorkerOwesNothing (replied_by known reads) (worked_by known) runs_in gives polls (situation unused files) inbox now
     written later
 
--- A client was served over what reads of an input gave, from its beginning on. `taken` is what they gave up to the item
--- that was taken last: of an input whose bytes are known, the front.
-abbrev pub DebuggedFrom : {S F : Type 0} → Known S → ReadsFiles F → F → F → Option (List ℕ) → Output → Output
+-- A client was served over what reads of an input gave. `taken` is what they gave up to the item that was taken last,
+-- the front of all that they gave; of an input that tells its bytes, these are its own.
+abbrev pub DebuggedFrom : {S F : Type 0} → Known S → ReadsFiles F → F → F → Supply → Supply → Output → Output
     → Result Ending ServeFault → Type 0
-DebuggedFrom known reads files later_files first before after result =
-    (taken : Supply) × ∥ IsOfWhole taken ∥₁
-    × Debugged known reads Reads Looks files later_files (unread first) taken before.written after.written result
+DebuggedFrom known reads files later_files input later_input before after result =
+    (taken : Supply) × ∥ IsOfWhole taken ∥₁ × FrontOf taken later_input
+    × Debugged known reads Reads Looks files later_files input taken before.written after.written result
     × OutputFailures result before.failures after.failures
 
 -- the same; or the thread that reads isn't started, nothing is written, and no file is touched
-abbrev pub DebuggedByReader : {S F : Type 0} → Known S → ReadsFiles F → F → F → Option (List ℕ) → Output → Output
+abbrev pub DebuggedByReader : {S F : Type 0} → Known S → ReadsFiles F → F → F → Supply → Supply → Output → Output
     → Result Ending DebugFault → Type 0
-DebuggedByReader known reads files later_files first before after (Ok ending) =
-    DebuggedFrom known reads files later_files first before after (Ok ending)
-DebuggedByReader known reads files later_files first before after (Err (fault.Serve why)) =
-    DebuggedFrom known reads files later_files first before after (Err why)
-DebuggedByReader known reads files later_files first before after (Err (fault.Start why)) =
+DebuggedByReader known reads files later_files input later_input before after (Ok ending) =
+    DebuggedFrom known reads files later_files input later_input before after (Ok ending)
+DebuggedByReader known reads files later_files input later_input before after (Err (fault.Serve why)) =
+    DebuggedFrom known reads files later_files input later_input before after (Err why)
+DebuggedByReader known reads files later_files input later_input before after (Err (fault.Start why)) =
     (after ≡ before) × (later_files ≡ files)

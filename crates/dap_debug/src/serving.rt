@@ -7,13 +7,11 @@ ghost use Rattle.dap_debug.specs.Loading.{reads_by};
 ghost use Rattle.dap_debug.specs.Serving.{Debugged, DebuggedByReader, OwesNothing};
 
 use crate::session::Session;
-use byte_streams::{Opener, Sink};
-use dap_reader::{Arrivals, StartFault, start_reader};
+use byte_streams::{Opener, Sink, Source};
+use dap_reader::{StartFault, serve_worker_input};
 use dap_server::{Ending, Polled, ServeFault, serve_worker};
 use debuggee::Language;
 use std::alloc::Global;
-use std::io::Read;
-use std::rt::Clock;
 use std::sync::Wait;
 use std::thread::Threads;
 
@@ -26,35 +24,36 @@ pub enum DebugFault {
     Serve(ServeFault),
 }
 
-/// Serves a client that debugs programs of a language, whose files the opener opens. A thread of its own reads the input; it
-/// ends with the input, or is cut off when `main` returns.
+/// Serves a client that debugs programs of a language, whose files the opener opens. A thread of its own reads the input, and
+/// is joined: after the answer to `disconnect` it ends when its next read returns. What was read then changes nothing.
 ///
 /// # Errors
 ///
-/// `Start`, as [`start_reader`], and `Serve`, as [`serve_worker`].
+/// `Start`, as [`serve_worker_input`], and `Serve`, as [`serve_worker`].
 pub fn serve_language<L, R, F, I, O>(
     rt: &R,
     alloc: Global,
     files: &mut F,
-    input: I,
+    input: &mut I,
     output: &mut O,
 ) -> Result<Ending, DebugFault>
 where
     L: Language,
-    R: Threads + Wait + Clock + Copy + Send + Drop + 'static,
+    R: Threads + Wait + Copy + Drop + Send,
     F: Opener,
-    I: Read + Send + Drop + 'static,
+    I: Source + Send,
     O: Sink,
     ensures { DebuggedByReader (known_of L.takes L.sees L.shows) (reads_by F.opens F.closes F.File.supply)
-        files.old files.new (I.remaining input) (O.output output.old) (O.output output.new) result }
+        files.old files.new (I.supply input.old) (I.supply input.new) (O.output output.old) (O.output output.new)
+        result }
 {
-    let mut inbox = match start_reader(rt, alloc, input) {
-        Ok(inbox) => inbox,
-        Err(fault) => return Err(DebugFault::Start(fault)),
-    };
-    match serve_language_inbox::<L, R, F, Arrivals, O>(rt, alloc, files, &mut inbox, output) {
-        Ok(ending) => Ok(ending),
-        Err(fault) => Err(DebugFault::Serve(fault)),
+    let mut session = Session::<R, F, L>::new(rt, alloc, files);
+    let served = serve_worker_input(rt, alloc, &mut session, input, output);
+    end_loan(session.into_files());
+    match served {
+        Ok(Ok(ending)) => Ok(ending),
+        Ok(Err(fault)) => Err(DebugFault::Serve(fault)),
+        Err(fault) => Err(DebugFault::Start(fault)),
     }
 }
 

@@ -1,6 +1,6 @@
 //! The inbox.
 
-ghost use Rattle.std.specs.Prelude.{◌≡◌, true};
+ghost use Rattle.std.specs.Prelude.{◌≡◌, [], true};
 ghost use Rattle.byte_streams.specs.Streams.{IsOfWhole};
 ghost use Rattle.crossbeam_channel.specs.Claims.{IsSeatAt, view};
 ghost use Rattle.crossbeam_channel.specs.Ends.{receives_on};
@@ -16,7 +16,7 @@ use std::sync::Wait;
 /// What a client sends: the items that reads of an input gave, in order, each once, up to those that were taken. After the
 /// last one, which is no `Bytes`, a look finds nothing, and `next` tries again and again: it never returns, and never rests.
 #[derive(Drop)]
-pub struct Arrivals {
+pub(crate) struct Arrivals {
     pub(crate) receiver: RuledReceiver<Item, QueueEnd, InOrder>,
     pub(crate) pass: Pass<Item, QueueEnd>,
     ghost seated: { IsSeatAt (receives_on receiver) pass },
@@ -24,16 +24,40 @@ pub struct Arrivals {
     ghost of_whole: { ∥ IsOfWhole (through (view pass)) ∥₁ },
 }
 
+/// What an inbox took that is left.
+#[derive(Drop)]
+pub(crate) struct TakenLog {
+    pub(crate) pass: Pass<Item, QueueEnd>,
+    ghost idle: { pass.me.1 ≡ [] },
+    ghost takes: { is_taker (view pass) ≡ true },
+    ghost of_whole: { ∥ IsOfWhole (through (view pass)) ∥₁ },
+}
+
+impl Arrivals {
+    ghost use Rattle.std.specs.Prelude.{◌≡◌};
+    ghost use Rattle.dap_reader.specs.Taken.{taken, queue, taken_at_last, left_queue};
+
+    /// Leaves the inbox: from now on each item that is sent is returned as an error.
+    pub(crate) fn leave(self) -> TakenLog
+        ensures taken { taken_at_last result ≡ taken self }
+        ensures queue { left_queue result ≡ queue self }
+    {
+        let Arrivals { pass, .. } = self;
+        TakenLog { pass }
+    }
+}
+
 impl<O> Inbox<O> for Arrivals {
     ghost use Rattle.std.specs.Prelude.{◌≡◌, ◌+◌};
     ghost use Rattle.dap_server.specs.Inbox.{Reads, plain_item};
-    ghost use Rattle.dap_reader.specs.Taken.{taken, received};
+    ghost use Rattle.dap_reader.specs.Taken.{taken, received, queue};
 
-    ghost gives = { λ before item after. Reads (taken before) item (taken after) };
+    ghost gives = { λ before item after. Reads (taken before) item (taken after) × (queue after ≡ queue before) };
 
     /// It receives one item, and returns it: it waits for no further one before.
     fn next(&mut self, rt: &impl Wait, _alloc: Global, _output: &O) -> Item
-        ensures gives { Reads (taken self.old) (plain_item result) (taken self.new) }
+        ensures gives { Reads (taken self.old) (plain_item result) (taken self.new)
+            × (queue self.new ≡ queue self.old) }
         ensures once { received self.new ≡ received self.old + 1 }
     {
         let Arrivals { receiver, pass } = self;
@@ -47,10 +71,11 @@ impl<O> Inbox<O> for Arrivals {
 }
 
 impl<O> Polled<O> for Arrivals {
-    ghost use Rattle.dap_reader.specs.Arriving.{Looks};
-    ghost use Rattle.dap_reader.specs.Taken.{taken};
+    ghost use Rattle.std.specs.Prelude.{◌≡◌};
+    ghost use Rattle.dap_reader.specs.Serving.{Looks};
+    ghost use Rattle.dap_reader.specs.Taken.{taken, queue};
 
-    ghost polls = { λ before found after. Looks (taken before) found (taken after) };
+    ghost polls = { λ before found after. Looks (taken before) found (taken after) × (queue after ≡ queue before) };
 
     fn poll(&mut self, rt: &impl Wait, _alloc: Global) -> Option<Item> {
         let Arrivals { receiver, pass } = self;

@@ -1,32 +1,34 @@
-//! Making the queue.
+//! The queue: making it, and joining its ends.
 
-ghost use Rattle.std.specs.Prelude.{◌≡◌, IfOk};
-ghost use Rattle.dap_reader.specs.Arriving.{unread};
-ghost use Rattle.dap_reader.specs.Sent.{sent};
-ghost use Rattle.dap_reader.specs.Taken.{taken};
+ghost use Rattle.std.specs.Prelude.{◌≡◌, IfOk, List};
+ghost use Rattle.byte_streams.specs.Streams.{IsOfWhole};
+ghost use Rattle.dap_server.specs.Inbox.{PlainItem, Given};
+ghost use Rattle.dap_reader.specs.Delivery.{Comes};
+ghost use Rattle.dap_reader.specs.Sent.{sent, sender_queue};
+ghost use Rattle.dap_reader.specs.Taken.{taken, queue, taken_at_last, left_queue};
 
-use crate::arrivals::Arrivals;
-use crate::rule::{Parts, Reached};
+use crate::arrivals::{Arrivals, TakenLog};
+use crate::rule::{Joins, Parts, Reached};
 use crate::sender::ItemSender;
 use crossbeam_channel::bounded_with;
 use std::alloc::{AllocError, Global};
-use std::io::Read;
 
 /// How many items may wait for the session. The reader waits while there are as many.
 const MOST_WAITING: usize = 64;
 
-/// Makes a queue for what reads of an input will give, and returns both of its ends. It reads nothing itself.
+/// Makes a queue for what reads of an input will give from now on, and returns both of its ends. It reads nothing itself.
 ///
 /// # Errors
 ///
 /// An allocation failed.
-pub(crate) fn item_queue<K: Reached, I: Read>(
+pub(crate) fn item_queue<K: Reached, I>(
     alloc: Global,
     _input: &I,
 ) -> Result<(ItemSender, Arrivals), AllocError>
-    requires { K.supply ≡ unread (I.remaining _input.now) }
-    ensures sent { IfOk result (λ r. sent r.0 ≡ unread (I.remaining _input.now)) }
-    ensures taken { IfOk result (λ r. taken r.1 ≡ unread (I.remaining _input.now)) }
+    requires { ∥ IsOfWhole K.supply ∥₁ }
+    ensures sent { IfOk result (λ r. sent r.0 ≡ K.supply) }
+    ensures taken { IfOk result (λ r. taken r.1 ≡ K.supply) }
+    ensures one { IfOk result (λ r. queue r.1 ≡ sender_queue r.0) }
 {
     let (sender, receiver, mut pass) = bounded_with(alloc, MOST_WAITING)?;
     let other = sender.another::<Parts<K>>(&mut pass);
@@ -37,4 +39,18 @@ pub(crate) fn item_queue<K: Reached, I: Read>(
         },
         Arrivals { receiver, pass },
     ))
+}
+
+/// Joins the ends, when nothing is sent or taken any more, and proves that what was taken is the front of what was sent.
+pub(crate) fn reconcile(end: ItemSender, log: TakenLog)
+    requires { left_queue log ≡ sender_queue end }
+    ensures { (inside : List PlainItem) × Given Comes (taken_at_last log) inside (sent end) }
+{
+    let ItemSender {
+        sender,
+        pass: other,
+    } = end;
+    let TakenLog { mut pass } = log;
+    sender.absorb::<Joins>(&mut pass, other);
+    sender.learn_as::<Joins>(&mut pass);
 }

@@ -1,7 +1,7 @@
 //! The rule of the queue: what is inside is what the reads gave after those of which all was taken.
 
 use crate::queue_end::QueueEnd;
-use crossbeam_channel::protocol::{Lesson, Outcome, Protocol, Split};
+use crossbeam_channel::protocol::{Join, Lesson, Outcome, Protocol, Split};
 use dap_server::Item;
 use std::marker::{Brand, PhantomData};
 
@@ -13,10 +13,9 @@ pub(crate) trait Reached {
 }
 
 impl Reached for Brand {
-    ghost use Rattle.std.specs.Prelude.{None};
-    ghost use Rattle.dap_reader.specs.Arriving.{unread};
+    ghost use Rattle.dap_reader.specs.Delivery.{nothing};
 
-    ghost supply = { unread None };
+    ghost supply = { nothing };
 }
 
 /// The rule.
@@ -77,4 +76,22 @@ impl Lesson<Item, QueueEnd> for Gets {
     ghost use Rattle.std.specs.Prelude.{⊤};
 
     ghost fact = { λ _ _. ⊤ };
+}
+
+/// The step that joins the ends, when nothing is sent or taken any more.
+pub(crate) struct Joins;
+
+impl Join<QueueEnd> for Joins {
+    ghost use Rattle.dap_reader.specs.Delivery.{joined};
+    ghost use Rattle.dap_reader.specs.declared.queue_end.QueueEnd.TheVariants.{Spent};
+
+    ghost both = { joined };
+
+    ghost spent = { Spent };
+}
+
+impl Lesson<Item, QueueEnd> for Joins {
+    ghost use Rattle.dap_reader.specs.Delivery.{Balances};
+
+    ghost fact = { Balances };
 }

@@ -23,7 +23,7 @@ pub(crate) struct ItemSender {
 }
 
 impl ItemSender {
-    ghost use Rattle.dap_reader.specs.Sent.{sent};
+    ghost use Rattle.dap_reader.specs.Sent.{sent, sender_queue};
 
     /// Sends what further reads of a source gave. Blocks while the queue is full.
     ///
@@ -40,7 +40,7 @@ impl ItemSender {
         requires given { Comes (sent self.old) (plain_item item) (S.supply source.now) }
         ensures ok { OnOk result (sent self.new ≡ S.supply source.now) }
         ensures err { OnErr result (sent self.new ≡ sent self.old) }
-        ensures queue { sends_on self.new.sender ≡ sends_on self.old.sender }
+        ensures queue { sender_queue self.new ≡ sender_queue self.old }
         ensures back { IfErr result (λ back. back ≡ item) }
     {
         let ItemSender { sender, pass } = self;

@@ -4,17 +4,17 @@
 //! by `takes` of `stack_language` where a program stops and what it prints. docs/YOUR_OWN_ADAPTER.md explains it.
 #![tactic(auto)]
 
-use byte_streams::{SystemFiles, Writing};
+use byte_streams::{Reading, SystemFiles, Writing};
 use dap_debug::{DebugFault, serve_language};
 use dap_server::ServeFault;
 use stack_language::Machine;
 use std::process::ExitCode;
 
 fn main(rt: HostRuntime) -> ExitCode {
-    let mut output = Writing::new(&rt, rt.stdout());
-    let mut files = SystemFiles::new(&rt);
-    let input = rt.stdin();
-    match serve_language::<Machine, _, _, _, _>(&rt, rt.alloc(), &mut files, input, &mut output) {
+    let files = &mut SystemFiles::new(&rt);
+    let input = &mut Reading::new(&rt, rt.stdin());
+    let output = &mut Writing::new(&rt, rt.stdout());
+    match serve_language::<Machine, _, _, _, _>(&rt, rt.alloc(), files, input, output) {
         Ok(_) => ExitCode::SUCCESS,
         Err(fault) => {
             let _ = eprintln!(rt; "stack_adapter: {fault:?}");

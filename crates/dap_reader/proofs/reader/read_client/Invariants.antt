@@ -1,11 +1,10 @@
 use Rattle.std.proofs.Common.{◌≡◌}
-use Rattle.crossbeam_channel.specs.Ends.{sends_on}
-use Rattle.dap_reader.specs.Sent.{sent}
+use Rattle.dap_reader.specs.Sent.{sent, sender_queue}
 use Rattle.dap_reader.proofs.reader.read_client.Given as goal
 
 abbrev pub invariant-loop : goal.invariant-loop
 invariant-loop g l = record {
-  queue : sends_on l.sender.sender ≡ sends_on l.initial.sender.sender;
+  queue : sender_queue l.sender ≡ sender_queue l.initial.sender;
   sent : sent l.sender ≡ g.S.GuardedSource.supply l.source;
 }
 
