@@ -27,13 +27,17 @@ is_of_names TooEarly = true
 is_of_names WrongKind = true
 is_of_names _ = false
 
--- Lines tell mistakes in a file with this text: the first, and where that is one of a name, further ones. Which ones
--- these are is tested.
+-- the same of a mistake with its place
+abbrev pub IsOfNames : FaultKind × Place → Type 0
+IsOfNames mistake = is_of_names mistake.0 ≡ true
+
+-- Lines tell mistakes in a file with this text: the first, and if that is one of a name, further ones of names. Which
+-- ones these are is tested.
 pub data AreMistakeLines (file text : List ℕ) (kind : FaultKind) (place : Place) : List ℕ → Type 0 where
   first_line : {line : List ℕ} → IsMistakeLine file text kind place line → AreMistakeLines file text kind place line
   further_line : {lines line : List ℕ} (other : FaultKind) (behind : Place) → is_of_names kind ≡ true →
-      AreMistakeLines file text kind place lines → IsMistakeLine file text other behind line →
-      AreMistakeLines file text kind place (lines ++ line)
+      is_of_names other ≡ true → AreMistakeLines file text kind place lines →
+      IsMistakeLine file text other behind line → AreMistakeLines file text kind place (lines ++ line)
 
 -- the line of a fault at a step of a file's program
 abbrev pub fault_line : List ℕ → RunFault → Place → List ℕ

@@ -1,7 +1,7 @@
 //! All mistakes of a text that are told at once: the first, and behind one of a name the others of names.
 
-ghost use Rattle.std.specs.Prelude.{◌≡◌, true, IfOk};
-ghost use Rattle.pl0_mistakes.specs.Lines.{AreMistakeLines, is_of_names};
+ghost use Rattle.std.specs.Prelude.{◌≡◌, true, All, IfOk};
+ghost use Rattle.pl0_mistakes.specs.Lines.{AreMistakeLines, IsOfNames, is_of_names};
 
 use crate::judging::name_mistakes;
 use crate::lines::mistake_line;
@@ -70,7 +70,9 @@ fn mistakes_behind(
     alloc: Global,
     text: &[u8],
     first: Place,
-) -> Result<Vec<(FaultKind, Place)>, AllocError> {
+) -> Result<Vec<(FaultKind, Place)>, AllocError>
+    ensures { IfOk result (λ mistakes. All IsOfNames mistakes.items) }
+{
     match tokenize(alloc, text) {
         Ok((tokens, _)) => name_mistakes(alloc, tokens.as_slice(), first),
         Err(SyntaxFault::NoMemory) => Err(AllocError),

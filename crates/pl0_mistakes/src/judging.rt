@@ -1,5 +1,8 @@
 //! The mistakes of names in a text whose tokens and grammar are right.
 
+ghost use Rattle.std.specs.Prelude.{◌≡◌, true, IfOk, IfSome, All};
+ghost use Rattle.pl0_mistakes.specs.Lines.{IsOfNames, is_of_names};
+
 use crate::names::Kind;
 use pl0_tree::{FaultKind, Mark, Place, Symbol, Token};
 use std::alloc::{AllocError, Global};
@@ -67,18 +70,22 @@ pub(crate) fn name_mistakes(
     alloc: Global,
     tokens: &[Token<'_>],
     but: Place,
-) -> Result<Vec<(FaultKind, Place)>, AllocError> {
+) -> Result<Vec<(FaultKind, Place)>, AllocError>
+    ensures { IfOk result (λ mistakes. All IsOfNames mistakes.items) }
+{
     let walk = walk_over(alloc, tokens)?;
     let mut mistakes = Vec::new(alloc);
     let mut words = Vec::new(alloc);
     for (index, name) in walk.names.iter().enumerate() {
-        if words.len() < MOST && !words.contains(&name.word) {
-            if let Some(kind) = walk.mistake_at(index, *name) {
-                words.push(name.word)?;
-                if name.place != but {
-                    mistakes.push((kind, name.place))?;
-                }
-            }
+        if words.len() == MOST || words.contains(&name.word) {
+            continue;
+        }
+        let Some(kind) = walk.mistake_at(index, *name) else {
+            continue;
+        };
+        words.push(name.word)?;
+        if name.place != but {
+            mistakes.push((kind, name.place))?;
         }
     }
     Ok(mistakes)
@@ -177,7 +184,9 @@ impl<'a> Walk<'a> {
     }
 
     /// Returns the mistake of a name, which has this index, if it is one.
-    fn mistake_at(&self, index: usize, name: Occurrence<'_>) -> Option<FaultKind> {
+    fn mistake_at(&self, index: usize, name: Occurrence<'_>) -> Option<FaultKind>
+        ensures { IfSome result (λ kind. is_of_names kind ≡ true) }
+    {
         let Some(declared) = self.declaration_of(name.word, index) else {
             return Some(FaultKind::Unknown);
         };
