@@ -1,15 +1,14 @@
-use Rattle.std.proofs.Common.{◌≡◌, ℕ, zero, suc, ◌<◌, ◌≤◌, All, true, nat_lt, length, slice_get, slice_index_or, List, [], ◌∷◌, Option, Some, None, false, sym, ap, ◌∙◌, subst, arith}
-use Rattle.std.specs.Option.{option_map_or}
+use Rattle.std.proofs.Common.{◌≡◌, ℕ, zero, suc, ◌<◌, ◌≤◌, true, nat_lt, length, slice_get, slice_index_or, List, [], ◌∷◌, Option, Some, false, sym, ap, ◌∙◌, arith}
 use Rattle.std.specs.declared.alloc.Global.{Global}
 use Rattle.std.specs.declared.vec.Vec.{Vec}
 use Rattle.std.proofs.lemmas.Bool.Decides.{nat_tests}
 use Rattle.std.proofs.lemmas.Option.{slice_get_past}
 use Rattle.pl0_machine.specs.declared.mark.Counter.{Counter}
-use Rattle.pl0_machine.specs.Asking.{MayCount, answer_there}
-use Rattle.pl0_machine.specs.Counting.{counters_of, Arrives}
+use Rattle.pl0_machine.specs.Counting.{counters_of}
 use Rattle.pl0_machine.proofs.Counting.{none_arrive}
 use Rattle.pl0_machine.proofs.mark.arrive_at_step.Goals as goal
 use Rattle.pl0_machine.proofs.mark.arrive_at_step.Goals.{After-deref}
+use Rattle.std.proofs.lemmas.Grind.{common_steps}
 
 some_at : (xs : List (Vec Counter Global)) (k : ℕ) (x : Vec Counter Global) → k < length xs
     → x ≡ slice_index_or xs k x → slice_get xs k ≡ Some x
@@ -24,12 +23,7 @@ is_past : (k n : ℕ) → false ≡ nat_lt k n → n ≤ k
 is_past k n e = grind (arith, nat_tests)
 
 items : (c : After-deref) → counters_of c.args.counters.now c.begun_step-step.result ≡ c.deref.result.now
-items c =
-    let there : slice_get c.args.counters.now c.begun_step-step.result ≡ Some c.in-Some.counters.now =
-    some_at c.args.counters.now c.begun_step-step.result c.in-Some.counters.now
-    (is_below c.begun_step-step.result (length c.args.counters.now) c.in-Some.ensures.lookup.0)
-    c.in-Some.ensures.lookup.1 in
-    ap (λ o. option_map_or (λ (v : Vec Counter Global). v.items) o []) there ∙ sym c.deref.ensures.value
+items c = grind (arith, common_steps, some_at, is_below)
 
 same_step : (m n : ℕ) → ◌≡◌ {A = Option (Option ℕ)} (Some (Some m)) (Some (Some n)) → m ≡ n
 same_step m n e = cc
@@ -37,26 +31,15 @@ same_step m n e = cc
 pub arrive_at-requires-clause-fits : goal.arrive_at-requires-clause-fits
 arrive_at-requires-clause-fits c =
     let here = goal.at.arrive_at-requires-clause-fits c in
-    subst (λ l. All (MayCount c.args.cells.now c.args.base c.args.top (length c.args.counts.now)) l)
-    (items here.After-deref) (c.requires.fits c.begun_step-step.result c.begun_step-step.ensures)
+    rw (← (items here.After-deref)) (c.requires.fits c.begun_step-step.result c.begun_step-step.ensures)
 
 pub returns-in-Some : goal.returns-in-Some
-returns-in-Some c = λ n e.
+returns-in-Some c =
+    λ n e.
     let here = goal.at.returns-in-Some c in
     let same = same_step c.begun_step-step.result n (sym c.begun_step-step.ensures ∙ e) in
-    subst (λ l. Arrives c.args.past (answer_there c.args.cells.now c.args.base c.args.top) l c.args.counts.now
-    c.arrive_at.result
-    c.arrive_at.new.counts)
-    (sym (items here.After-deref) ∙ ap (λ k. counters_of c.args.counters.now k) same) c.arrive_at.ensures
+    rw (← (sym (items here.After-deref) ∙ ap (λ k. counters_of c.args.counters.now k) same)) c.arrive_at.ensures
 
 pub returns-in-None : goal.returns-in-None
-returns-in-None c = λ n e.
-    let same = same_step c.begun_step-step.result n (sym c.begun_step-step.ensures ∙ e) in
-    let there : slice_get c.args.counters.now c.begun_step-step.result ≡ None =
-    slice_get_past c.args.counters.now c.begun_step-step.result
-    (is_past c.begun_step-step.result (length c.args.counters.now) c.in-None.ensures.lookup.0) in
-    let none : counters_of c.args.counters.now n ≡ [] =
-    ap (λ k. counters_of c.args.counters.now k) (sym same)
-    ∙ ap (λ o. option_map_or (λ (v : Vec Counter Global). v.items) o []) there in
-    subst (λ l. Arrives c.args.past (answer_there c.args.cells.now c.args.base c.args.top) l c.args.counts.now false
-    c.args.counts.now) (sym none) (none_arrive c.args.past _ c.args.counts.now)
+returns-in-None c =
+    grind (arith, common_steps, same_step, slice_get_past, is_past, none_arrive)
