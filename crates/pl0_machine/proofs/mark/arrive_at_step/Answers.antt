@@ -41,5 +41,4 @@ returns-in-Some c =
     rw (← (sym (items here.After-deref) ∙ ap (λ k. counters_of c.args.counters.now k) same)) c.arrive_at.ensures
 
 pub returns-in-None : goal.returns-in-None
-returns-in-None c =
-    grind (arith, common_steps, same_step, slice_get_past, is_past, none_arrive)
+returns-in-None c = grind (arith, common_steps, same_step, slice_get_past, is_past, none_arrive)
