@@ -15,9 +15,8 @@ returns-then-is_ascii_alphabetic c =
 
 pub returns-then-is_ascii_digit : goal.returns-then-is_ascii_digit
 returns-then-is_ascii_digit c =
-    number_front c.args.bytes.now c.number_symbol.result c.digits_len-size.result c.requires.some c.requires.visible
-    (omega arith) (sym c.if-is_ascii_alphabetic.ensures.value) (sym c.if-is_ascii_digit.ensures.value)
-    c.digits_len-size.ensures c.number_symbol.ensures
+    number_front _ _ _ c.requires.some c.requires.visible (omega arith) (sym c.if-is_ascii_alphabetic.ensures.value)
+    (sym c.if-is_ascii_digit.ensures.value) c.digits_len-size.ensures c.number_symbol.ensures
 
 pub returns-else-is_ascii_digit : goal.returns-else-is_ascii_digit
 returns-else-is_ascii_digit c =

@@ -1,5 +1,5 @@
 use Rattle.pl0_tree.proofs.SharedLemmas.{handed_on}
-use Rattle.pl0_parser.proofs.Common.{ap, token_at, ending, left_of, Marked, Period, RefusedAll, ◌∙◌, ◌∷◌}
+use Rattle.pl0_parser.proofs.Common.{ending, left_of, RefusedAll}
 use Rattle.pl0_parser.proofs.Progress.{stays_all, fails}
 use Rattle.pl0_parser.proofs.Statements.{marked}
 use Rattle.pl0_parser.proofs.text.expect_end.Goals as goal
@@ -13,16 +13,5 @@ returns-in_err-rest-clause-fault c =
 pub returns-in_err-finish-clause-fault : goal.returns-in_err-finish-clause-fault
 returns-in_err-finish-clause-fault c =
     let tokens = left_of c.args.tokens in
-    handed_on (RefusedAll ending tokens) c.from_residual-in_err-finish.result c.in_err-finish.field-0.0
-    c.from_residual-in_err-finish.ensures.1
-    (fails c.in_err-finish.field-0.0 (marked {rest = left_of c.in_ok-rest.rest}
+    handed_on _ _ _ c.from_residual-in_err-finish.ensures.1 (fails _ (marked {rest = left_of c.in_ok-rest.rest}
     (stays_all {wanted = ending} {tokens = tokens}) c.in_ok-rest.ensures) c.in_err-finish.ensures)
-
-pub returns-clause-ended : goal.returns-clause-ended
-returns-clause-ended c =
-    let period = c.in_ok-rest.ensures in (
-      period.0,
-      c.in_ok-rest.rest.end,
-      period.1 ∙ ap (λ ts. token_at (Marked Period) period.0 ∷ ts)
-          c.in_ok-finish.ensures,
-    )
