@@ -14,5 +14,3 @@ mod Taking
 mod Meanwhile
 -- A session that only waits is one over an inbox; for `serve_inbox`.
 mod Waiting
--- What responses and events say; for `message_laws`.
-pub mod Saying

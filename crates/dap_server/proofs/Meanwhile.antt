@@ -1,5 +1,5 @@
 -- Items are taken one after another, and the adapter works meanwhile.
-use Rattle.std.proofs.Common.{◌≡◌, ℕ, Bool, true, List, [], ◌∷◌, ◌++◌, refl, sym, ap, subst, None, Some, inl, inr}
+use Rattle.std.proofs.Common.{◌≡◌, ℕ, Bool, true, List, [], ◌∷◌, ◌++◌, refl, subst, None, Some, inl, inr}
 use Rattle.std.specs.Prelude.{Result, Err}
 use Rattle.byte_streams.proofs.Appending.{appends_none, appends_both}
 use Rattle.byte_streams.specs.Streams.{StreamLog, Appends}
@@ -22,8 +22,7 @@ working_nowhere replies works busy gives polls a inbox written =
 written_both : (first later : List (List ℕ)) (old now new : StreamLog) → Appends old now (frames_of first)
     → Appends now new (frames_of later) → Appends old new (frames_of (first ++ later))
 written_both first later old now new wrote more =
-    subst (Appends old new) (sym (frames_of-append first later))
-    (appends_both old now new (frames_of first) (frames_of later) wrote more)
+    rw (frames_of-append first later) (appends_both old now new (frames_of first) (frames_of later) wrote more)
 
 -- an item is taken
 working_item : {S I : Type 0} (replies : Replies S) (works : Works S) (busy : S → Bool) (gives : Gives I) (polls :
@@ -50,9 +49,8 @@ pub working_bytes : {S I : Type 0} (replies : Replies S) (works : Works S) (busy
     → Working replies works busy gives polls a c more inbox left (Appends old new)
 working_bytes replies works busy gives polls a b c rest more inbox mid left bytes old now new first gave there
     is_open progress =
-    working_item replies works busy gives polls a b c rest more inbox mid left (Bytes bytes) progress.texts old now
-    new first gave
-    there is_open (progress.contents, progress.cut, progress.talk) progress.written
+    working_item replies works busy gives polls a b c rest more inbox mid left _ _ old now new first gave there is_open
+    (progress.contents, progress.cut, progress.talk) progress.written
 
 pub working_event : {S I : Type 0} (replies : Replies S) (works : Works S) (busy : S → Bool) (gives : Gives I) (polls
     : Polls I) (a b : State S) (next : ℕ)
@@ -64,19 +62,15 @@ pub working_event : {S I : Type 0} (replies : Replies S) (works : Works S) (busy
 working_event replies works busy gives polls a b next rest inbox mid left event events old now new first gave there
     is_open is all =
     let tells = subst (λ l. Tells l b.next next (Appends now new)) is all in
-    working_item replies works busy gives polls a b (state b.adapter next true) rest rest inbox mid left (Event
-    event) tells.texts
-    old now new first gave there is_open (tells.texts_are, ap (λ n. state b.adapter n true) tells.numbered, refl)
-    tells.written
+    working_item replies works busy gives polls a b _ rest rest inbox mid left _ tells.texts old now new first gave
+    there is_open (tells.texts_are, cc tells.numbered, refl) tells.written
 
 -- the adapter is the same
 pub working_same : {S I : Type 0} (replies : Replies S) (works : Works S) (busy : S → Bool) (gives : Gives I)
     (polls : Polls I) (a : State S) (s t : S) (next : ℕ) (rest : List ℕ) (inbox mid : I) (old now : StreamLog)
     → Working replies works busy gives polls a (state s next true) rest inbox mid (Appends old now) → t ≡ s
     → Working replies works busy gives polls a (state t next true) rest inbox mid (Appends old now)
-working_same replies works busy gives polls a s t next rest inbox mid old now working same =
-    subst (λ x. Working replies works busy gives polls a (state x next true) rest inbox mid (Appends old now))
-    (sym same) working
+working_same replies works busy gives polls a s t next rest inbox mid old now working same = rw same working
 
 -- the adapter works
 pub working_part : {S I : Type 0} (replies : Replies S) (works : Works S) (busy : S → Bool) (gives : Gives I)
@@ -87,14 +81,10 @@ pub working_part : {S I : Type 0} (replies : Replies S) (works : Works S) (busy 
     → Tells events b.next next (Appends now new)
     → Working replies works busy gives polls a (state adapter next true) rest inbox left (Appends old new)
 working_part replies works busy gives polls a b adapter next rest inbox mid left events old now new first looked
-    there is_open
-    worked tells =
-    subst (λ n. Working replies works busy gives polls a (state adapter n true) rest inbox left (Appends old new))
-    (sym tells.numbered) (record {
+    there is_open worked tells = rw tells.numbered (record {
       texts = first.texts ++ tells.texts;
-      course = works_on b adapter rest mid left events first.texts tells.texts first.course there is_open looked.0
-          looked.1
-          worked tells.texts_are;
+      course = works_on b adapter rest mid left events
+          first.texts tells.texts first.course there is_open looked.0 looked.1 worked tells.texts_are;
       written = written_both first.texts tells.texts old now new first.written tells.written;
     })
 

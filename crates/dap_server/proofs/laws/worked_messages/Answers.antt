@@ -14,6 +14,3 @@ returns-clause-refusals c = refl
 pub returns-clause-disconnect : goal.returns-clause-disconnect
 unfolding digits escape_byte
 returns-clause-disconnect c = refl
-
-pub returns-clause-limits : goal.returns-clause-limits
-returns-clause-limits c = (refl, refl)
