@@ -30,7 +30,7 @@ pub enum ArgumentsFault {
 
 /// What `--help` prints. The version stands in its first line.
 pub const HELP: &str =
-    "pl0dap 1.2.0: a debug adapter for PL/0, which speaks the Debug Adapter Protocol.
+    "pl0dap 1.3.0: a debug adapter for PL/0, which speaks the Debug Adapter Protocol.
 
 Usage: pl0dap [--check FILE]
 

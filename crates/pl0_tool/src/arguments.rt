@@ -146,7 +146,7 @@ fn program<'a>(alloc: Global) -> Command<'a>
     ensures { app_of result ≡ program }
 {
     Command::new(alloc, "pl0")
-        .version("1.2.0")
+        .version("1.3.0")
         .about(
             "Runs, traces, checks, lists and draws programs in PL/0, the language of Wirth's compiler book",
         )
