@@ -535,7 +535,7 @@ inline finish() {
 }
 
 /* @ dap_session/src/driving.rt: drive, next_event, try_quit
- * @ adapter/src/thread_tasks.rt: SessionTask::run, SessionTask::give_up
+ * @ adapter/src/thread_tasks.rt: SessionTask::run, SessionTask::leave
  * @ adapter/src/tasks.rt: run_beside
  */
 proctype Session(bool started) {
@@ -543,7 +543,7 @@ proctype Session(bool started) {
     byte current, number, count, frames, in_hand, requests;
     bool backward, held, closes, over;
     if
-    :: !started ->      /* give_up: a thread couldn't be started */
+    :: !started ->      /* SessionTask::leave: a thread couldn't be started */
 #ifndef GIVES_UP_NO_MARK
         finish();
 #endif
@@ -711,8 +711,8 @@ judged:
 }
 
 /* @ adapter/src/serving.rt: serve
- * @ adapter/src/tasks.rt: start
- * A thread that can't be started has its ends dropped.
+ * @ adapter/src/tasks.rt: begin
+ * Where a thread can't be started, the session's does its task once it has left, which never waits then; or none does it.
  */
 init {
     atomic {

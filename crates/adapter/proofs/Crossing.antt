@@ -14,7 +14,9 @@ use Rattle.dap_wires.specs.contracts.writer_end.WriterEnd as WriterEnd
 use Rattle.dap_wires.specs.contracts.writer_message.WriterMessage as WriterMessage
 use Rattle.dap_wires.proofs.ends.ReceiveEnd.TheSendSync as receive_end
 use Rattle.dap_wires.proofs.Crossing.{client_sender_send, client_sender_field_send, report_sender_send, report_sender_field_send, order_receiver_send, order_receiver_field_send}
+use Rattle.adapter.specs.contracts.thread_tasks.ReaderOutput as ReaderOutput
 use Rattle.adapter.specs.contracts.thread_tasks.ReaderTask as ReaderTask
+use Rattle.adapter.specs.contracts.thread_tasks.RunnerOutput as RunnerOutput
 use Rattle.adapter.specs.contracts.thread_tasks.RunnerTask as RunnerTask
 use Rattle.adapter.specs.contracts.thread_tasks.WriterTask as WriterTask
 
@@ -37,14 +39,13 @@ runner_task_send α G R g r =
     let a = order_receiver_field_send R r in let b =
     report_sender_field_send R r in search (crosses, sendable) depth 60 fits 20000
 
-pub runner_output_send : (α : NamedLft) (G R : RattleType) → IsSend G → IsSend R
-    → IsSend (Tuple (OrderReceiver.the_row R ∷ ReportSender.the_row R ∷ MutRef α.mir α.lft G ∷ []))
+pub runner_output_send : (α : NamedLft) (G R : RattleType) → IsSend G → IsSend R → IsSend (RunnerOutput.the_row α G R)
 runner_output_send α G R g r =
-    let a = order_receiver_send R r in let b = report_sender_send R r in search (crosses, sendable) depth 60 fits 20000
+    let a = order_receiver_field_send R r in let b =
+    report_sender_field_send R r in search (crosses, sendable) depth 60 fits 20000
 
 pub reader_task_send : (α : NamedLft) (I R : RattleType) → IsSend I → IsSend R → IsSend (ReaderTask.the_row α I R)
 reader_task_send α I R i r = let a = client_sender_field_send R r in search (crosses, sendable) depth 60 fits 20000
 
-pub reader_output_send : (α : NamedLft) (I R : RattleType) → IsSend I → IsSend R
-    → IsSend (Tuple (MutRef α.mir α.lft I ∷ ClientSender.the_row R ∷ ReadEnd.the_row ∷ []))
-reader_output_send α I R i r = let a = client_sender_send R r in search (crosses, sendable) depth 60 fits 20000
+pub reader_output_send : (α : NamedLft) (I R : RattleType) → IsSend I → IsSend R → IsSend (ReaderOutput.the_row α I R)
+reader_output_send α I R i r = let a = client_sender_field_send R r in search (crosses, sendable) depth 60 fits 20000

@@ -4,6 +4,8 @@ pub mod ListingLines
 mod ArgumentKinds
 -- What each thread knows at its end gives together what `serve` promises; for `serve` and `serving_laws`.
 mod Gathered
+-- Whether the session was driven or not, what the four know gives together what `serve` promises; for `serve`.
+mod Together
 -- How much of the input a session took, by what closed it; for the clauses `input`, `disconnect` and `answered` of
 -- `serving_laws`.
 mod InputTaken

@@ -24,5 +24,7 @@ pub mod Loading
 -- What the program does with its arguments, and how it ends.
 pub mod Running
 -- What private contracts cite.
--- What the session's thread leaves when it ends.
+-- How a task ends that is given to a thread.
+pub mod Tasks
+-- What the threads of the reader and the session leave when they end.
 pub mod ThreadTasks

@@ -133,11 +133,18 @@ outcome_of (Ok done) (Ok closed.InputEnded) = Ok served.InputEnded
 outcome_of (Ok done) (Ok closed.ReadFailed) = Err fault.ReadFailed
 outcome_of (Ok done) (Err f) = Err (fault.Session f)
 
--- Serving ended with this outcome. Where there was no memory for the queues, nothing was done. Where a thread can't be
--- started, the loader was asked for nothing; of the streams and the gate nothing is known.
+-- Nothing was loaded, run, read or written. A write may have failed.
+pub record ServesNothing (before after : World) : Type 0 where
+  pub loads_are : after.loads ≡ before.loads
+  pub passed_are : after.passed ≡ before.passed
+  pub input_is : after.streams.input ≡ before.streams.input
+  pub written_are : after.streams.output.written ≡ before.streams.output.written
+
+-- Serving ended with this outcome. Where there was no memory for the queues, nothing was done; where a thread can't be
+-- started, nothing that is seen outside.
 pub data IsServed (first : FirstSeq) (outcome : Result Served ServeFault) (before after : World) : Type 0 where
   tasks_ended : (wrote : Result (Unit {0}) WriteFailed) (result : Result Closed SessionFault)
       → outcome ≡ outcome_of wrote result → TasksEnd first wrote result before after
       → IsServed first outcome before after
   had_no_memory : outcome ≡ Err (fault.Session NoMemory) → after ≡ before → IsServed first outcome before after
-  had_no_thread : outcome ≡ Err fault.NoThread → after.loads ≡ before.loads → IsServed first outcome before after
+  had_no_thread : outcome ≡ Err fault.NoThread → ServesNothing before after → IsServed first outcome before after

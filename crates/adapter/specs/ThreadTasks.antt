@@ -1,5 +1,7 @@
--- Defines what the session's thread leaves when it ends.
-use Rattle.std.specs.Prelude.{◌≡◌, ◌≢◌, ◌⊎◌, [], false, List, Result}
+-- Defines what the threads of the reader and the session leave when they end, whether their work was done or not.
+use Rattle.std.specs.Prelude.{◌≡◌, ◌≢◌, ◌⊎◌, ◌++◌, ◌∷◌, [], false, List, Option, None, Some, Result, Err}
+use Rattle.byte_streams.specs.declared.writing.WriteFailed.{WriteFailed}
+use Rattle.byte_streams.specs.Streams.{Supply, IsOfWhole}
 use Rattle.dap_msg.specs.declared.request.FirstSeq.{FirstSeq}
 use Rattle.dap_history.specs.declared.fault.SessionFault.{SessionFault}
 use Rattle.dap_history.specs.declared.ending.Closed.{Closed}
@@ -7,8 +9,15 @@ use Rattle.dap_history.specs.Events.{Incoming}
 use Rattle.dap_history.specs.Interleaving.{Load}
 use Rattle.dap_session.specs.Ports.{Ports, PushedOrders}
 use Rattle.dap_session.specs.Serving.{Driven}
+use Rattle.dbg_runner.specs.Plain.{Quit}
+use Rattle.dap_wires.specs.declared.reading.ReadEnd.{ReadEnd}
 use Rattle.dap_wires.specs.declared.writer_message.WriterMessage.{WriterMessage}
+use Rattle.dap_wires.specs.Reading.{IsReadUntil}
 use Rattle.dap_wires.specs.WriterMessages.{frames_in, has_end, AreEnded}
+use Rattle.adapter.specs.declared.serving.Served.{Served}
+use Rattle.adapter.specs.declared.serving.ServeFault.{ServeFault}
+use Rattle.adapter.specs.declared.serving.ServeFault.TheVariants.{NoThread}
+use Rattle.adapter.specs.Serving.{outcome_of}
 
 -- A session was driven over its ends: these messages were put, and these orders pushed. `End` was put after the frames,
 -- or not at all; and where a frame was refused, it was not put.
@@ -22,3 +31,30 @@ pub record SessionLeaves (first : FirstSeq) (result : Result Closed SessionFault
   pub never_gone : later.runner_gone ≡ 0
   pub ended : (has_end messages ≡ false) ⊎ AreEnded messages
   pub refused : later.refused ≢ [] → has_end messages ≡ false
+
+-- A session was not driven: it asked the loader for nothing, and put nothing but a `Quit`, for the runner, and `End`.
+pub record SessionIsLeft (loads later_loads : List Load) (old : Ports) (messages : List WriterMessage)
+    (pushed : PushedOrders) : Type 0 where
+  pub loads_are : later_loads ≡ loads
+  pub frames_are : frames_in messages ≡ old.frames
+  pub orders_are : (pushed.orders ≡ old.orders) ⊎ (pushed.orders ≡ old.orders ++ Quit ∷ [])
+
+-- A session was driven and ended so, or was not driven.
+abbrev pub SessionEndsAs : FirstSeq → Option (Result Closed SessionFault) → List Incoming → List Incoming → List Load
+    → List Load → Ports → List WriterMessage → PushedOrders → Type 0
+SessionEndsAs first (Some result) given later_given loads later_loads old messages pushed =
+    SessionLeaves first result given later_given loads later_loads old messages pushed
+SessionEndsAs first None given later_given loads later_loads old messages pushed =
+    SessionIsLeft loads later_loads old messages pushed
+
+-- The input was read until reading ended so, and what was read was sent, all of it the input's own; or it is as it was.
+abbrev pub ReaderEndsAs : Option ReadEnd → List Incoming → List Incoming → Supply → Supply → Type 0
+ReaderEndsAs (Some end) sent later_sent old later =
+    ((more : List Incoming) × (later_sent ≡ sent ++ more) × IsReadUntil end more old later) × ∥ IsOfWhole later ∥₁
+ReaderEndsAs None sent later_sent old later = later ≡ old
+
+-- how serving ended, by how the writer ended, and the session, which is not driven if a thread can't be started
+abbrev pub outcome_if_driven : Result (Unit {0}) WriteFailed → Option (Result Closed SessionFault)
+    → Result Served ServeFault
+outcome_if_driven wrote (Some result) = outcome_of wrote result
+outcome_if_driven wrote None = Err NoThread

@@ -1,13 +1,11 @@
 //! Telling how serving ended as soon as that is known.
 
 ghost use Rattle.std.specs.Prelude.{◌≡◌};
-ghost use Rattle.adapter.specs.Serving.{outcome_of};
+ghost use Rattle.adapter.specs.ThreadTasks.{outcome_if_driven};
 
 use crate::serving::{ServeFault, Served, outcome};
 use crate::tasks::Witness;
-use byte_streams::WriteFailed;
-use dap_session::{Closed, SessionFault};
-use dap_wires::{OutboxLog, SessionEnds};
+use crate::thread_tasks::{SessionOutput, WriterOutput};
 use std::sync::Wait;
 
 /// Is told how serving ended.
@@ -62,32 +60,20 @@ impl<'a, E> ListenerWitness<'a, E> {
     {
         ListenerWitness { listener }
     }
-
-    /// Returns the listener, which wasn't told.
-    pub(crate) fn into_listener(self) -> &'a mut E
-        ensures same_listener { result.ghost_name ≡ self.entry.listener.ghost_name }
-        ensures listener { result.now ≡ self.entry.listener.now }
-    {
-        self.listener
-    }
 }
 
 impl<'a, 'o, 'l, O, L, R: Wait + Drop, E: EndListener> Witness<
-    (&'o mut O, OutboxLog, Result<(), WriteFailed>),
-    (&'l mut L, SessionEnds<R>, Result<Closed, SessionFault>),
+    WriterOutput<'o, O>,
+    SessionOutput<'l, L, R>,
 > for ListenerWitness<'a, E> {
     type Output = &'a mut E;
 
     ghost sees = { λ w writer session listener. (listener.ghost_name ≡ w.listener.ghost_name)
-        × E.tells w.listener.now listener.now (outcome_of writer.2 session.2) };
+        × E.tells w.listener.now listener.now (outcome_if_driven writer.wrote session.closed) };
 
-    fn see(
-        self,
-        writer: &(&'o mut O, OutboxLog, Result<(), WriteFailed>),
-        session: &(&'l mut L, SessionEnds<R>, Result<Closed, SessionFault>),
-    ) -> &'a mut E {
+    fn see(self, writer: &WriterOutput<'o, O>, session: &SessionOutput<'l, L, R>) -> &'a mut E {
         let ListenerWitness { listener } = self;
-        listener.tell(outcome(&writer.2, &session.2));
+        listener.tell(outcome(&writer.wrote, &session.closed));
         listener
     }
 }

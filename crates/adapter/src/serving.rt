@@ -2,12 +2,13 @@
 //! one.
 
 ghost use Rattle.std.specs.Prelude.{◌≡◌};
-ghost use Rattle.adapter.specs.Serving.{streams, world, outcome_of, IsServed};
+ghost use Rattle.adapter.specs.Serving.{streams, world, IsServed};
+ghost use Rattle.adapter.specs.ThreadTasks.{outcome_if_driven};
 ghost use Rattle.dap_wires.specs.Wires.{AreUnused, AreJoined};
 
 use crate::listener::{EndListener, ListenerWitness, tell};
 use crate::tasks::run_beside;
-use crate::thread_tasks::tasks_over;
+use crate::thread_tasks::{ReaderOutput, RunnerOutput, SessionOutput, WriterOutput, tasks_over};
 use byte_streams::{Sink, Source, WriteFailed};
 use dap_session::{Closed, FirstSeq, Loader, SessionFault};
 use dap_wires::{Wires, reconcile};
@@ -51,8 +52,8 @@ const NO_MEMORY: Result<Served, ServeFault> = Err(ServeFault::Session(SessionFau
 ///
 /// After a failed write, or a session fault that is not a framing fault, a prefix was written of what the client's messages
 /// and the runs call for; after a failed read or a framing fault, all of it was written. Where several failed, a failed
-/// write is returned before a session fault, and that before a failed read. Where a thread can't be started, those that
-/// were started are joined.
+/// write is returned before a session fault, and that before a failed read. If a thread can't be started, those that were
+/// started are joined, and nothing was read, loaded, run or written.
 pub fn serve<R, I, O, L, G, E>(
     rt: &R,
     alloc: Global,
@@ -120,35 +121,37 @@ where
     );
     let witness = ListenerWitness::new(listener);
     // The reader is started last, since nothing can wake it from a read.
-    let done = run_beside(rt, writer, runner, reader, session, witness);
-    match done {
-        Ok(
-            (
-                (output, written, wrote),
-                (taken, reports, gate),
-                (input, client, _),
-                (loader, ends, closed),
-                listener,
-            ),
-        ) => {
-            end_loans(output, gate, input, loader, listener);
-            reconcile(client, reports, written, taken, ends);
-            outcome(&wrote, &closed)
-        }
-        Err((telling, loader)) => {
-            end_loan(loader);
-            tell(telling.into_listener(), Err(ServeFault::NoThread))
-        }
-    }
+    let (writer, runner, reader, session, listener) = run_beside(
+        rt, writer, runner, reader, session, witness,
+    );
+    let WriterOutput { output, log, wrote } = writer;
+    let RunnerOutput {
+        orders,
+        reports,
+        gate,
+    } = runner;
+    let ReaderOutput { input, inbox, .. } = reader;
+    let SessionOutput {
+        loader,
+        ends,
+        closed,
+    } = session;
+    end_loans(output, gate, input, loader, listener);
+    reconcile(inbox, reports, log, orders, ends);
+    outcome(&wrote, &closed)
 }
 
-/// Returns how serving ended, by how the writer and the session ended.
+/// Returns how serving ended, by how the writer and the session ended. The session was not driven if a thread can't be
+/// started.
 pub(crate) fn outcome(
     wrote: &Result<(), WriteFailed>,
-    closed: &Result<Closed, SessionFault>,
+    closed: &Option<Result<Closed, SessionFault>>,
 ) -> Result<Served, ServeFault>
-    ensures { result ≡ outcome_of wrote.now closed.now }
+    ensures { result ≡ outcome_if_driven wrote.now closed.now }
 {
+    let Some(closed) = closed else {
+        return Err(ServeFault::NoThread);
+    };
     if wrote.is_err() {
         return Err(ServeFault::WriteFailed);
     }

@@ -1,8 +1,7 @@
 //! The task of each thread of `serve`, with all that it needs.
 
-ghost use Rattle.std.specs.Prelude.{◌≡◌, ◌++◌, [], List, true, ⊤};
+ghost use Rattle.std.specs.Prelude.{◌≡◌, ◌++◌, [], List, true, ⊤, is_some};
 ghost use Rattle.std.specs.List.{flat_map};
-ghost use Rattle.dap_history.specs.Events.{Incoming};
 ghost use Rattle.dap_session.specs.Ports.{ports};
 ghost use Rattle.dap_session.specs.Serving.{Driven};
 ghost use Rattle.dbg_runner.specs.Runner.{Act, Idle, Ended, DoesAll};
@@ -11,13 +10,11 @@ ghost use Rattle.dap_wires.specs.declared.writer_message.WriterMessage.{WriterMe
 ghost use Rattle.dap_wires.specs.Inbox.{client_events, client_queue, sent_reports, refused_reports, report_queue, taken_events, event_queue, session_events, session_origin, received, left_queue};
 ghost use Rattle.dap_wires.specs.Outbox.{put_frames, keeps_none, frame_queue, messages_put, ended_queue, messages_taken, messages_received, received_queue, writer_queue, end_taken, end_queue, end_first};
 ghost use Rattle.dap_wires.specs.Orders.{pushed_orders, push_queue, taken_orders, pop_queue};
-ghost use Rattle.byte_streams.specs.Streams.{IsOfWhole};
-ghost use Rattle.dap_wires.specs.Reading.{IsReadUntil};
 ghost use Rattle.dap_wires.specs.Writing.{IsWrittenUntil, OwesNothing};
-ghost use Rattle.adapter.specs.ThreadTasks.{SessionLeaves};
+ghost use Rattle.adapter.specs.ThreadTasks.{SessionEndsAs, ReaderEndsAs};
 
 use crate::gates::{Gated, OpenGate};
-use crate::tasks::{LastTask, Task};
+use crate::tasks::{OptionalTask, Task};
 use byte_streams::{Sink, Source, WriteFailed};
 use dap_session::{Closed, FirstSeq, Loader, Order, Orders, SessionFault, drive};
 use dap_wires::{
@@ -37,25 +34,47 @@ pub struct ReaderTask<'a, I, R: Wait + Drop> {
     inbox: ClientSender<R>,
 }
 
+/// What the reader's task returns.
+#[derive(Drop)]
+pub struct ReaderOutput<'a, I, R: Wait + Drop> {
+    pub input: &'a mut I,
+    pub inbox: ClientSender<R>,
+    /// How reading ended; `None` if nothing was read.
+    pub end: Option<ReadEnd>,
+}
+
 impl<'a, I: Source, R: Wait + Drop> Task for ReaderTask<'a, I, R> {
-    type Output = (&'a mut I, ClientSender<R>, ReadEnd);
+    type Output = ReaderOutput<'a, I, R>;
 
     ghost can_run = { λ _. ⊤ };
 
-    ghost gives = { λ t r. (r.0.ghost_name ≡ t.input.ghost_name) × (client_queue r.1 ≡ client_queue t.inbox)
-        × ((sent : List Incoming) × (client_events r.1 ≡ client_events t.inbox ++ sent)
-        × IsReadUntil r.2 sent (I.supply t.input.now) (I.supply r.0.now))
-        × ∥ IsOfWhole (I.supply r.0.now) ∥₁ };
+    ghost gives = { λ t r. (r.input.ghost_name ≡ t.input.ghost_name) × (client_queue r.inbox ≡ client_queue t.inbox)
+        × ReaderEndsAs r.end (client_events t.inbox) (client_events r.inbox) (I.supply t.input.now)
+        (I.supply r.input.now) };
 
-    fn run(self) -> (&'a mut I, ClientSender<R>, ReadEnd) {
+    ghost is_done = { λ r. is_some r.end };
+
+    fn run(self) -> ReaderOutput<'a, I, R> {
         let ReaderTask {
             rt,
             alloc,
             input,
             mut inbox,
         } = self;
-        let end = read_loop(&rt, alloc, input, &mut inbox);
-        (input, inbox, end)
+        let end = Some(read_loop(&rt, alloc, input, &mut inbox));
+        ReaderOutput { input, inbox, end }
+    }
+}
+
+/// If a thread can't be started, nothing is read.
+impl<'a, I: Source, R: Wait + Drop> OptionalTask for ReaderTask<'a, I, R> {
+    fn leave(self) -> ReaderOutput<'a, I, R> {
+        let ReaderTask { input, inbox, .. } = self;
+        ReaderOutput {
+            input,
+            inbox,
+            end: None,
+        }
     }
 }
 
@@ -67,23 +86,37 @@ pub struct WriterTask<'a, O, R: Wait + Drop> {
     outbox: WriterEnd<O, R>,
 }
 
+/// What the writer's task returns.
+#[derive(Drop)]
+pub struct WriterOutput<'a, O> {
+    pub output: &'a mut O,
+    pub log: OutboxLog,
+    pub wrote: Result<(), WriteFailed>,
+}
+
 impl<'a, O: Sink, R: Wait + Drop> Task for WriterTask<'a, O, R> {
-    type Output = (&'a mut O, OutboxLog, Result<(), WriteFailed>);
+    type Output = WriterOutput<'a, O>;
 
     ghost can_run = { λ t. OwesNothing (end_taken t.outbox) (O.output (end_first t.outbox)) (O.output t.output.now) };
 
-    ghost gives = { λ t r. (r.0.ghost_name ≡ t.output.ghost_name) × (received_queue r.1 ≡ end_queue t.outbox)
-        × ((taken : List WriterMessage) × (messages_received r.1 ≡ end_taken t.outbox ++ taken)
-        × IsWrittenUntil r.2 taken (O.output t.output.now) (O.output r.0.now)) };
+    ghost gives = { λ t r. (r.output.ghost_name ≡ t.output.ghost_name) × (received_queue r.log ≡ end_queue t.outbox)
+        × ((taken : List WriterMessage) × (messages_received r.log ≡ end_taken t.outbox ++ taken)
+        × IsWrittenUntil r.wrote taken (O.output t.output.now) (O.output r.output.now)) };
 
-    fn run(self) -> (&'a mut O, OutboxLog, Result<(), WriteFailed>) {
+    ghost is_done = { λ _. true };
+
+    fn run(self) -> WriterOutput<'a, O> {
         let WriterTask {
             rt,
             output,
             mut outbox,
         } = self;
-        let end = write_loop(&rt, output, &mut outbox);
-        (output, outbox.leave(), end)
+        let wrote = write_loop(&rt, output, &mut outbox);
+        WriterOutput {
+            output,
+            log: outbox.leave(),
+            wrote,
+        }
     }
 }
 
@@ -97,19 +130,29 @@ pub struct RunnerTask<'a, G, R: Wait + Drop> {
     gate: &'a mut G,
 }
 
+/// What the runner's task returns.
+#[derive(Drop)]
+pub struct RunnerOutput<'a, G, R: Wait + Drop> {
+    pub orders: OrderReceiver<R>,
+    pub reports: ReportSender<R>,
+    pub gate: &'a mut G,
+}
+
 impl<'a, G: Gate, R: Wait + Drop> Task for RunnerTask<'a, G, R> {
-    type Output = (OrderReceiver<R>, ReportSender<R>, &'a mut G);
+    type Output = RunnerOutput<'a, G, R>;
 
     ghost can_run = { λ t. (taken_orders t.orders ≡ []) × (sent_reports t.reports ≡ [])
         × (refused_reports t.reports ≡ []) };
 
-    ghost gives = { λ t r. (pop_queue r.0 ≡ pop_queue t.orders) × (report_queue r.1 ≡ report_queue t.reports)
-        × (r.2.ghost_name ≡ t.gate.ghost_name)
+    ghost gives = { λ t r. (pop_queue r.orders ≡ pop_queue t.orders) × (report_queue r.reports ≡ report_queue t.reports)
+        × (r.gate.ghost_name ≡ t.gate.ghost_name)
         × ((acts : List Act) × DoesAll Idle acts Ended
-        × (taken_orders r.0 ≡ flat_map order_in acts) × (sent_reports r.1 ≡ flat_map sent_in acts)
-        × (G.passed r.2.now ≡ G.passed t.gate.now ++ flat_map passed_in acts)) };
+        × (taken_orders r.orders ≡ flat_map order_in acts) × (sent_reports r.reports ≡ flat_map sent_in acts)
+        × (G.passed r.gate.now ≡ G.passed t.gate.now ++ flat_map passed_in acts)) };
 
-    fn run(self) -> (OrderReceiver<R>, ReportSender<R>, &'a mut G) {
+    ghost is_done = { λ _. true };
+
+    fn run(self) -> RunnerOutput<'a, G, R> {
         let RunnerTask {
             rt,
             alloc,
@@ -121,7 +164,11 @@ impl<'a, G: Gate, R: Wait + Drop> Task for RunnerTask<'a, G, R> {
         work(&rt, alloc, &mut ports);
         let (ports, gate) = ports.into_parts();
         let (orders, reports, _) = ports.into_ports();
-        (orders, reports, gate)
+        RunnerOutput {
+            orders,
+            reports,
+            gate,
+        }
     }
 }
 
@@ -137,24 +184,35 @@ pub struct SessionTask<'a, L, R: Wait + Drop> {
     orders: OrderSender<R>,
 }
 
+/// What the session's task returns.
+#[derive(Drop)]
+pub struct SessionOutput<'a, L, R: Wait + Drop> {
+    pub loader: &'a mut L,
+    pub ends: SessionEnds<R>,
+    /// How the session ended; `None` if it was not driven.
+    pub closed: Option<Result<Closed, SessionFault>>,
+}
+
 impl<'a, L: Loader, R: Wait + Drop> Task for SessionTask<'a, L, R> {
-    type Output = (&'a mut L, SessionEnds<R>, Result<Closed, SessionFault>);
+    type Output = SessionOutput<'a, L, R>;
 
     // The inbox is that of a session over these ports, which has taken and put nothing.
     ghost can_run = { λ t. (session_events t.inbox ≡ []) × keeps_none t.outbox
         × (session_origin t.inbox
         ≡ ((session_origin t.inbox).0, t.first, t.loader.now, t.outbox, t.orders)) };
 
-    ghost gives = { λ t r. (r.0.ghost_name ≡ t.loader.ghost_name)
-        × (left_queue r.1.inbox ≡ (session_origin t.inbox).0)
-        × (ended_queue r.1.outbox ≡ frame_queue t.outbox)
-        × (push_queue r.1.orders ≡ push_queue t.orders)
-        × SessionLeaves t.first r.2 (session_events t.inbox) (received r.1.inbox) (L.loaded t.loader.now)
-        (L.loaded r.0.now)
-        (ports (put_frames t.outbox) (pushed_orders t.orders)) (messages_put r.1.outbox) (pushed_orders r.1.orders)
-        × (L.origin r.0.now ≡ L.origin t.loader.now) };
+    ghost gives = { λ t r. (r.loader.ghost_name ≡ t.loader.ghost_name)
+        × (left_queue r.ends.inbox ≡ (session_origin t.inbox).0)
+        × (ended_queue r.ends.outbox ≡ frame_queue t.outbox)
+        × (push_queue r.ends.orders ≡ push_queue t.orders)
+        × SessionEndsAs t.first r.closed (session_events t.inbox) (received r.ends.inbox) (L.loaded t.loader.now)
+        (L.loaded r.loader.now) (ports (put_frames t.outbox) (pushed_orders t.orders)) (messages_put r.ends.outbox)
+        (pushed_orders r.ends.orders)
+        × (L.origin r.loader.now ≡ L.origin t.loader.now) };
 
-    fn run(self) -> (&'a mut L, SessionEnds<R>, Result<Closed, SessionFault>) {
+    ghost is_done = { λ r. is_some r.closed };
+
+    fn run(self) -> SessionOutput<'a, L, R> {
         let SessionTask {
             rt,
             alloc,
@@ -166,32 +224,41 @@ impl<'a, L: Loader, R: Wait + Drop> Task for SessionTask<'a, L, R> {
         } = self;
         let events = &mut inbox;
         let end = drive(&rt, alloc, first, events, loader, &mut outbox, &mut orders);
-        let queues = SessionEnds {
+        let ends = SessionEnds {
             inbox: inbox.leave(),
             outbox: outbox.finish(),
             orders,
         };
-        (loader, queues, end)
+        SessionOutput {
+            loader,
+            ends,
+            closed: Some(end),
+        }
     }
 }
 
-/// Where the session isn't driven, the loader is asked for nothing.
-impl<'a, L: Loader, R: Wait + Drop> LastTask for SessionTask<'a, L, R> {
-    type Rest = &'a mut L;
-
-    ghost leaves = { λ t r. (r.ghost_name ≡ t.loader.ghost_name) × (L.loaded r.now ≡ L.loaded t.loader.now)
-        × (L.origin r.now ≡ L.origin t.loader.now) };
-
-    fn give_up(self) -> &'a mut L {
+/// If a thread can't be started, the session is not driven: the writer gets `End` and the runner `Quit`, and the loader is
+/// asked for nothing.
+impl<'a, L: Loader, R: Wait + Drop> OptionalTask for SessionTask<'a, L, R> {
+    fn leave(self) -> SessionOutput<'a, L, R> {
         let SessionTask {
             loader,
+            inbox,
             outbox,
             mut orders,
             ..
         } = self;
-        outbox.finish();
         let _ = orders.push(Order::Quit);
-        loader
+        let ends = SessionEnds {
+            inbox: inbox.leave(),
+            outbox: outbox.finish(),
+            orders,
+        };
+        SessionOutput {
+            loader,
+            ends,
+            closed: None,
+        }
     }
 }
 
