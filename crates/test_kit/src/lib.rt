@@ -22,7 +22,7 @@ mod runner;
 mod runner_ports;
 mod session;
 mod session_ports;
-mod strict_inbox;
+mod strict_ports;
 
 pub use debuggees::{Asked, breakpoints_at, debuggee_of, machine_of, put_in};
 pub use framing::framed;
@@ -30,4 +30,4 @@ pub use runner::Runner;
 pub use runner_ports::{Last, OneRun, Open, Tray};
 pub use session::{Outcome, Room, run_session};
 pub use session_ports::{Events, Files, Noted, Shared};
-pub use strict_inbox::{StrictInbox, drive_strictly};
+pub use strict_ports::{StrictInbox, StrictLoader, drive_strictly};

@@ -1,11 +1,14 @@
-//! An inbox that may be asked only where a session owes nothing.
+//! An inbox and a loader that may be asked only where a session owes nothing else.
 
 ghost use Rattle.std.specs.Prelude.{◌≡◌, [], map};
 ghost use Rattle.dap_session.specs.Incoming.{incoming_of};
 ghost use Rattle.dap_session.specs.Ports.{ports};
 
 use crate::session_ports::Events;
-use dap_session::{Closed, Event, FirstSeq, Inbox, Loader, Orders, Out, SessionFault, drive};
+use dap_session::{
+    Closed, Event, FirstSeq, GuardedLoader, Inbox, LoadFault, Loader, Orders, Out, SessionFault,
+    drive,
+};
 use dbg_runner::GhostList;
 use std::alloc::Global;
 use std::sync::Wait;
@@ -18,7 +21,8 @@ pub struct StrictInbox<E: Events> {
     given: GhostList<Event>,
 }
 
-impl<L: Loader, O: Out, D: Orders, E: Events> Inbox<L, O, D> for StrictInbox<E> {
+impl<L: GuardedLoader<StrictInbox<E>, O, D>, O: Out, D: Orders, E: Events> Inbox<L, O, D>
+    for StrictInbox<E> {
     ghost use Rattle.std.specs.Prelude.{map, ⊤, []};
     ghost use Rattle.dap_msg.specs.declared.request.FirstSeq.TheVariants.{One};
     ghost use Rattle.dap_session.specs.Coming.{sources};
@@ -44,17 +48,52 @@ impl<L: Loader, O: Out, D: Orders, E: Events> Inbox<L, O, D> for StrictInbox<E> 
     }
 }
 
-/// Drives a session over such an inbox: what `drive` requires isn't empty.
-pub fn drive_strictly<R: Wait, E: Events, L: Loader, O: Out, D: Orders>(
+/// A loader that may be asked only for the file of the launch that such a session waits for, where it owes nothing else.
+#[derive(Drop)]
+pub struct StrictLoader<L: Loader + Drop>(L);
+
+impl<L: Loader + Drop, O: Out, D: Orders, E: Events> GuardedLoader<StrictInbox<E>, O, D>
+    for StrictLoader<L> {
+    ghost use Rattle.std.specs.Prelude.{map, [], Some};
+    ghost use Rattle.dap_msg.specs.declared.request.FirstSeq.TheVariants.{One};
+    ghost use Rattle.dap_session.specs.Coming.{sources};
+    ghost use Rattle.dap_session.specs.Incoming.{incoming_of};
+    ghost use Rattle.dap_session.specs.Ports.{ports};
+    ghost use Rattle.dap_session.specs.Serving.{OwesOnly};
+
+    ghost loaded = { λ l. L.loaded l.0 };
+
+    ghost Origin = { L.Origin };
+
+    ghost origin = { λ l. L.origin l.0 };
+
+    ghost may_load = { λ l path i o d. OwesOnly One (Some path) (sources [] [])
+        (sources (map incoming_of i.given.entries) (L.loaded l.0))
+        (ports (record { frames = []; refused = [] }) (record { orders = []; fulls = 0; refusals = 0 }))
+        (ports (O.seen o) (D.seen d)) };
+
+    fn load(
+        &mut self,
+        path: &str,
+        _inbox: &StrictInbox<E>,
+        _out: &O,
+        _orders: &D,
+    ) -> Result<Vec<u8>, LoadFault> {
+        self.0.load(path)
+    }
+}
+
+/// Drives a session over such ports: what `drive` requires isn't empty.
+pub fn drive_strictly<R: Wait, E: Events, L: Loader + Drop, O: Out, D: Orders>(
     rt: &R,
     alloc: Global,
     inbox: &mut StrictInbox<E>,
-    loader: &mut L,
+    loader: &mut StrictLoader<L>,
     out: &mut O,
     orders: &mut D,
 ) -> Result<Closed, SessionFault>
     requires events { map incoming_of inbox.old.given.entries ≡ [] }
-    requires loads { L.loaded loader.old ≡ [] }
+    requires loads { L.loaded loader.old.0 ≡ [] }
     requires out { O.seen out.old ≡ record { frames = []; refused = [] } }
     requires orders { D.seen orders.old ≡ record { orders = []; fulls = 0; refusals = 0 } }
 {
