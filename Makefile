@@ -150,7 +150,7 @@ vsix:
 TO ?= out/adapter-kit
 .PHONY: adapter-kit
 adapter-kit:
-	@python3 tools/adapter_kit.py "$(TO)"
+	@python3 tools/adapter_kit.py "$(patsubst ~/%,$(HOME)/%,$(TO))"
 
 # The merge gate: proves everything from nothing, and runs everything.
 check:

@@ -255,7 +255,7 @@ def refusal(command: str, given: dict) -> str | None:
     if command == "setBreakpoints" and "lines" in given and "breakpoints" not in given:
         return "`breakpoints` is missing"
     if command in (*RESUMING, "pause", "stackTrace") and whole_at(given, "threadId") not in (None, 1):
-        return "no such thread is there"
+        return "there is no such thread"
     return None
 
 

@@ -1,8 +1,8 @@
 /* The four threads of `serve`, the three queues between them, the window over outputs, and a client.
  *
  * Contracts say what each thread does, and not that it goes on. Explored here, in every interleaving: that no thread
- * waits for ever, that a pause is seen, that the process ends, and that nothing is lost. docs/THREADS.md says what is
- * left out and what is assumed; explore.sh has the runs.
+ * that owes something waits for ever, that a pause is seen, that `serve` returns once the input ends, and that nothing
+ * is lost. docs/THREADS.md says what is left out and what is assumed; explore.sh has the runs.
  *
  * Data is left out, control is kept. Where the code asks the client, the program, the allocator or the system, the
  * model takes every answer, and takes it as late as it can: what a piece asks for, and why a run ended, is decided

@@ -13,7 +13,7 @@ use Rattle.dap_wires.specs.contracts.reading.ReadEnd as ReadEnd
 use Rattle.dap_wires.specs.contracts.writer_end.WriterEnd as WriterEnd
 use Rattle.dap_wires.specs.contracts.writer_message.WriterMessage as WriterMessage
 use Rattle.dap_wires.proofs.ends.ReceiveEnd.TheSendSync as receive_end
-use Rattle.dap_wires.proofs.Crossing.{client_sender_send, client_sender_field_send, report_sender_send, report_sender_field_send, order_receiver_send, order_receiver_field_send}
+use Rattle.dap_wires.proofs.Crossing.{client_sender_field_send, report_sender_field_send, order_receiver_field_send}
 use Rattle.adapter.specs.contracts.thread_tasks.ReaderOutput as ReaderOutput
 use Rattle.adapter.specs.contracts.thread_tasks.ReaderTask as ReaderTask
 use Rattle.adapter.specs.contracts.thread_tasks.RunnerOutput as RunnerOutput

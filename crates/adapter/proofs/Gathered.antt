@@ -145,9 +145,6 @@ found_gone f events given loads sent (gives_up cannot from short) = λ none.
     let broke = short.fails.breaks in
     not_empty short.fails.between.refused broke.frame (sym broke.refused_are ∙ (sym short.quit.refused_are ∙ none))
 
-pub moved : {xs ys : List PlainOrder} → EnoughWerePushed xs → xs ≡ ys → EnoughWerePushed ys
-moved four same = subst (λ orders. EnoughWerePushed orders) same four
-
 -- ---- the reader
 
 abbrev pub IsPiece : Incoming → Type 0

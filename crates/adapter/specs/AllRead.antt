@@ -31,7 +31,7 @@ pub record AnswersFrames (first : FirstSeq) (bytes : List ℕ) (requests : List 
   pub read : AreReadAs first contents requests
   pub answers : filter_map answered_request messages ≡ filter_map asked requests
 
--- Behind the whole frames stands less than one.
+-- The requests in the whole frames were answered; behind these frames stands less than one.
 pub record AnswersAll (first : FirstSeq) (bytes : List ℕ) (messages : List Outgoing) : Type 0 where
   pub requests : List (Option Request)
   pub rest : List ℕ

@@ -1,4 +1,4 @@
--- States laws of a whole run, which follow from `Serving`, in the form in which a reader looks for them.
+-- States laws of a call of `serve`, which follow from `Serving`, in the form in which a reader looks for them.
 use Rattle.std.specs.Prelude.{◌≡◌, ◌≢◌, ◌⊎◌, ◌++◌, ◌∷◌, [], ℕ, List, true, Option, None, Some, Result, Ok, Err}
 use Rattle.dap_msg.specs.declared.command.Command.TheVariants as command
 use Rattle.dbg_runner.specs.Laws.{taken_by, reports_of_run, AllButLastGoOn, HasLast, KeepsOn}

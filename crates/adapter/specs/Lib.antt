@@ -1,7 +1,7 @@
 -- What public contracts cite.
--- What a whole run over an input and an output reads and writes.
+-- What a call of `serve` reads and writes.
 pub mod Serving
--- The laws of a whole run.
+-- The laws of a call of `serve`.
 pub mod Laws
 -- What is answered where the input ends or a read fails.
 pub mod AllRead

@@ -1,4 +1,4 @@
--- Defines what a whole run over an input and an output reads and writes.
+-- Defines what a call of `serve` reads and writes, over an input and an output.
 use Rattle.std.specs.Prelude.{◌≡◌, ◌≢◌, ◌⊎◌, ◌++◌, [], true, ℕ, List, Result, Ok, Err}
 use Rattle.std.specs.Result.{is_err}
 use Rattle.std.specs.List.{concat, flat_map}

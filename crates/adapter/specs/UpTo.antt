@@ -33,7 +33,7 @@ pub record AnswersToDisconnect (first : FirstSeq) (bytes : List ℕ) (messages :
   pub before : List Outgoing
   pub is_last : messages ≡ before ++ Answer seq (name.Supported supported.Disconnect) (Ok body.None) ∷ []
 
--- Behind the whole frames stands this fault.
+-- The requests in the whole frames were answered; behind these frames stands this fault.
 pub record AnswersToFault (fault : FramingFault) (first : FirstSeq) (bytes : List ℕ) (messages : List Outgoing)
     : Type 0 where
   pub requests : List (Option Request)

@@ -30,7 +30,11 @@ pub(crate) trait Shown {
     /// The value that it is shown as.
     ghost shown: { Self → Data };
 
-    /// Returns it as a value.
+    /// Returns it as a value, with how many bytes that takes at most.
+    ///
+    /// # Errors
+    ///
+    /// An allocation failed.
     fn into_row(self, alloc: Global) -> Result<Row, AllocError>
         ensures value { IfOk result (λ row. view row.value ≡ shown self) }
         ensures size { IfOk result (λ row. row.size ≡ size_of (shown self)) };

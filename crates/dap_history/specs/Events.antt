@@ -1,4 +1,4 @@
--- Defines which items a list of events gives, in order. Nothing is an item after the session is closed.
+-- Defines which items a list of events gives, in order. Nothing is an item after the session has ended.
 use Rattle.std.specs.Prelude.{◌≡◌, ◌⊎◌, ◌++◌, ◌∷◌, [], ℕ, List, Option, None, Some, Result, Ok, Err}
 use Rattle.dap_frame.specs.declared.fault.FramingFault.{FramingFault}
 use Rattle.dap_frame.specs.Frame.{IsFrameInFront, IsOpen}

@@ -191,12 +191,12 @@ abbrev pub closing_command : Command → Option Ending
 closing_command command.Disconnect = Some (ending.Closed Disconnected)
 closing_command _ = None
 
--- how a report closes the session, if it does
+-- how a report ends the session, if it does
 abbrev pub closing_report : SliceOutcome → Option Ending
 closing_report slice.NoMemory = Some (ending.Fault NoMemory)
 closing_report _ = None
 
--- how an item closes the session, if it does
+-- how an item ends the session, if it does
 abbrev pub closing : Item → Option Ending
 closing (Content None) = None
 closing (Content (Some request)) = closing_command request.body

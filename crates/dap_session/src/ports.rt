@@ -151,6 +151,10 @@ pub trait Loader {
 
     /// Returns the bytes of the file at a path, or the first 65,537 of them where it has more: one more than a program's
     /// text may have.
+    ///
+    /// # Errors
+    ///
+    /// `CannotRead`, `NoMemory`: nothing was loaded, and the answer is noted as well.
     fn load(&mut self, path: &str) -> Result<Vec<u8>, LoadFault>
         ensures loaded { loaded self.new ≡ loaded self.old ++ load_of path.now (plain_file result) ∷ [] }
         ensures short { IfOk result (λ file. length file.items ≤ limit + 1) }
@@ -176,6 +180,10 @@ pub trait GuardedLoader<I, O, D> {
     ghost may_load: { Self → List ℕ → I → O → D → Type 0 } = { λ _ _ _ _ _. Unit {0} };
 
     /// Returns what [`Loader::load`] does. The other ports are lent to say what they have done by then.
+    ///
+    /// # Errors
+    ///
+    /// As there.
     fn load(&mut self, path: &str, inbox: &I, out: &O, orders: &D) -> Result<Vec<u8>, LoadFault>
         requires { may_load self.old path.now inbox.now out.now orders.now }
         ensures loaded { loaded self.new ≡ loaded self.old ++ load_of path.now (plain_file result) ∷ [] }

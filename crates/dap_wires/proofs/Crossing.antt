@@ -35,27 +35,13 @@ entry_send =
     search (parker.the_field_send, crosses, sendable) depth 60 fits 20000
 
 module _ (R : RattleType) where
-  pub client_sender_send : IsSend R → IsSend (ClientSender.the_row R)
-  client_sender_send r = let a = arrival_send in search (send_end.the_field_send, sendable) depth 60 fits 20000
-
   pub client_sender_field_send : IsSend R → IsSend (ClientSender.the_field R).row
   client_sender_field_send r = let a = arrival_send in search (send_end.the_field_send, sendable) depth 60 fits 20000
-
-  pub report_sender_send : IsSend R → IsSend (ReportSender.the_row R)
-  report_sender_send r =
-      let a = arrival_send in let b = report_send in let c = entry_send in search
-      (send_end.the_field_send, history.the_send, crosses, sendable) depth 60 fits 20000
 
   pub report_sender_field_send : IsSend R → IsSend (ReportSender.the_field R).row
   report_sender_field_send r =
       let a = arrival_send in let b = report_send in let c = entry_send in search
       (send_end.the_field_send, history.the_send, crosses, sendable) depth 60 fits 20000
-
-  pub order_receiver_send : IsSend R → IsSend (OrderReceiver.the_row R)
-  order_receiver_send r =
-      let a = order_send in let b = frees in let c = send in let d = sync in
-      search (seat.the_send, slotted.the_field_send, slotted.the_field_sync, parker.the_field_send, crosses, sendable)
-      depth 60 fits 20000
 
   pub order_receiver_field_send : IsSend R → IsSend (OrderReceiver.the_field R).row
   order_receiver_field_send r =

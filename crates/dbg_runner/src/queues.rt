@@ -46,7 +46,11 @@ pub trait Reports {
 
     ghost origin: { Self → Origin };
 
-    /// Sends a report. A report that can't be sent is returned.
+    /// Sends a report.
+    ///
+    /// # Errors
+    ///
+    /// The report itself, if it can't be sent.
     fn send(&mut self, report: Report) -> Result<(), Report>
         ensures sends { OnOk result (sent self.new ≡ sent self.old ++ plain_report report ∷ []) }
         ensures keeps_refused { OnOk result (handed_back self.new ≡ handed_back self.old) }
