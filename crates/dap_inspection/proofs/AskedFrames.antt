@@ -1,9 +1,10 @@
 -- The frames asked for, one by one.
-use Rattle.dap_inspection.proofs.Common.{Block, Configuration, Counting, Frame, IsShownAs, List, None, Option, Some, StackFrame, [], ap, arith, cases_eq, frame_at, frame_at-below, frame_at-top, frame_within, get_or, length, refl, same_Some, suc, sym, take, zero, ℕ, ⊎_elim, ◌++◌, ◌+◌, ◌-◌, ◌<◌, ◌∙◌, ◌∷◌, ◌≡◌}
-use Rattle.std.proofs.Common.{min, drop}
+use Rattle.dap_inspection.proofs.Common.{Block, Configuration, Counting, Frame, IsShownAs, List, None, Option, Some, StackFrame, [], ap, arith, cases_eq, frame_at, frame_at-below, frame_at-top, frame_within, get_or, length, refl, same_Some, suc, sym, take, ℕ, ⊎_elim, ◌++◌, ◌+◌, ◌-◌, ◌<◌, ◌∙◌, ◌∷◌, ◌≡◌}
+use Rattle.std.proofs.Common.{drop}
 use Rattle.std.proofs.lemmas.List.{take_more, take_all, take_min, get_or-drop, length-drop}
 use Rattle.dap_history.specs.Frames.{shown_frame, shown_frames, at_most}
 use Rattle.dap_inspection.specs.Showing.{count_shown}
+use Rattle.std.proofs.lemmas.Grind.{common_steps}
 
 -- frame i stands at this index from the top
 shown_at : (main : Block) (counting : Counting) (c : Configuration) (i : ℕ) (f : Frame) (d : StackFrame)
@@ -15,14 +16,13 @@ shown_at main counting (g ∷ below) i f d at =
     (λ same.
     let is : g ≡ f = same_Some g f (sym (frame_at-top g below i same) ∙ at) in
     let first : length (g ∷ below) - suc i ≡ 0 = omega (arith, same) in
-    ap (λ n. get_or (shown_frames main counting (g ∷ below)) n d) first
-    ∙ ap (λ n. shown_frame main counting g (n + 1)) same
-    ∙ ap (λ h. shown_frame main counting h (i + 1)) is)
+    cc)
     (λ other.
-    let at' = sym (frame_at-below g below i other) ∙ at in
+    let at' = sym (frame_at-below g below i other)
+    ∙ at in
     let inside = frame_within below i f at' in
     let later : length (g ∷ below) - suc i ≡ suc (length below - suc i) = omega (arith, inside) in
-    ap (λ n. get_or (shown_frames main counting (g ∷ below)) n d) later ∙ shown_at main counting below i f d at')
+    cc (shown_at main counting below i f d at'))
     (cases_eq (length below) i)
 
 -- those that are left after the first `start`
@@ -46,9 +46,7 @@ pub one_more : (main : Block) (counting : Counting) (c : Configuration) (start l
 one_more main counting c start left index shown s lefts lt is before =
     let rest = rest_of main counting c start in
     let there : index < length rest = omega (arith, rest_length main counting c start, lefts, lt) in
-    ap (λ xs. xs ++ s ∷ []) before
-    ∙ sym (ap (λ x. take index rest ++ x ∷ []) (next (frame_at c (left - index - 1)) refl is))
-    ∙ sym (take_more rest index s there)
+    cc (next (frame_at c (left - index - 1)) refl is, take_more rest index s there)
   where
     next : (o : Option Frame) → frame_at c (left - index - 1) ≡ o → IsShownAs main counting o (left - index) s →
         get_or (rest_of main counting c start) index s ≡ s
@@ -69,9 +67,4 @@ pub all_asked : (main : Block) (counting : Counting) (c : Configuration) (start 
     → left ≡ length c - start →
     take (count_shown levels left) (rest_of main counting c start) ≡ at_most levels (rest_of main counting c start)
 all_asked main counting c start levels left lefts =
-    asked levels (rest_of main counting c start) (lefts ∙ sym (rest_length main counting c start))
-  where
-    asked : (levels : ℕ) (xs : List StackFrame) → left ≡ length xs → take (count_shown levels left) xs
-        ≡ at_most levels xs
-    asked zero xs e = take_all left xs (omega (arith, e))
-    asked (suc n) xs e = ap (λ k. take (min (suc n) k) xs) e ∙ take_min (suc n) xs
+    grind (arith, common_steps, rest_length, take_all, take_min)

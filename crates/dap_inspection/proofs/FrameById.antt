@@ -1,5 +1,5 @@
 -- The scopes of the frame with an id, if it is alive.
-use Rattle.dap_inspection.proofs.Common.{Block, Configuration, IsAlive, List, Scope, Subject, ap, arith, frame_by_id, scopes_from, sym, ℕ, ◌-◌, ◌∙◌, ◌≡◌}
+use Rattle.dap_inspection.proofs.Common.{Block, Configuration, IsAlive, List, Scope, Subject, arith, frame_by_id, scopes_from, ℕ, ◌-◌, ◌≡◌}
 use Rattle.std.proofs.Common.{Ok}
 use Rattle.dap_msg.specs.declared.question.Shown.TheVariants as shown
 use Rattle.dap_history.specs.Inspection.{scopes}
@@ -11,6 +11,4 @@ pub scopes_with_id : (of : Subject) (main : Block) (c : Configuration) (id i : �
 scopes_with_id of main c id i found program alive is =
     let f = there c i alive.within in
     let number : i ≡ id - 1 = omega (arith, alive.is) in
-    ap (λ l. Ok (shown.Scopes l))
-    (is ∙ ap (λ b. scopes_from b c i) (sym program) ∙ ap (scopes_from of.program c) number)
-    ∙ sym (ap (scopes of id c) (by_id c id i alive ∙ f.1))
+    cc (by_id c id i alive, f.1)

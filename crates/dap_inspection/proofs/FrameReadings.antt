@@ -1,5 +1,5 @@
 -- Expressions that are read in a frame's scope, at the frame's next step, which stands in the frame's block.
-use Rattle.dap_inspection.proofs.Common.{Block, Configuration, Frame, FrameView, IsAlive, List, None, Option, Place, Shows, Some, ap, arith, frame_at, frame_by_id, inl, inr, length, refl, steps, subst, sym, ℕ, ℤ, ◌-◌, ◌<◌, ◌∙◌, ◌≡◌}
+use Rattle.dap_inspection.proofs.Common.{Block, Configuration, Frame, FrameView, IsAlive, List, None, Option, Place, Shows, Some, ap, arith, frame_at, frame_by_id, inl, length, steps, subst, sym, ℕ, ℤ, ◌-◌, ◌<◌, ◌∙◌, ◌≡◌}
 use Rattle.std.proofs.Common.{Result, Err}
 use Rattle.pl0_tree.specs.Plain.{plain_expression}
 use Rattle.pl0_tree.specs.declared.tree.Expression.{Expression as DeclaredExpression}
@@ -17,6 +17,7 @@ use Rattle.dap_msg.specs.declared.outgoing.Refusal.TheVariants as refusal
 use Rattle.dap_history.specs.Inspection.{EvaluatesIn, result_answer}
 use Rattle.dap_inspection.specs.Evaluate.{IsReadIn}
 use Rattle.dap_inspection.proofs.AliveFrames.{by_id}
+use Rattle.std.proofs.lemmas.Grind.{common_steps}
 
 -- the next step of a frame that was shown is a step of the program
 pub next_within : (main : Block) (o : Option Frame) (view : FrameView) → Shows main o view
@@ -28,8 +29,7 @@ pub read_there : NextStepsStandInTheirBlocks → (main : Block) (o : Option Fram
     (e : DeclaredExpression) → Shows main o view → IsExpressionOf main (step_path main view.next_step) text
     (plain_expression e) → IsReadIn main o text (Some e)
 read_there stand main None view text e shows is = absurd shows
-read_there stand main (Some f) view text e shows is =
-    subst (λ q. IsExpressionOf main q text (plain_expression e)) (stand main f view.next_step shows.1) is
+read_there stand main (Some f) view text e shows is = rw (← (stand main f view.next_step shows.1)) is
 
 pub not_read_there : NextStepsStandInTheirBlocks → FaultExcludesExpressions
     → (main : Block) (o : Option Frame) (view : FrameView) (text : List ℕ) (kind : FaultKind) (place : Place)
@@ -37,8 +37,7 @@ pub not_read_there : NextStepsStandInTheirBlocks → FaultExcludesExpressions
     → IsReadIn main o text None
 not_read_there stand excludes main None view text kind place shows is = absurd shows
 not_read_there stand excludes main (Some f) view text kind place shows is =
-    λ e. excludes main f.block text kind place e
-    (subst (λ q. IsFirstExpressionFault main q text kind place) (stand main f view.next_step shows.1) is)
+    λ e. excludes main f.block text kind place e (rw (← (stand main f view.next_step shows.1)) is)
 
 -- ---- what is answered
 
@@ -49,11 +48,7 @@ module _ (main : Block) (c : Configuration) (id i : ℕ) (text : List ℕ) (aliv
 
   pub refuses : IsReadIn main (frame_at c i) text None → EvaluatesIn main c id (frame_by_id c id) text
       (Err refusal.BadExpression)
-  refuses read = in_frame _ (at (frame_at c i) read)
-    where
-      at : (o : Option Frame) → IsReadIn main o text None → EvaluatesIn main c id o text (Err refusal.BadExpression)
-      at None read = absurd read
-      at (Some f) read = inr (record { none = read; answer_is = refl })
+  refuses read = grind (arith, common_steps, in_frame)
 
   pub answers : (e : DeclaredExpression) (result : Result ℤ EvalFault) (answer : Result Shown Refusal)
       → IsReadIn main (frame_at c i) text (Some e) → value main c i (plain_expression e) ≡ evaluated result

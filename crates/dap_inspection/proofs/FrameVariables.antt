@@ -43,8 +43,7 @@ count_in main c i (Some f) at linked = ∥∥₁_elim linked (ℕ_set _ _) (λ l
 
 pub count_is : (main : Block) (c : Configuration) (i : ℕ) (names : List DeclaredName) → ∥ AreLinked main c ∥₁
     → map plain_name names ≡ names_in main (frame_at c i) → length names ≡ variables_of (frame_at c i)
-count_is main c i names linked are =
-    sym (length-map names plain_name) ∙ ap length are ∙ count_in main c i (frame_at c i) refl linked
+count_is main c i names linked are = cc (length-map names plain_name, count_in main c i _ refl linked)
 
 -- ---- with their numbers
 
@@ -74,10 +73,7 @@ pub one_more : (o : Option Frame) (names : List DeclaredName) (k : ℕ) (x : Dec
     ∷ [] ≡ named (map plain_name (take (k + 1) names)) (numbers_of o)
 one_more o names k x v number word list lt is at same_number same_word read =
     let more : suc k ≡ k + 1 = omega arith in
-    ap (λ n. list ++ record { name = word; value = n } ∷ []) same_number
-    ∙ ap (λ w. list ++ record { name = w; value = v } ∷ []) same_word ∙ ap (λ l. l ++ variable x v ∷ []) read
-    ∙ sym (next_named names (numbers_of o) k x v lt is (number_in o k v at))
-    ∙ ap (λ n. named (map plain_name (take n names)) (numbers_of o)) more
+    cc (next_named names (numbers_of o) k x v lt is (number_in o k v at))
 
 -- those of a frame are what is shown of it
 pub shown : (of : Subject) (main : Block) (c : Configuration) (id i : ℕ) (names : List DeclaredName)
@@ -86,7 +82,5 @@ pub shown : (of : Subject) (main : Block) (c : Configuration) (id i : ℕ) (name
     (numbers_of (frame_at c i)) → Ok (shown_as.Variables list) ≡ variables_answer of (frame_by_id c id)
 shown of main c id i names list program alive are is =
     let f = there c i alive.within in
-    let all : list ≡ variables_of_frame of.program f.0 =
-    is ∙ ap (λ xs. named xs (numbers_of (frame_at c i))) are ∙ ap (λ o. named (names_in main o) (numbers_of o)) f.1
-    ∙ ap (λ b. variables_of_frame b f.0) (sym program) in
-    ap (λ l. Ok (shown_as.Variables l)) all ∙ sym (ap (variables_answer of) (by_id c id i alive ∙ f.1))
+    let all : list ≡ variables_of_frame of.program f.0 = cc f.1 in
+    cc (by_id c id i alive, f.1)

@@ -1,6 +1,5 @@
 -- The scopes of a frame, by the links.
 use Rattle.dap_inspection.proofs.Common.{AreLinked, Block, Configuration, Frame, List, None, Option, Path, Scope, Some, [], ap, arith, cases_eq, frame_at, frame_at-below, frame_at-top, frame_name, frame_within, length, refl, same_Some, scopes_from, subst, suc, sym, zero, ℕ, ∥∥₁_elim, ⊎_elim, ◌++◌, ◌+◌, ◌-◌, ◌<◌, ◌∙◌, ◌∷◌, ◌≡◌, ◌≢◌, ◌≤◌}
-use Rattle.std.proofs.Common.{nat_eq}
 use Rattle.std.proofs.Common.{append_assoc}
 use Rattle.std.proofs.lemmas.Bool.{cond-true, cond-false, eq-eqb, ne_eqb}
 use Rattle.std.specs.Coded.{le_prop}
@@ -19,14 +18,11 @@ from_top main f below i = own_scope main f i ∷ scopes_from main below f.link
 
 scopes_top : (main : Block) (f : Frame) (below : Configuration) (i : ℕ) → length below ≡ i
     → scopes_from main (f ∷ below) i ≡ from_top main f below i
-scopes_top main f below i e =
-    cond-true (nat_eq (length below) i) (from_top main f below i) (scopes_from main below i) (eq-eqb (length below) i e)
+scopes_top main f below i e = cond-true _ _ _ (eq-eqb _ i e)
 
 scopes_below : (main : Block) (f : Frame) (below : Configuration) (i : ℕ) → length below ≢ i
     → scopes_from main (f ∷ below) i ≡ scopes_from main below i
-scopes_below main f below i ne =
-    cond-false (nat_eq (length below) i) (from_top main f below i) (scopes_from main below i)
-    (ne_eqb (length below) i ne)
+scopes_below main f below i ne = cond-false _ _ _ (ne_eqb _ i ne)
 
 -- a frame's own scope, and those of the frame that its link names
 linked_scopes : (main : Block) (c : Configuration) (i : ℕ) (f : Frame) → frame_at c i ≡ Some f → f.link < i
@@ -114,26 +110,17 @@ leads main c i scope next linked is parent =
     frame : (i : ℕ) (o : Option Frame) → frame_at c i ≡ o → IsScopeOf main o (i + 1) scope → next ≡ parent_of i o
         → LinksTo main c i scope next
     frame i None at is parent = absurd is
-    frame zero (Some f) at is parent = record {
-      scopes = lowest_scopes main c f at ∙ ap (λ s. s ∷ []) (sym is)
-          ∙ ap (λ n. scope ∷ rest_from main c n) (sym parent);
-      fewer = omega (arith, ap left_of parent);
-    }
+    frame zero (Some f) at is parent =
+        record { scopes = cc (lowest_scopes main c f at); fewer = omega (arith, ap left_of parent) }
     frame (suc i) (Some f) at is parent =
         let down = lower main c i f linked at in
         record {
-          scopes =
-              linked_scopes main c (suc i) f at (omega (arith, down))
-              ∙ ap (λ s. s ∷ scopes_from main c f.link) (sym is)
-              ∙ ap (λ n. scope ∷ rest_from main c n) (sym parent);
-          fewer = omega (arith, down, ap left_of parent);
+          scopes = cc (linked_scopes main c (suc i) f at (omega (arith, down)));
+          fewer =
+              omega (arith, down, ap left_of parent);
         }
 
 pub walked : (main : Block) (c : Configuration) (i : ℕ) (scope : Scope) (here next : Option ℕ) (found all : List Scope)
     → LinksTo main c i scope next → here ≡ Some i →
     found ++ rest_from main c here ≡ all → (found ++ scope ∷ []) ++ rest_from main c next ≡ all
-walked main c i scope here next found all one is before =
-    append_assoc found (scope ∷ []) (rest_from main c next)
-    ∙ ap (λ s. found ++ s) (sym one.scopes)
-    ∙ ap (λ n. found ++ rest_from main c n) (sym is)
-    ∙ before
+walked main c i scope here next found all one is before = cc (append_assoc found _ _, one.scopes)

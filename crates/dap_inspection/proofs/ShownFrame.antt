@@ -1,8 +1,8 @@
 -- What is shown of one frame.
-use Rattle.dap_inspection.proofs.Common.{Counting, Frame, FrameView, IsShownAs, List, None, Option, Path, Place, Shows, Some, StackFrame, Step, StepAt, ap, blocks, frame_name, get_or, length, option_map, program_of, slice_get, sym, ℕ, ◌-◌, ◌<◌, ◌∙◌, ◌≡◌}
+use Rattle.dap_inspection.proofs.Common.{Counting, Frame, FrameView, IsShownAs, List, None, Option, Path, Shows, Some, Step, blocks, frame_name, get_or, length, program_of, slice_get, ℕ, ◌-◌, ◌<◌, ◌≡◌}
 use Rattle.std.proofs.lemmas.Option.{slice_get-get_or}
 use Rattle.pl0_unit.specs.declared.unit.Unit.{Unit as Compiled}
-use Rattle.dap_history.specs.Frames.{frame_place, shown_line, shown_column}
+use Rattle.dap_history.specs.Frames.{frame_place}
 use Rattle.dap_inspection.proofs.UnitTables.{step_within, step_place}
 
 pub shown_within : (u : Compiled) (o : Option Frame) (view : FrameView) → Shows (program_of u) o view
@@ -17,14 +17,8 @@ place_is : (u : Compiled) (f : Frame) (view : FrameView) (s : Step) → Shows (p
 place_is u f view s shows at =
     let within = shown_within u (Some f) view shows in
     let there : slice_get u.steps.items view.next_step ≡ Some s =
-    slice_get-get_or u.steps.items view.next_step s within ∙ ap (λ t. Some t) (sym at) in
-    ap (λ o. option_map (λ (t : StepAt). t.place) o) (sym shows.1.next)
-    ∙ sym (step_place u view.next_step)
-    ∙ ap (λ o. option_map (λ (t : Step). t.place) o) there
-
-abbrev framed : Counting → ℕ → List ℕ → Option Place → StackFrame
-framed counting id name place =
-    record { id = id; name = name; line = shown_line counting place; column = shown_column counting place }
+    cc (slice_get-get_or u.steps.items view.next_step s within) in
+    cc (shows.1.next, step_place u view.next_step)
 
 pub shown_as : (u : Compiled) (counting : Counting) (o : Option Frame) (view : FrameView) (id line column : ℕ)
     (name : List ℕ) (s : Step) →
@@ -35,7 +29,4 @@ pub shown_as : (u : Compiled) (counting : Counting) (o : Option Frame) (view : F
     IsShownAs (program_of u) counting o id (record { id = id; name = name; line = line; column = column })
 shown_as u counting None view id line column name s shows names at lines columns = absurd shows
 shown_as u counting (Some f) view id line column name s shows names at lines columns =
-    ap (λ n. record { id = id; name = name; line = n; column = column }) lines
-    ∙ ap (λ n. record { id = id; name = name; line = s.place.line - counting.lines; column = n }) columns
-    ∙ ap (λ n. framed counting id n (Some s.place)) (names f.block shows.0)
-    ∙ ap (λ p. framed counting id (frame_name (program_of u) f.block) p) (sym (place_is u f view s shows at))
+    cc (names f.block shows.0, place_is u f view s shows at)

@@ -1,19 +1,16 @@
 -- The steps and blocks of a unit, by number.
-use Rattle.dap_inspection.proofs.Common.{Block, Frame, FrameView, List, None, Option, Path, Place, Shows, Some, Step, StepAt, [], ap, blocks, length, option_map, program_of, refl, slice_get, steps, subst, suc, sym, zero, ℕ, ◌<◌, ◌∷◌, ◌≡◌}
-use Rattle.std.proofs.Common.{IsSome}
+use Rattle.dap_inspection.proofs.Common.{Block, Frame, FrameView, List, None, Option, Place, Shows, Some, Step, StepAt, [], ap, blocks, length, option_map, program_of, refl, slice_get, steps, subst, suc, sym, zero, ℕ, ◌<◌, ◌∷◌, ◌≡◌}
+use Rattle.std.proofs.Common.{IsSome, arith}
 use Rattle.pl0_tree.specs.Steps.{AreSteps}
 use Rattle.pl0_unit.specs.declared.unit.Unit.{Unit as Compiled}
 use Rattle.dbg_plan.proofs.StepLines.{unit_length}
 use Rattle.dbg_plan.proofs.UnitBlocks.{unit_steps, block_within}
+use Rattle.std.proofs.lemmas.Grind.{common_steps}
 
 -- ---- blocks
 
 pub some_within : (u : Compiled) (n : ℕ) → IsSome (slice_get (blocks (program_of u)) n) → n < length u.nestings.items
-some_within u n some = within (slice_get (blocks (program_of u)) n) refl some
-  where
-    within : (o : Option Path) → slice_get (blocks (program_of u)) n ≡ o → IsSome o → n < length u.nestings.items
-    within None at some = cc
-    within (Some q) at some = block_within u n q at
+some_within u n some = grind (arith, common_steps, program_of, block_within)
 
 -- the number of a frame's block is one of the table
 pub shown_block_within : (u : Compiled) (o : Option Frame) (view : FrameView) → Shows (program_of u) o view

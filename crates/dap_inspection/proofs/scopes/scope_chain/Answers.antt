@@ -9,8 +9,7 @@ one_link : (c : After-static_parent-next) →
     c.static_parent-next.result
 one_link c =
     let m = c.args.machine.now in
-    leads (program m) (frames m) c.in-Some.frame _ _ c.depth-depth.ensures.linked c.in_ok-scope.ensures
-    c.static_parent-next.ensures
+    leads _ _ _ _ _ c.depth-depth.ensures.linked c.in_ok-scope.ensures c.static_parent-next.ensures
 
 pub loop-next-smaller : goal.loop-next-smaller
 loop-next-smaller c = let fewer = (one_link c).fewer in omega (arith, fewer, ap left_of c.in-Some.is)
@@ -21,7 +20,6 @@ loop-next-preserved c =
     let fewer = one.fewer in
     let before = c.loop-next.invariant in
     let m = c.args.machine.now in (
-      rw c.in_ok-push.ensures.items (walked (program m) (frames m) _ _ c.loop-next.next _ _ _ one c.in-Some.is
-          before.0),
+      rw c.in_ok-push.ensures.items (walked _ _ _ _ _ _ _ _ one c.in-Some.is before.0),
       omega (arith, fewer, before.1, ap left_of c.in-Some.is),
     )

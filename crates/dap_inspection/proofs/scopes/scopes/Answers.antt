@@ -16,5 +16,4 @@ returns-clause-replies c of same =
 
 pub returns-in_err-scopes-clause-enough : goal.returns-in_err-scopes-clause-enough
 returns-in_err-scopes-clause-enough c none =
-    absurd (not_none (frames (machine_of c.args.debuggee.now)) c.args.asked.frame_id c.in-Some.frame
-    (rw c.machine-machine.ensures at c.in-Some.ensures) none)
+    absurd (not_none _ c.args.asked.frame_id c.in-Some.frame (rw c.machine-machine.ensures at c.in-Some.ensures) none)

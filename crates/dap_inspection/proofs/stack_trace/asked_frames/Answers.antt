@@ -14,9 +14,8 @@ pub loop-index-preserved : goal.loop-index-preserved
 loop-index-preserved c =
     let m = c.args.machine.now in
     let left = left_is (goal.at.loop-index-preserved c).After-saturating_sub-left in
-    rw c.in_ok-push.ensures.items
-    (one_more (program m) (counting_of c.args.settings) (frames m) c.args.asked.start_frame _ c.loop-index.index _ _
-    left (search rules) c.in_ok-stack_frame.ensures c.loop-index.invariant)
+    rw c.in_ok-push.ensures.items (one_more _ _ _ c.args.asked.start_frame _ c.loop-index.index _ _ left (search rules)
+    c.in_ok-stack_frame.ensures c.loop-index.invariant)
 
 pub returns : goal.returns
 returns c =

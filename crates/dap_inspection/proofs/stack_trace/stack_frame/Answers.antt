@@ -1,4 +1,4 @@
-use Rattle.std.proofs.Common.{◌≡◌, ◌-◌, ◌∙◌, sym, subst, arith}
+use Rattle.std.proofs.Common.{◌≡◌, ◌-◌, ◌∙◌, subst, arith}
 use Rattle.pl0_machine.specs.Machine.{program_of, frame_of, Shows}
 use Rattle.dap_msg.specs.declared.outgoing.StackFrame.{StackFrame}
 use Rattle.dap_inspection.specs.Questions.{counting_of}
@@ -6,23 +6,17 @@ use Rattle.dap_inspection.specs.Showing.{IsShownAs}
 use Rattle.dap_inspection.proofs.ShownFrame.{shown_within, shown_as}
 use Rattle.dap_inspection.proofs.stack_trace.stack_frame.Goals as goal
 use Rattle.dap_inspection.proofs.stack_trace.stack_frame.Goals.{After-frame-view}
+use Rattle.std.proofs.lemmas.Grind.{common_steps}
 
 same_unit : (c : After-frame-view) → c.deref-unit.result.now ≡ c.args.machine.now.unit
 same_unit c = c.deref-unit.ensures ∙ c.unit.ensures
 
 shows : (c : After-frame-view) → Shows (program_of c.deref-unit.result.now)
     (frame_of c.args.machine.now (c.args.id - 1)) c.frame-view.result
-shows c =
-    let frame = frame_of c.args.machine.now (c.args.id - 1) in
-    subst (λ u. Shows (program_of u) frame c.frame-view.result) (sym (same_unit c)) c.frame-view.ensures
+shows c = grind (arith, common_steps, same_unit)
 
 pub index-requires : goal.index-requires
-index-requires c =
-    let u = c.deref-unit.result.now in
-    let within =
-    shown_within u (frame_of c.args.machine.now (c.args.id - 1)) c.frame-view.result
-    (shows (goal.at.index-requires c).After-frame-view) in
-    omega (arith, within, u.steps.ok.0)
+index-requires c = grind (arith, common_steps, shown_within, shows)
 
 pub returns : goal.returns
 returns c =

@@ -1,6 +1,5 @@
 use Rattle.std.proofs.Common.{rules, ◌∙◌, FitsSigned, w64}
 use Rattle.std.proofs.lemmas.Int.{to_z-of_z}
-use Rattle.pl0_machine.specs.Machine.{frame_of}
 use Rattle.dap_inspection.proofs.FrameVariables.{one_more}
 use Rattle.dap_inspection.proofs.variables.valued.Goals as goal
 
@@ -8,8 +7,5 @@ pub loop-index-preserved : goal.loop-index-preserved
 loop-index-preserved c =
     let fits : FitsSigned w64 c.value-value.result = search rules in
     c.in_ok-push.ensures.items
-    ∙ one_more (frame_of c.args.machine.now c.args.frame) c.args.names.now c.loop-index.index c.index-names-index.result
-    c.value-value.result _ c.in_ok-name.name c.loop-index.list.items c.loop-index-test.true c.index-names-index.is
-    c.value-value.ensures
-    (to_z-of_z w64 c.value-value.result fits)
-    (c.in_ok-name.ensures ∙ c.as_str.ensures.value) c.loop-index.invariant
+    ∙ one_more _ _ _ _ _ _ _ _ c.loop-index-test.true c.index-names-index.is c.value-value.ensures (to_z-of_z w64
+    c.value-value.result fits) (c.in_ok-name.ensures ∙ c.as_str.ensures.value) c.loop-index.invariant
