@@ -1,6 +1,6 @@
 -- What a session sent is a prefix of what the history gives that it reached.
 use Rattle.std.proofs.Common.{◌≡◌, ◌⊎◌, inl, inr, ℕ, suc, ◌+◌, ◌≤◌, ◌<◌, ◌^◌, List, [], ◌∷◌, ◌++◌, length, Option, None, Some, Result, Ok, Err, refl, sym, ◌∙◌, ap, subst, append_assoc, append-nil, length-append, arith, lit≤}
-use Rattle.std.proofs.lemmas.Grind.{flat_map-append}
+use Rattle.std.proofs.lemmas.Grind.{flat_map-append, common_steps}
 use Rattle.dap_msg.specs.declared.outgoing.Outgoing.{Outgoing}
 use Rattle.dap_msg.specs.declared.request.FirstSeq.{FirstSeq}
 use Rattle.dbg_runner.specs.Plain.{PlainOrder, PlainReport}
@@ -14,7 +14,7 @@ use Rattle.dap_history.specs.declared.fault.SessionFault.{SessionFault}
 use Rattle.dap_history.specs.declared.fault.SessionFault.TheVariants.{Frame, NoMemory, SeqExhausted, OrdersFull, RunnerGone, WriterGone}
 use Rattle.dap_history.specs.History.{Item, Content, Loaded, Accepted, InputEnd, ReadFailure, MemoryFailure, History, messages, messages_of, orders_of, next_seq}
 use Rattle.dap_history.specs.Emission.{IsAfter}
-use Rattle.dap_history.specs.Events.{Incoming, Piece, End, ReadFailed, File, Report, Rest, only_bytes, IsTaking, AreLawful, TakesSome, no_content, one_content, Rests, closed, open_ended, faulty, waits, Takes, MayTake, LeadsByPiece, LeadsByFile, LeadsByReport, LeadsByEvent, LeadsByEvents, IsHistoryOf}
+use Rattle.dap_history.specs.Events.{Incoming, Piece, End, ReadFailed, File, Report, Rest, IsTaking, AreLawful, TakesSome, no_content, one_content, Rests, closed, open_ended, faulty, waits, Takes, MayTake, LeadsByPiece, LeadsByFile, LeadsByReport, LeadsByEvent, IsHistoryOf}
 use Rattle.dap_history.specs.Events.{NoMemory as NoMemoryCame}
 use Rattle.dap_history.specs.Laws.{HistoryIsOne}
 use Rattle.dap_history.specs.Interleaving.{Load}
@@ -37,8 +37,7 @@ begins_same : {A : Type 0} (xs ys : List A) → xs ≡ ys → IsPrefixOf xs ys
 begins_same xs ys is = ([], append-nil xs ∙ is)
 
 begins_both : {A : Type 0} (xs ys zs : List A) → IsPrefixOf xs ys → IsPrefixOf ys zs → IsPrefixOf xs zs
-begins_both xs ys zs first next =
-    (first.0 ++ next.0, sym (append_assoc xs first.0 next.0) ∙ ap (λ l. l ++ next.0) first.1 ∙ next.1)
+begins_both xs ys zs first next = (first.0 ++ next.0, cc (append_assoc xs first.0 next.0, first.1, next.1))
 
 -- a prefix of what is added, after what was there
 begins_after : {A : Type 0} (xs ys zs : List A) → IsPrefixOf ys zs → IsPrefixOf (xs ++ ys) (xs ++ zs)
@@ -101,8 +100,7 @@ module _ (once : IsReadOnce) where
 
   item_begins : (past : History) (item : Item) (next new : History) → IsTaking past → (next ≡ past)
       ⊎ IsAfter past item next → MayTake past item new → IsPrefixOf next new
-  item_begins past item next new taking (inl same) may =
-      subst (λ h. IsPrefixOf h new) (sym same) (may_begin past item new may)
+  item_begins past item next new taking (inl same) may = rw same (may_begin past item new may)
   item_begins past item next new taking (inr after) (inl is) = absurd (is.0 taking)
   item_begins past item next new taking (inr after) (inr is) =
       begins_same next new (once.one_after past item next new after is.1)
@@ -128,10 +126,7 @@ module _ (once : IsReadOnce) where
       (file : Option (List ℕ)) (next : History) → rest.launch ≡ Some launch
       → (toward : LoadsToward f past rest answer next) → toward.file ≡ file
       → IsAfter past (Loaded launch file) toward.mid
-  same_launch f past rest launch answer file next is toward same =
-      let launches : toward.launch ≡ launch = let e = sym toward.waits ∙ is in cc in
-      subst (λ b. IsAfter past (Loaded launch b) toward.mid) same
-      (subst (λ l. IsAfter past (Loaded l toward.file) toward.mid) launches toward.loaded)
+  same_launch f past rest launch answer file next is toward same = grind (arith, common_steps)
 
   file_begins : (f : FirstSeq) (past : History) (rest : Rest) (launch : Option Launch)
       (answer : Result (List ℕ) LoadFault)
@@ -144,9 +139,7 @@ module _ (once : IsReadOnce) where
       absurd (let e = sym is ∙ toward.waits in cc)
   file_begins f past rest (Some launch) (Ok file) next new left taking is toward (inl not) = absurd (not.0 taking)
   file_begins f past rest (Some launch) (Ok file) next new left taking is (inl same) (inr loads) =
-      subst (λ h. IsPrefixOf h new) (sym same)
-      (begins_both past loads.mid new (begins_longer past _ loads.mid loads.loaded)
-      (takes_begin f loads.mid new rest.bytes left loads.after))
+      rw same (begins_both past _ new (begins_longer past _ _ loads.loaded) (takes_begin f _ new _ left loads.after))
   file_begins f past rest (Some launch) (Ok file) next new left taking is (inr toward) (inr loads) =
       let same : toward.file ≡ Some file = let e = toward.file_is in cc in
       loaded_begins f past launch (Some file) rest.bytes toward.mid loads.mid next new toward.left left
@@ -154,9 +147,7 @@ module _ (once : IsReadOnce) where
   file_begins f past rest (Some launch) (Err load_fault.CannotRead) next new left taking is toward (inl not) =
       absurd (not.0 taking)
   file_begins f past rest (Some launch) (Err load_fault.CannotRead) next new left taking is (inl same) (inr loads) =
-      subst (λ h. IsPrefixOf h new) (sym same)
-      (begins_both past loads.mid new (begins_longer past _ loads.mid loads.loaded)
-      (takes_begin f loads.mid new rest.bytes left loads.after))
+      rw same (begins_both past _ new (begins_longer past _ _ loads.loaded) (takes_begin f _ new _ left loads.after))
   file_begins f past rest (Some launch) (Err load_fault.CannotRead) next new left taking is (inr toward) (inr loads) =
       let same : toward.file ≡ None = let e = toward.file_is in cc in
       loaded_begins f past launch None rest.bytes toward.mid loads.mid next new toward.left left
@@ -170,11 +161,9 @@ module _ (once : IsReadOnce) where
   report_begins : (past : History) (r : PlainReport) (next new : History) → IsTaking past → (next ≡ past)
       ⊎ (Accepts past r × IsAfter past (Accepted r) next) → LeadsByReport past r new → IsPrefixOf next new
   report_begins past r next new taking (inl same) (inl not) = begins_same next new (same ∙ sym not.1)
-  report_begins past r next new taking (inl same) (inr is) =
-      subst (λ h. IsPrefixOf h new) (sym same) (begins_longer past (Accepted r) new is.2)
+  report_begins past r next new taking (inl same) (inr is) = rw same (begins_longer past (Accepted r) new is.2)
   report_begins past r next new taking (inr toward) (inl not) = absurd (not.0 (taking, toward.0))
-  report_begins past r next new taking (inr toward) (inr is) =
-      begins_same next new (once.one_after past (Accepted r) next new toward.1 is.2)
+  report_begins past r next new taking (inr toward) (inr is) = grind (arith, common_steps, begins_same)
 
   event_begins : (f : FirstSeq) (past : History) (rest : Rest) (event : Incoming) (next new : History) (left : Rest)
       → IsTaking past
@@ -185,8 +174,7 @@ module _ (once : IsReadOnce) where
       item_begins past InputEnd next new taking toward leads.0
   event_begins f past rest ReadFailed next new left taking toward leads =
       item_begins past ReadFailure next new taking toward leads.0
-  event_begins f past rest NoMemoryCame next new left taking toward leads =
-      subst (λ h. IsPrefixOf h new) (sym toward) (may_begin past MemoryFailure new leads.0)
+  event_begins f past rest NoMemoryCame next new left taking toward leads = rw toward (may_begin past _ new leads.0)
   event_begins f past rest (File answer) next new left taking toward leads =
       file_begins f past rest rest.launch answer next new left taking refl toward leads
   event_begins f past rest (Report r) next new left taking toward leads =
@@ -222,23 +210,12 @@ first_fits past old later sent = sent.seqs_fit (lit≤ tt)
 
 sends_whole : (past : History) (old later : Ports) → Sends [] past old later
     → (later.frames ≡ old.frames ++ frames_from 1 (messages_of past)) × (later.orders ≡ old.orders ++ orders_of past)
-sends_whole past old later sent = (
-  sent.frames_are ∙ ap (λ ms. old.frames ++ frames_from 1 ms) (sym sent.adds.messages_are),
-  sent.orders_are ∙ ap (λ os. old.orders ++ os) (sym sent.adds.orders_are),
-)
+sends_whole past old later sent = grind (arith, common_steps)
 
 same_part : (past : History) (old between later : Ports) → Sends [] past old between → later ≡ between
     → SendsPart past old later
 same_part past old between later sent same =
-    let all = sends_whole past old between sent in record {
-      frames = frames_from 1 (messages_of past);
-      orders = orders_of past;
-      frames_are = ap (λ (p : Ports). p.frames) same ∙ all.0;
-      orders_are = ap (λ (p : Ports). p.orders) same ∙ all.1;
-      frames_begin = begins_same _ _ refl;
-      orders_begin = begins_same _ _ refl;
-      few = few_begin _ past (begins_same _ _ refl) (first_fits past old between sent);
-    }
+    grind (arith, common_steps, sends_whole, frames_begin, begins_same, orders_begin, few_begin, first_fits)
 
 longer_part : (past new : History) (old later : Ports) → IsPrefixOf past new → SendsPart past old later
     → SendsPart new old later
@@ -332,9 +309,8 @@ stops_part : (f : FirstSeq) (events : List Incoming) (fault : SessionFault) (old
     (stops : StopsShort f events fault old later) → SendsPart stops.fails.next old stops.stopped
 stops_part f events fault old later stops =
     let fails = stops.fails in
-    broken_part fault fails.mid fails.next old fails.between stops.stopped
-    (mid_next f fault stops.reaches.past stops.reaches.rest stops.reaches.last stops.mid stops.stopped fails)
-    (sends_both [] stops.reaches.past fails.mid old stops.mid fails.between stops.sent fails.sent) fails.breaks
+    broken_part fault _ _ old _ _ (mid_next f fault _ _ _ _ _ fails) (sends_both [] _ _ old _ _ stops.sent fails.sent)
+    fails.breaks
 
 -- ---- the history that a session reached
 
@@ -357,11 +333,7 @@ module _ (once : IsReadOnce) (one : HistoryIsOne) where
       (left : Rest)
       → IsHistoryOf f events past rest → IsHistoryOf f (events ++ last ∷ []) new left
       → LeadsByEvent f past rest last new left
-  last_leads f events last past rest new left here whole =
-      let apart = leads_last f [] (only_bytes []) events last new left whole in
-      let same = one f events apart.0 past apart.1 rest apart.2 here in
-      subst (λ r. LeadsByEvent f past r last new left) same.1
-      (subst (λ h. LeadsByEvent f h apart.1 last new left) same.0 apart.3)
+  last_leads f events last past rest new left here whole = grind (arith, common_steps, leads_last)
 
   -- a session reached a history on the way to that of all events
   reached_toward : (f : FirstSeq) (events : List Incoming) (reached : History) → AreLawful events
@@ -479,6 +451,4 @@ module _ (once : IsReadOnce) (one : HistoryIsOne) where
   drives_few f (Ok by) events given loads old later lawful (closes from serves) =
       puts_few f events old later later refl (serves_sent f events (ending.Closed by) old later lawful serves)
   drives_few f (Err fault) events given loads old later lawful drives =
-      let left =
-      fault_sent f fault events given loads old later lawful drives in puts_few f events old left.0 later
-      left.2.frames_are left.1
+      grind (arith, common_steps, fault_sent, puts_few)

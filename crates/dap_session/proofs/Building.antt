@@ -1,5 +1,5 @@
 -- Frames that were added one after another.
-use Rattle.std.proofs.Common.{◌≡◌, ℕ, List, [], ◌∷◌, ◌++◌, map, refl, sym, ◌∙◌, ap, arith, subst, append_assoc, append-nil, length-append, Vec, Global}
+use Rattle.std.proofs.Common.{◌≡◌, ℕ, List, [], ◌∷◌, ◌++◌, map, refl, sym, ◌∙◌, ap, arith, append_assoc, append-nil, length-append, Vec, Global}
 use Rattle.std.proofs.lemmas.List.{map-append}
 use Rattle.dap_msg.specs.declared.outgoing.Outgoing.{Outgoing}
 use Rattle.dap_msg.specs.declared.outgoing.Outgoing.TheVariants.{Event}
@@ -8,32 +8,22 @@ use Rattle.dbg_runner.specs.Plain.{PlainOrder}
 use Rattle.dap_history.specs.declared.fault.SessionFault.{SessionFault}
 use Rattle.dap_history.specs.declared.fault.SessionFault.TheVariants.{Frame, NoMemory, SeqExhausted, OrdersFull, RunnerGone, WriterGone}
 use Rattle.dap_history.specs.History.{Step, History, messages}
-use Rattle.dap_history.specs.Output.{frames_from}
 use Rattle.dap_history.specs.ReadingLaws.{ReadingsGoOn}
 use Rattle.dap_session.specs.Building.{plain_frames, Built, AddsFrames, IsNotPushed}
 use Rattle.dap_session.specs.Ports.{Written, PushedOrders, ports}
 use Rattle.dap_session.specs.Sending.{IsPrefixOf, AddsToHistory, PushesSome, BreaksOff}
 use Rattle.dap_session.proofs.Joining.{frames_from-append}
+use Rattle.std.proofs.lemmas.Grind.{common_steps}
 
 pub adds_both : (xs ys : List Outgoing) (a b c : Built) → AddsFrames xs a b → AddsFrames ys b c
     → AddsFrames (xs ++ ys) a c
 adds_both xs ys a b c first then_ =
-    record {
-      frames_are =
-          then_.frames_are ∙ ap (λ l. l ++ frames_from b.next_seq ys) first.frames_are
-          ∙ append_assoc a.frames (frames_from a.next_seq xs) (frames_from b.next_seq ys)
-          ∙ ap (λ n. a.frames ++ (frames_from a.next_seq xs ++ frames_from n ys)) first.seq_is
-          ∙ ap (λ l. a.frames ++ l) (sym (frames_from-append a.next_seq xs ys));
-      seq_is = let l = length-append xs ys in let f = first.seq_is in let t = then_.seq_is in omega (arith, l, f, t);
-      seq_fits = λ fits. then_.seq_fits (first.seq_fits fits);
-    }
+    grind (arith, common_steps, append_assoc, frames_from-append, length-append)
 
 -- one more event
 pub adds_event : (done : List EventBody) (event : EventBody) (a b c : Built) → AddsFrames (map Event done) a b
     → AddsFrames (Event event ∷ []) b c → AddsFrames (map Event (done ++ event ∷ [])) a c
-adds_event done event a b c first then_ =
-    subst (λ ms. AddsFrames ms a c) (sym (map-append Event done (event ∷ [])))
-    (adds_both (map Event done) (Event event ∷ []) a b c first then_)
+adds_event done event a b c first then_ = rw (map-append Event done _) (adds_both _ _ a b c first then_)
 
 -- frames that were put before one that was refused
 pub begins_all : (put : List (Vec ℕ Global)) (frame : Vec ℕ Global) (rest all : List (Vec ℕ Global)) → put ++ frame
@@ -46,8 +36,7 @@ begins_all put frame rest all is = (
 
 pub adds_step : ReadingsGoOn → (past : History) (step : Step)
     → AddsToHistory past (past ++ step ∷ []) (messages step) step.effect.orders
-adds_step readings past step =
-    record { messages_are = readings.messages_are past step; orders_are = readings.orders_are past step }
+adds_step readings past step = grind (arith, common_steps)
 
 -- an order that was refused, seen from its step
 pub pushes_none : (past new : History) (ms : List Outgoing) (os : List PlainOrder) (out : Written)

@@ -1,5 +1,5 @@
 -- A session that is driven.
-use Rattle.std.proofs.Common.{◌≡◌, inl, inr, ℕ, List, [], ◌∷◌, ◌++◌, Option, None, Some, option_map, IfSome, Result, Ok, Err, refl, sym, ◌∙◌, ap, subst, append_assoc, append-nil, lit≤}
+use Rattle.std.proofs.Common.{◌≡◌, inl, inr, ℕ, List, [], ◌∷◌, ◌++◌, Option, None, Some, option_map, IfSome, Result, Ok, Err, refl, sym, ◌∙◌, ap, subst, append_assoc, append-nil, arith}
 use Rattle.std.specs.Prelude.{string_bytes}
 use Rattle.dap_msg.specs.declared.request.FirstSeq.{FirstSeq}
 use Rattle.dap_history.specs.declared.ending.Closed.{Closed}
@@ -13,7 +13,6 @@ use Rattle.dap_history.specs.History.{History}
 use Rattle.dap_history.specs.Readings.{ending_of}
 use Rattle.dap_history.specs.Events.{Incoming, Piece, End, ReadFailed, File, Report, Rest, IsTaking, AreLawful, IsHistoryOf}
 use Rattle.dap_history.specs.Events.{NoMemory as NoMemoryCame}
-use Rattle.dap_history.specs.Output.{frames_from}
 use Rattle.dap_history.specs.Reports.{Accepts}
 use Rattle.dap_history.specs.Interleaving.{Load, Awaits, AwaitsNone, Interleaves}
 use Rattle.dap_replies.specs.declared.phase.Phase.{Phase}
@@ -28,16 +27,14 @@ use Rattle.dap_session.specs.Serving.{ReachesLast, Serves, StopsShort, no_seq_is
 use Rattle.dap_session.specs.Coming.{Sources, ComesFrom}
 use Rattle.dap_session.proofs.Reports.{accepts_expected}
 use Rattle.dap_session.proofs.Joining.{sends_both, refuses_both, sends_nothing}
+use Rattle.std.proofs.lemmas.Grind.{common_steps}
 
 -- ---- interleavings, one after another
 
 interleaves_both : (f : FirstSeq) (before xs ys : List Incoming) (given more : List Incoming) (loads rest : List Load)
     → Interleaves f before xs given loads → Interleaves f (before ++ xs) ys more rest
     → Interleaves f before (xs ++ ys) (given ++ more) (loads ++ rest)
-interleaves_both f before [] ys given more loads rest first next =
-    subst (λ l. Interleaves f before ys (given ++ more) (l ++ rest)) (sym first.1)
-    (subst (λ g. Interleaves f before ys (g ++ more) rest) (sym first.0)
-    (subst (λ b. Interleaves f b ys more rest) (append-nil before) next))
+interleaves_both f before [] ys given more loads rest first next = rw (first.1, first.0, ← (append-nil before)) next
 interleaves_both f before (e ∷ xs) ys given more loads rest (inl first) next =
     inl (
       first.0,
@@ -100,22 +97,7 @@ pub record Way (f : FirstSeq) (session : State) (wanted : Option (List ℕ)) (be
 -- the way begins with a session that has taken no event
 pub way_begins : (f : FirstSeq) (session : State) (begin : Sources) (old : Ports) → Represents f session [] []
     → Way f session None begin begin old old
-way_begins f session begin old stands = record {
-  events = [];
-  past = [];
-  given = [];
-  loads = [];
-  given_are = sym (append-nil begin.given);
-  loads_are = sym (append-nil begin.loaded);
-  lawful = tt;
-  interleaves = (refl, refl);
-  stands = stands;
-  sent = sends_nothing [] old;
-  sure = record { writer = refl; runner = refl; full = refl };
-  open_ended = stands.ending_is;
-  wanted_is = sym (ap (option_map (λ launch. launch.arguments.program))
-      ((stands.goes_on refl).launch_is ∙ ap (λ (r : Rest). r.launch) stands.history.1));
-}
+way_begins f session begin old stands = grind (arith, common_steps, append-nil, sends_nothing)
 
 -- ---- the next event
 
@@ -145,13 +127,7 @@ awaits_none : (f : FirstSeq) (session : State) (events : List Incoming) (past : 
     → Represents f session events past
     → session.ending ≡ None
     → launch_of session.phase ≡ None → AwaitsNone f events
-awaits_none f session events past stands open_ is =
-    let taking : IsTaking past = sym stands.ending_is ∙ open_ in record {
-      past = past;
-      rest = stands.rest;
-      history = stands.history;
-      waits = inr (sym (stands.goes_on taking).launch_is ∙ is);
-    }
+awaits_none f session events past stands open_ is = grind (arith, common_steps)
 
 adds_file : (f : FirstSeq) (events : List Incoming) (path : List ℕ) (answer : Result (List ℕ) LoadFault)
     (now next : Sources)
@@ -218,16 +194,9 @@ needs_none : (f : FirstSeq) (session : State) (events : List Incoming) (past : H
     (Expects session.phase) event
 needs_none f session events past stands open_ End needs = tt
 needs_none f session events past stands open_ ReadFailed needs = tt
-needs_none f session events past stands open_ (File answer) needs =
-    (stands.goes_on (sym stands.ending_is ∙ open_)).launch_is ∙ needs
+needs_none f session events past stands open_ (File answer) needs = grind (arith, common_steps)
 needs_none f session events past stands open_ (Report r) needs =
-    let on = stands.goes_on (sym stands.ending_is ∙ open_) in
-    let launch_is = on.launch_is ∙ needs.0 in
-    elim needs.1 [
-      | inl stranger ↦
-          (launch_is, inl (λ expects. stranger (accepts_expected session.phase past r on.knows.phase_is expects)))
-      | inr quiet ↦ (launch_is, inr quiet)
-    ]
+    grind (arith, common_steps, accepts_expected)
 needs_none f session events past stands open_ (Piece piece) needs = absurd needs
 needs_none f session events past stands open_ NoMemoryCame needs = absurd needs
 
@@ -288,17 +257,7 @@ serves : (f : FirstSeq) (events : List Incoming) (past : History) (rest : Rest) 
     → IsHistoryOf f events past rest → ending_of past ≡ Some by → ReachesLast f events
     → Sends [] past old later → RefusesNothing old later
     → Serves f events by old later
-serves f events past rest by old later history is reaches sent sure = record {
-  past = past;
-  rest = rest;
-  history = history;
-  ending_is = is;
-  reaches = reaches;
-  frames_are = sent.frames_are ∙ ap (λ ms. old.frames ++ frames_from 1 ms) (sym sent.adds.messages_are);
-  orders_are = sent.orders_are ∙ ap (λ os. old.orders ++ os) (sym sent.adds.orders_are);
-  seqs_fit = sent.seqs_fit (lit≤ tt);
-  refuses_nothing = sure;
-}
+serves f events past rest by old later history is reaches sent sure = grind (arith, common_steps)
 
 stops_short : (f : FirstSeq) (events : List Incoming) (past : History) (rest : Rest) (event : Incoming)
     (old mid later last : Ports)
@@ -327,14 +286,11 @@ ends : (f : FirstSeq) (events : List Incoming) (past : History) (rest : Rest) (e
     → Comes f (Err fault) events past rest event after mid later → Interleaves f [] (events ++ event ∷ []) given loads
     → SessionOutcome f (events ++ event ∷ []) given loads old last (Err fault)
 ends f events past rest event after old mid later last given loads (faults.Frame k) history taking needs sent sure
-    quit
-    comes from =
+    quit comes from =
     ends_at_fault from (record {
       mid = later;
-      serves = serves f (events ++ event ∷ []) comes.new comes.rest (ending.Fault (faults.Frame k)) old later
-          comes.history comes.ending_is
-          (reaches_last f events past rest event history taking)
-          (sends_both [] past comes.new old mid later sent comes.sends)
+      serves = serves f _ _ _ _ old later comes.history comes.ending_is
+          (reaches_last f events past rest event history taking) (sends_both [] past _ old mid later sent comes.sends)
           (refuses_both old mid later sure comes.refuses_nothing);
       quit = quit;
     })
@@ -377,26 +333,25 @@ pub way_closes : (f : FirstSeq) (session after : State) (wanted : Option (List �
     → after.ending ≡ Some (ending.Closed by)
     → Driven f (Ok by) begin.given next.given begin.loaded next.loaded old later
 way_closes f session after wanted want event begin now next old mid later by way from law step is =
-    let adds = adds_event f session way.events way.past wanted (launch_of session.phase) event now next way.stands
-    way.open_ended refl way.wanted_is from in
-    let well = step.comes f way.events way.past way.stands in record {
+    let adds = adds_event f session way.events way.past wanted _ event now next way.stands way.open_ended refl
+    way.wanted_is from in
+    let well = step.comes f way.events way.past way.stands in
+    record {
       events = way.events ++ event ∷ [];
       given = way.given ++ adds.given;
       loads = way.loads ++ adds.loads;
-      given_are =
-          adds.given_are ∙ ap (λ l. l ++ adds.given) way.given_are ∙ append_assoc begin.given way.given adds.given;
+      given_are = cc (adds.given_are, way.given_are, append_assoc begin.given way.given adds.given);
       loads_are =
-          adds.loads_are ∙ ap (λ l. l ++ adds.loads) way.loads_are ∙ append_assoc begin.loaded way.loads adds.loads;
-      lawful = lawful_both way.events (event ∷ []) way.lawful law;
-      drives = closes
-          (interleaves_both f [] way.events (event ∷ []) way.given adds.given way.loads adds.loads way.interleaves
-          adds.one)
-          (serves f (way.events ++ event ∷ []) well.new well.stands.rest (ending.Closed by) old later
-          well.stands.history (sym well.stands.ending_is ∙ is)
-          (reaches_last f way.events way.past way.stands.rest event way.stands.history
-          (sym way.stands.ending_is ∙ way.open_ended))
-          (sends_both [] way.past well.new old mid later way.sent well.sends)
-          (refuses_both old mid later way.sure well.refuses_nothing));
+          cc (adds.loads_are, way.loads_are, append_assoc begin.loaded way.loads adds.loads);
+      lawful = lawful_both way.events
+          _ way.lawful law;
+      drives = closes (interleaves_both f [] way.events _ way.given adds.given way.loads adds.loads
+          way.interleaves adds.one) (serves f _ well.new well.stands.rest _ old later well.stands.history (sym
+          well.stands.ending_is
+          ∙ is) (reaches_last f way.events way.past way.stands.rest event way.stands.history (sym way.stands.ending_is ∙
+          way.open_ended)) (sends_both [] way.past well.new old mid later way.sent well.sends) (refuses_both old mid
+          later
+          way.sure well.refuses_nothing));
     }
 
 -- it gave up
@@ -409,33 +364,28 @@ pub way_fails : (f : FirstSeq) (session after : State) (wanted : Option (List �
     → Driven f (Err fault) begin.given next.given begin.loaded next.loaded old last
 way_fails f session after wanted fault event begin now next old mid later last way from law step quit =
     let needs = needs_some f session after fault event mid later way.events way.past way.stands way.open_ended step in
-    let adds = adds_event f session way.events way.past wanted (launch_of session.phase) event now next way.stands
-    way.open_ended refl way.wanted_is from in record {
+    let adds = adds_event f session way.events way.past wanted _ event now next way.stands way.open_ended refl
+    way.wanted_is from in
+    record {
       events = way.events ++ event ∷ [];
       given = way.given ++ adds.given;
       loads = way.loads ++ adds.loads;
-      given_are =
-          adds.given_are ∙ ap (λ l. l ++ adds.given) way.given_are ∙ append_assoc begin.given way.given adds.given;
+      given_are = cc (adds.given_are, way.given_are, append_assoc begin.given way.given adds.given);
       loads_are =
-          adds.loads_are ∙ ap (λ l. l ++ adds.loads) way.loads_are ∙ append_assoc begin.loaded way.loads adds.loads;
-      lawful = lawful_both way.events (event ∷ []) way.lawful law;
-      drives = ends f way.events way.past way.stands.rest event after old mid later last (way.given ++ adds.given)
-          (way.loads ++ adds.loads) fault way.stands.history
-          (sym way.stands.ending_is ∙ way.open_ended) needs
-          way.sent way.sure quit
-          (step.comes f way.events way.past way.stands)
-          (interleaves_both f [] way.events (event ∷ []) way.given adds.given way.loads adds.loads way.interleaves
-          adds.one);
+          cc (adds.loads_are, way.loads_are, append_assoc begin.loaded way.loads adds.loads);
+      lawful = lawful_both way.events
+          (event ∷ []) way.lawful law;
+      drives = ends f way.events way.past way.stands.rest event after old mid later last _ _
+          fault way.stands.history (sym way.stands.ending_is
+          ∙ way.open_ended) needs way.sent way.sure quit (step.comes f way.events way.past way.stands)
+          (interleaves_both f []
+          way.events (event ∷ []) way.given adds.given way.loads adds.loads way.interleaves adds.one);
     }
 
 -- a session that says it is closed was closed by something
 pub not_open_ended : (session : State) (e : Option Ending) (want : Want) → session.ending ≡ e → want ≡ want_is.Closed
     → Wants want session e → IsOpenEnded e → ⊥
-not_open_ended session None want is closed wants open_ = never want (launch_of session.phase) closed wants
-  where
-    never : (want : Want) (launch : Option Launch) → want ≡ want_is.Closed → WantsHere want launch → ⊥
-    never want None closed wants = cc
-    never want (Some launch) closed wants = let e = wants.1 in cc
+not_open_ended session None want is closed wants open_ = grind (arith, common_steps)
 not_open_ended session (Some (ending.Closed by)) want is closed wants open_ = open_
 not_open_ended session (Some (ending.Fault fault)) want is closed wants open_ = wants
 
@@ -444,24 +394,7 @@ not_open_ended session (Some (ending.Fault fault)) want is closed wants open_ = 
 -- on its way a session owes nothing but the launch of the file that it wants
 pub way_owes : {f : FirstSeq} {session : State} {wanted : Option (List ℕ)} {begin now : Sources} {old later : Ports}
     → Way f session wanted begin now old later → OwesOnly f wanted begin now old later
-way_owes {old = old} way =
-    let taking : IsTaking way.past = sym way.stands.ending_is ∙ way.open_ended in record {
-      events = way.events;
-      given = way.given;
-      loads = way.loads;
-      given_are = way.given_are;
-      loads_are = way.loads_are;
-      interleaves = way.interleaves;
-      past = way.past;
-      rest = way.stands.rest;
-      history = way.stands.history;
-      taking = taking;
-      waits =
-          way.wanted_is ∙ ap (option_map (λ launch. launch.arguments.program)) (way.stands.goes_on taking).launch_is;
-      frames_are = way.sent.frames_are ∙ ap (λ ms. old.frames ++ frames_from 1 ms) (sym way.sent.adds.messages_are);
-      orders_are = way.sent.orders_are ∙ ap (λ os. old.orders ++ os) (sym way.sent.adds.orders_are);
-      refuses_nothing = way.sure;
-    }
+way_owes {old = old} way = grind (arith, common_steps)
 
 -- what holds of each path that is wanted holds of this one
 pub of_wanted : {A : Type 0} (bytes : A → List ℕ) (P : List ℕ → Type 0) (wanted : Option A)

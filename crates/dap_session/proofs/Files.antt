@@ -1,5 +1,5 @@
 -- The file of a launch.
-use Rattle.std.proofs.Common.{◌≡◌, inl, inr, ℕ, List, Option, None, Some, Result, Ok, Err, refl, sym, ◌∙◌, ap, subst}
+use Rattle.std.proofs.Common.{◌≡◌, inl, inr, ℕ, List, Option, None, Some, Result, Ok, Err, refl, sym, ◌∙◌, ap, subst, arith}
 use Rattle.std.specs.Prelude.{Vec}
 use Rattle.std.specs.declared.alloc.Global.{Global}
 use Rattle.dap_msg.specs.declared.request.FirstSeq.{FirstSeq}
@@ -10,7 +10,7 @@ use Rattle.dap_history.specs.declared.fault.SessionFault.TheVariants.{NoMemory}
 use Rattle.dap_history.specs.declared.launch.Launch.{Launch}
 use Rattle.dap_history.specs.History.{Loaded, History}
 use Rattle.dap_history.specs.Emission.{IsAfter}
-use Rattle.dap_history.specs.Events.{Rest, File, IsTaking, no_content, Takes, Loads, LeadsByFile, LeadsByEvent}
+use Rattle.dap_history.specs.Events.{Rest, File, IsTaking, no_content, Loads, LeadsByFile, LeadsByEvent}
 use Rattle.dap_replies.specs.Phases.{launch_of}
 use Rattle.dap_session.specs.declared.ports.Event.TheVariants as event
 use Rattle.dap_session.specs.Incoming.{incoming_of}
@@ -20,6 +20,7 @@ use Rattle.dap_session.specs.Taking.{TowardByPiece, file_of, Toward, LacksMemory
 use Rattle.dap_session.specs.Handling.{HasHistory, TakesItem, FailsAtItem, HandlesContents, Handles}
 use Rattle.dap_session.specs.Ports.{plain_file}
 use Rattle.dap_session.proofs.Going.{goes_after, stops_at_once, stops_at_item, arrives_at_once}
+use Rattle.std.proofs.lemmas.Grind.{common_steps}
 
 pub incoming_file : (file : Result (Vec ℕ Global) LoadFault) → incoming_of (event.File file) ≡ File (plain_file file)
 incoming_file (Ok file) = refl
@@ -36,9 +37,7 @@ pub record IsGiven (rest : Rest) (launch : Launch) (answer : Result (List ℕ) L
 leads_by_answer : (f : FirstSeq) (past : History) (rest : Rest) (launch : Launch) (answer : Result (List ℕ) LoadFault)
     (file : Option (List ℕ)) (new : History) (left : Rest) → file_of answer ≡ Some file
     → Loads f past launch file rest.bytes new left → LeadsByFile f past rest (Some launch) answer new left
-leads_by_answer f past rest launch (Ok bytes) file new left is loads =
-    let e : Some bytes ≡ file = cc in inr (subst (λ b. Loads f past launch b rest.bytes new left) (sym e)
-    loads)
+leads_by_answer f past rest launch (Ok bytes) file new left is loads = grind (arith, common_steps)
 leads_by_answer f past rest launch (Err load_fault.CannotRead) file new left is loads =
     let e : None ≡ file = cc in inr (subst (λ b. Loads f past launch b rest.bytes new left) (sym e) loads)
 leads_by_answer f past rest launch (Err load_fault.NoMemory) file new left is loads = absurd cc
@@ -47,8 +46,7 @@ leads_by_load : (f : FirstSeq) (past : History) (rest : Rest) (launch : Launch) 
     (file : Option (List ℕ)) → IsGiven rest launch answer file → (new : History) (left : Rest)
     → Loads f past launch file rest.bytes new left → LeadsByEvent f past rest (File answer) new left
 leads_by_load f past rest launch answer file is new left loads =
-    subst (λ l. LeadsByFile f past rest l answer new left) (sym is.waits)
-    (leads_by_answer f past rest launch answer file new left is.file_is loads)
+    grind (arith, common_steps, leads_by_answer)
 
 toward_by_load : (f : FirstSeq) (past : History) (rest : Rest) (launch : Launch) (answer : Result (List ℕ) LoadFault)
     (file : Option (List ℕ)) → IsGiven rest launch answer file → (mid : History) → IsAfter past (Loaded launch file) mid
@@ -77,17 +75,16 @@ pub file_taken : (f : FirstSeq) (result : Result (Unit {0}) SessionFault) (past 
     → Handles f result past rest (File answer) last old later
 file_taken f result past rest launch answer file loaded last old between later taking is stream_is item taken =
     let mid = item.new in
-    let contents =
-    subst (λ b. HandlesContents f result mid b last between later) (ap (λ s. s.rest) stream_is)
-    (subst (λ g. HandlesContents g result mid loaded.stream.rest last between later) (ap (λ s. s.first) stream_is)
-    (taken mid (ap (λ s. s.fault) stream_is) item.free item.is_at)) in
-    goes_after f result (Takes f mid rest.bytes) (LeadsByEvent f past rest (File answer))
-    (TowardByPiece f mid None rest.bytes)
-    (Toward f past rest (File answer)) past mid last old between later
-    item.sends item.refuses_nothing
-    (λ new left all. leads_by_load f past rest launch answer file is new left
-    (record { taking = taking; mid = mid; loaded = item.after; after = all }))
-    (toward_by_load f past rest launch answer file is mid item.after) contents
+    let contents = subst (λ b. HandlesContents f result mid b last between later) (ap (λ s. s.rest) stream_is) (subst (λ
+    g. HandlesContents g result mid loaded.stream.rest last between later) (ap (λ s. s.first) stream_is) (taken mid (ap
+    (λ s. s.fault) stream_is) item.free item.is_at)) in
+    goes_after f result _ _ _ _ past mid last old between later item.sends item.refuses_nothing (λ new left all.
+    leads_by_load f past rest launch answer file is new left (record {
+      taking = taking;
+      mid = mid;
+      loaded = item.after;
+      after = all;
+    })) (toward_by_load f past rest launch answer file is mid item.after) contents
 
 -- ---- a launch that is not made
 
@@ -113,9 +110,7 @@ pub file_passed : (f : FirstSeq) (past : History) (rest : Rest) (answer : Result
     → GoesOn f session past rest
     → Handles f (Ok tt) past rest (File answer) last old old
 file_passed f past rest answer session last old same open_ free taking on =
-    subst (λ s. Handles f (Ok tt) past rest (File answer) s old old) (sym same)
-    (arrives_at_once f (LeadsByEvent f past rest (File answer)) past rest session old
-    (subst (λ l. LeadsByFile f past rest l answer past rest) (sym free ∙ on.launch_is) (refl, refl)) open_ taking on)
+    rw same (arrives_at_once f _ past rest session old (rw (← (sym free ∙ on.launch_is)) (refl, refl)) open_ taking on)
 
 -- ---- no memory for a file
 
@@ -129,5 +124,4 @@ lacking (Ok file) launch lacks = absurd lacks
 -- such a file isn't read
 pub not_lacking : (answer : Result (List ℕ) LoadFault) (launch : Option Launch) (file : Option (List ℕ))
     → file_of answer ≡ Some file → ¬ LacksMemory (File answer) launch
-not_lacking answer launch file is lacks =
-    let e : None ≡ Some file = sym (ap file_of (lacking answer launch lacks).0) ∙ is in absurd cc
+not_lacking answer launch file is lacks = grind (arith, common_steps, lacking)

@@ -1,13 +1,12 @@
 -- One item more, for a session at a history.
 use Rattle.std.proofs.Common.{◌≡◌, inl, inr, ℕ, [], ◌∷◌, ◌++◌, Option, None, Some, Result, Ok, Err, refl, sym, ◌∙◌, ap, append-nil, add-zero, ◌+◌, length, arith}
-use Rattle.std.specs.Prelude.{map, OnOk}
+use Rattle.std.specs.Prelude.{OnOk}
 use Rattle.dap_msg.specs.declared.command.CommandName.{CommandName}
 use Rattle.dap_msg.specs.declared.outgoing.Outgoing.{Outgoing}
-use Rattle.dap_msg.specs.declared.outgoing.Outgoing.TheVariants.{Answer, Event}
+use Rattle.dap_msg.specs.declared.outgoing.Outgoing.TheVariants.{Answer}
 use Rattle.dap_history.specs.declared.fault.SessionFault.{SessionFault}
 use Rattle.dap_history.specs.declared.fault.SessionFault.TheVariants.{NoMemory}
-use Rattle.dap_history.specs.Last.{or_else}
-use Rattle.dap_history.specs.History.{Item, Content, Step, History, Effect, messages, messages_of, orders_of, with_answer, next_seq}
+use Rattle.dap_history.specs.History.{Item, Content, Step, History, Effect, messages, messages_of, orders_of, next_seq}
 use Rattle.dap_history.specs.Readings.{closing, ending_of}
 use Rattle.dap_history.specs.Replies.{Reply}
 use Rattle.dap_history.specs.ReadingLaws.{ReadingsGoOn}
@@ -25,12 +24,12 @@ use Rattle.dap_session.specs.Sending.{Sends, RefusesNothing, BreaksOff}
 use Rattle.dap_session.specs.State.{State, Knows}
 use Rattle.dap_session.specs.Steps.{IsStepOf, IsSent}
 use Rattle.dap_session.specs.Handling.{TakesItem, FailsAtItem, HandlesItem}
+use Rattle.std.proofs.lemmas.Grind.{common_steps}
 
 -- an item that is taken ends the session as it says
 pub ending_after : ReadingsGoOn → (past : History) (step : Step) → IsTaking past
     → ending_of (past ++ step ∷ []) ≡ closing step.item
-ending_after laws past step taking =
-    laws.ending_is past step ∙ ap (or_else (closing step.item)) taking ∙ or_else-none (closing step.item)
+ending_after laws past step taking = cc (laws.ending_is past step, or_else-none (closing step.item))
 
 pub refuses_none : (old : Ports) → RefusesNothing old old
 refuses_none old = record { writer = refl; runner = refl; full = refl }
@@ -51,18 +50,7 @@ pub takes_item : ReadingsGoOn → (past : History) (step : Step) (session : Stat
     → Causes past step.item step
     → HasGoneOn past step session → WasSent past step session old later
     → TakesItem past step.item session old later
-takes_item laws past step session old later taking causes on was =
-    record {
-      new = past ++ step ∷ [];
-      after = record { step = step; item_is = refl; causes = causes; new_is = refl };
-      is_at = record {
-        ending_is = on.ending_is ∙ sym (ending_after laws past step taking);
-        knows = λ _. record { phase_is = on.phase_is; seq_is = was.seq_is };
-      };
-      free = on.free;
-      sends = was.sends;
-      refuses_nothing = was.refuses_nothing;
-    }
+takes_item laws past step session old later taking causes on was = grind (arith, common_steps, ending_after)
 
 pub fails_at_step : (fault : SessionFault) (past : History) (step : Step) (old later : Ports)
     → Causes past step.item step → BreaksOff fault past (past ++ step ∷ []) old later
@@ -81,13 +69,7 @@ fails_before past item old = record { next = past; next_is = inl refl; breaks = 
 -- a step of an item with this answer and this effect is what is sent
 pub is_step : (item : Item) (said answer : Option Outgoing) (effect : Effect) (done : Done) → said ≡ answer
     → DoesEffect done effect → IsStepOf said done (step_of item answer effect)
-is_step item said answer effect done same does =
-    record {
-      messages_are =
-          ap (λ a. with_answer a (map Event effect.events)) (sym same)
-          ∙ ap (λ events. with_answer said (map Event events)) (sym does.events_are);
-      orders_are = sym does.orders_are;
-    }
+is_step item said answer effect done same does = grind (arith, common_steps)
 
 -- a step that says and orders nothing
 pub sends_silent : ReadingsGoOn → (past : History) (step : Step) → messages step ≡ [] → step.effect.orders ≡ []
@@ -126,10 +108,7 @@ pub is_answer_step : (item : Item) (seq : ℕ) (said name : CommandName) (given 
     → GivesReply given reply
     → IsStepOf (Some (Answer seq said given.result)) given.effect
     (step_of item (Some (Answer seq name reply.result)) reply.effect)
-is_answer_step item seq said name given reply named gives =
-    is_step item (Some (Answer seq said given.result)) (Some (Answer seq name reply.result)) reply.effect given.effect
-    (ap (λ r. Some (Answer seq said r)) gives.result_is ∙ ap (λ n. Some (Answer seq n reply.result)) named)
-    gives.effect_is
+is_answer_step item seq said name given reply named gives = is_step item _ _ _ _ (cc gives.result_is) gives.effect_is
 
 -- a step that ends nothing was sent, or broken off
 pub sends_item : ReadingsGoOn → (result : Result (Unit {0}) SessionFault) (past : History) (step : Step)

@@ -1,34 +1,26 @@
 -- Sending, one part after another.
 use Rattle.std.proofs.Common.{◌≡◌, ℕ, ◌+◌, List, [], ◌∷◌, ◌++◌, length, sym, ◌∙◌, ap, arith, append_assoc, append-nil, length-append}
 use Rattle.dap_msg.specs.declared.outgoing.Outgoing.{Outgoing}
-use Rattle.dap_msg.specs.Outgoing.{text_of}
-use Rattle.dap_frame.specs.Frame.{frame_of}
 use Rattle.dbg_runner.specs.Plain.{PlainOrder}
 use Rattle.dap_history.specs.History.{History, messages_of, orders_of, next_seq}
 use Rattle.dap_history.specs.Output.{frames_from}
 use Rattle.dap_session.specs.Ports.{Ports}
 use Rattle.dap_session.specs.Sending.{AddsToHistory, Sends, RefusesNothing}
+use Rattle.std.proofs.lemmas.Grind.{common_steps}
 
 pub frames_from-append : (n : ℕ) (xs ys : List Outgoing) → frames_from n (xs ++ ys) ≡ frames_from n xs
     ++ frames_from (n + length xs) ys
 frames_from-append n [] ys = ap (λ k. frames_from k ys) (omega arith)
-frames_from-append n (x ∷ xs) ys =
-    ap (λ l. frame_of (text_of x n) ∷ l) (frames_from-append (n + 1) xs ys
-    ∙ ap (λ k. frames_from (n + 1) xs ++ frames_from k ys) (omega arith))
+frames_from-append n (x ∷ xs) ys = grind (arith, common_steps, frames_from-append (n + 1) xs ys)
 
 pub adds_both : (a b c : History) (m n : List Outgoing) (o r : List PlainOrder) → AddsToHistory a b m o
     → AddsToHistory b c n r
     → AddsToHistory a c (m ++ n) (o ++ r)
-adds_both a b c m n o r first next =
-    record {
-      messages_are = next.messages_are ∙ ap (λ l. l ++ n) first.messages_are ∙ append_assoc (messages_of a) m n;
-      orders_are = next.orders_are ∙ ap (λ l. l ++ r) first.orders_are ∙ append_assoc (orders_of a) o r;
-    }
+adds_both a b c m n o r first next = grind (arith, common_steps, append_assoc)
 
 pub next_seq_along : (a b : History) (m : List Outgoing) (o : List PlainOrder) → AddsToHistory a b m o
     → next_seq b ≡ next_seq a + length m
-next_seq_along a b m o adds =
-    let e = ap length adds.messages_are in let l = length-append (messages_of a) m in omega (arith, e, l)
+next_seq_along a b m o adds = grind (arith, common_steps, length-append)
 
 pub sends_both : (a b c : History) (p q r : Ports) → Sends a b p q → Sends b c q r → Sends a c p r
 sends_both a b c p q r first next =
@@ -59,5 +51,4 @@ sends_nothing past old = record {
 }
 
 pub refuses_both : (p q r : Ports) → RefusesNothing p q → RefusesNothing q r → RefusesNothing p r
-refuses_both p q r first next =
-    record { writer = next.writer ∙ first.writer; runner = next.runner ∙ first.runner; full = next.full ∙ first.full }
+refuses_both p q r first next = grind (arith, common_steps)

@@ -32,11 +32,10 @@ module _ (count : SeqCountFromOne) (back : FramesAreReadBack) where
       → (message : Outgoing) × (content : List ℕ) × (slice_get (messages_of past) n ≡ Some message)
       × (frame ≡ frame_of content) × ReadsAsMessage message (n + 1) content
   reads_nth f events past rest history n frame is small =
-      let there =
-      there_is (λ m. frame_of (text_of m (n + 1))) (slice_get (messages_of past) n) frame
-      (sym (count (messages_of past) n) ∙ is) in
+      let there = there_is (λ m. frame_of (text_of m (n + 1))) _ frame (sym (count (messages_of past) n)
+      ∙ is) in
       let read = back f events past rest history n there.0 there.1 small in
-      (there.0, read.0, there.1, same_Some frame (frame_of read.0) (sym is ∙ read.1), read.2)
+      (there.0, read.0, there.1, same_Some frame _ (sym is ∙ read.1), read.2)
 
   pub frames_are_numbered : IsReadOnce → HistoryIsOne → FramesAreNumbered
   frames_are_numbered once one f result given_before given_after loaded_before loaded_after old later driven =

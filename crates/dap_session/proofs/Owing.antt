@@ -1,14 +1,13 @@
 -- What a session has sent where it owes nothing, or a launch alone, is determined.
-use Rattle.std.proofs.Common.{◌≡◌, ◌⊎◌, inl, inr, ℕ, List, [], ◌∷◌, ◌++◌, None, option_map, refl, sym, ◌∙◌, ap, subst}
+use Rattle.std.proofs.Common.{◌≡◌, ◌⊎◌, inl, inr, ℕ, List, [], ◌∷◌, ◌++◌, None, refl, sym, ◌∙◌, ap, subst, arith}
 use Rattle.std.proofs.lemmas.List.{append_cancel_left}
 use Rattle.dap_msg.specs.declared.request.FirstSeq.{FirstSeq}
-use Rattle.dap_history.specs.History.{messages_of, orders_of}
 use Rattle.dap_history.specs.Events.{Incoming, Piece, End, ReadFailed, File, Report, Rest, IsTaking}
 use Rattle.dap_history.specs.Events.{NoMemory as NoMemoryCame}
 use Rattle.dap_history.specs.Interleaving.{Load, Awaits, AwaitsNone, IsLoad, Interleaves}
 use Rattle.dap_history.specs.Laws.{HistoryIsOne}
-use Rattle.dap_history.specs.Output.{frames_from}
 use Rattle.dap_session.specs.Laws.{SentIsKnown}
+use Rattle.std.proofs.lemmas.Grind.{common_steps}
 
 -- a launch doesn't both wait and not wait
 not_both : HistoryIsOne → (first : FirstSeq) (before : List Incoming) (path : List ℕ) → Awaits first before path
@@ -65,13 +64,4 @@ one_way one first before (x ∷ xs) (y ∷ ys) given loads (inr a) (inr b) =
 
 pub sent_is_known : HistoryIsOne → SentIsKnown
 sent_is_known one first path other begin now old later last a b =
-    let given = append_cancel_left begin.given a.given b.given (sym a.given_are ∙ b.given_are) in
-    let loads = append_cancel_left begin.loaded a.loads b.loads (sym a.loads_are ∙ b.loads_are) in
-    let events = one_way one first [] a.events b.events a.given a.loads a.interleaves
-    (subst (λ g. Interleaves first [] b.events g a.loads) (sym given)
-    (subst (λ l. Interleaves first [] b.events b.given l) (sym loads) b.interleaves)) in
-    let same = one first a.events a.past b.past a.rest b.rest a.history (rw events b.history) in (
-      a.waits ∙ ap (λ (r : Rest). option_map (λ launch. launch.arguments.program) r.launch) same.1 ∙ sym b.waits,
-      a.frames_are ∙ ap (λ past. old.frames ++ frames_from 1 (messages_of past)) same.0 ∙ sym b.frames_are,
-      a.orders_are ∙ ap (λ past. old.orders ++ orders_of past) same.0 ∙ sym b.orders_are,
-    )
+    grind (arith, common_steps, append_cancel_left, one_way)

@@ -10,7 +10,7 @@ use Rattle.dap_history.specs.Events.{Rest, Piece, IsTaking, no_content, LeadsByP
 use Rattle.dap_replies.specs.Phases.{IsPhase, launch_of}
 use Rattle.dap_session.specs.Ports.{Ports}
 use Rattle.dap_session.specs.State.{State, GoesOn}
-use Rattle.dap_session.specs.Taking.{TowardByPiece, Toward}
+use Rattle.dap_session.specs.Taking.{TowardByPiece}
 use Rattle.dap_session.specs.Handling.{HasHistory, Goes, Handles, HandlesContents}
 use Rattle.dap_session.proofs.Going.{stops_at_once, arrives_at_once}
 
@@ -22,9 +22,7 @@ toward_here f past (Some launch) bytes = refl
 -- there was no memory for the piece
 pub piece_lost : (f : FirstSeq) (session : State) (past : History) (rest : Rest) (piece : List ℕ) (old : Ports)
     → Handles f (Err NoMemory) past rest (Piece piece) session old old
-piece_lost f session past rest piece old =
-    inl (stops_at_once (Toward f past rest (Piece piece)) past old
-    (toward_here f past rest.launch (rest.bytes ++ piece)))
+piece_lost f session past rest piece old = inl (stops_at_once _ past old (toward_here f past rest.launch _))
 
 -- the session with a decoder that has the piece
 pub record IsFed (session fed : State) (piece : List ℕ) : Type 0 where
@@ -92,13 +90,11 @@ pub piece_waits : (f : FirstSeq) (session fed : State) (piece : List ℕ) (past 
 piece_waits f session fed piece past rest old open_ is some taking on =
     let bytes = rest.bytes ++ piece in
     let at = at_fed f session fed piece past rest is open_ taking on in
-    let same : launch_of fed.phase ≡ rest.launch = ap launch_of is.phase_is ∙ on.launch_is in
-    arrives_at_once f (LeadsByPiece f past rest.launch bytes) past
-    (record { launch = rest.launch; bytes = bytes }) fed old
-    (waits_with f rest.launch past bytes (ap is_some (sym same) ∙ some)) (is.ending_is ∙ open_) taking
-    (record {
+    let same : launch_of fed.phase ≡ rest.launch = ap launch_of is.phase_is
+    ∙ on.launch_is in
+    arrives_at_once f (LeadsByPiece f past rest.launch bytes) past (record { launch = rest.launch; bytes = bytes }) fed
+    old (waits_with f rest.launch past bytes (ap is_some (sym same) ∙ some)) (is.ending_is ∙ open_) taking (record {
       knows = at.knows taking;
       launch_is = same;
-      stream_is = is.stream_is ∙ ap (λ s. record { first = s.first; rest = s.rest ++ piece; fault = None })
-          on.stream_is;
+      stream_is = cc (is.stream_is, on.stream_is);
     })

@@ -1,5 +1,5 @@
 -- A report that a session takes.
-use Rattle.std.proofs.Common.{◌≡◌, inl, inr, None, Some, Result, Ok, Err, refl, sym, ◌∙◌, ap, subst}
+use Rattle.std.proofs.Common.{◌≡◌, inl, inr, None, Some, Result, Ok, Err, refl, sym, ◌∙◌, ap, subst, arith}
 use Rattle.std.specs.Prelude.{OnOk}
 use Rattle.dbg_runner.specs.declared.outcome.SliceOutcome.{SliceOutcome}
 use Rattle.dbg_runner.specs.declared.outcome.SliceOutcome.TheVariants as slice
@@ -18,9 +18,10 @@ use Rattle.dap_replies.specs.Runs.{OrderedRun, heading_in}
 use Rattle.dap_replies.specs.Phases.{launch_of, IsPhase}
 use Rattle.dap_session.specs.Ports.{Ports}
 use Rattle.dap_session.specs.State.{State, GoesOn}
-use Rattle.dap_session.specs.Taking.{Expects, Toward}
+use Rattle.dap_session.specs.Taking.{Expects}
 use Rattle.dap_session.specs.Handling.{NeededNoMemory, HandlesItem, Handles}
 use Rattle.dap_session.proofs.Going.{stops_at_item, arrives_at_once}
+use Rattle.std.proofs.lemmas.Grind.{common_steps}
 
 -- only a report of a failed allocation ends the session
 pub ends_nothing : (outcome : SliceOutcome) → ¬ (outcome ≡ slice.NoMemory) → closing_report outcome ≡ None
@@ -47,12 +48,7 @@ passed f past rest r session old not open_ taking on =
 -- what the next report begins with, by the history
 heading_is : (past : History) (t : Target) (run : OrderedRun) → IsPhase (phase.Running t run) past → (first : Heading)
     → last_run past ≡ Some first → record first { start = position past } ≡ heading_in t.runs run
-heading_is past t run is first ordered =
-    let known = is.keeps in
-    let e : Some first ≡ Some known.1.first = sym ordered ∙ known.1.ordered in
-    let same : first ≡ known.1.first = cc in
-    ap (λ (h : Heading). record h { start = position past }) same ∙ known.1.goes_on
-    ∙ ap (λ n. heading_in n run) (sym known.0.runs_are)
+heading_is past t run is first ordered = grind (arith, common_steps)
 
 -- what the history accepts, the phase expects
 expects : (p : Phase) (past : History) (r : PlainReport) → IsPhase p past → Accepts past r → Expects p r
@@ -69,9 +65,8 @@ pub report_passed : (f : FirstSeq) (past : History) (rest : Rest) (r : PlainRepo
     → last ≡ session → ¬ Expects session.phase r → session.ending ≡ None → IsTaking past → GoesOn f session past rest
     → Handles f (Ok tt) past rest (Report r) last old old
 report_passed f past rest r session last old same other open_ taking on =
-    subst (λ s. Handles f (Ok tt) past rest (Report r) s old old) (sym same)
-    (passed f past rest r session old (λ accepts. other (expects session.phase past r on.knows.phase_is accepts)) open_
-    taking on)
+    rw same (passed f past rest r session old (λ accepts. other (expects session.phase past r on.knows.phase_is
+    accepts)) open_ taking on)
 
 -- ---- a report that is accepted
 
@@ -107,23 +102,8 @@ pub report_taken : (f : FirstSeq) (result : Result (Unit {0}) SessionFault) (pas
     → IsTaking past → GoesOn f session past rest
     → HandlesItem result past (Accepted r) last old later → Handles f result past rest (Report r) last old later
 report_taken f (Ok u) past rest t run r session last old later had same taking on item =
-    let is = subst (λ p. IsPhase p past) had.phase_was on.knows.phase_is in
-    let accepts = accepts_report past t run r is had.expected in
-    record {
-      new = item.new;
-      rest = rest;
-      way = (inr (taking, accepts, item.after), refl);
-      ending_is = item.is_at.ending_is;
-      goes_on = λ still. record {
-        knows = item.is_at.knows still;
-        launch_is = item.free ∙ sym (ap launch_of had.phase_was) ∙ on.launch_is;
-        stream_is = same ∙ on.stream_is;
-      };
-      sends = item.sends;
-      refuses_nothing = item.refuses_nothing;
-    }
+    grind (arith, common_steps, accepts_report)
 report_taken f (Err fault) past rest t run r session last old later had same taking on item =
     let is = subst (λ p. IsPhase p past) had.phase_was on.knows.phase_is in
     let accepts = accepts_report past t run r is had.expected in
-    inl (stops_at_item (Toward f past rest (Report r)) fault past (Accepted r) old later (inl refl)
-    (λ new after. inr (accepts, after)) item)
+    inl (stops_at_item _ fault past _ old later (inl refl) (λ new after. inr (accepts, after)) item)

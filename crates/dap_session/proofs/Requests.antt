@@ -1,5 +1,5 @@
 -- A request that is answered, and a launch that waits for its file.
-use Rattle.std.proofs.Common.{◌≡◌, inl, inr, ℕ, Option, None, Some, Result, Ok, Err, refl, sym, ◌∙◌, ap, subst}
+use Rattle.std.proofs.Common.{◌≡◌, inl, inr, ℕ, Option, None, Some, Result, Ok, Err, refl, arith}
 use Rattle.dap_msg.specs.declared.requests.launch.LaunchArguments.{LaunchArguments}
 use Rattle.dap_msg.specs.declared.requests.initialize.InitializeArguments.{InitializeArguments}
 use Rattle.dap_msg.specs.declared.request.Request.{Request}
@@ -12,15 +12,15 @@ use Rattle.dap_history.specs.declared.situation.Situation.TheVariants.{Ready}
 use Rattle.dap_history.specs.History.{Content, History}
 use Rattle.dap_history.specs.Readings.{situation}
 use Rattle.dap_history.specs.Launching.{wanted_by, wanted_in}
-use Rattle.dap_history.specs.Events.{IsTaking}
 use Rattle.dap_replies.specs.declared.phase.Phase.{Phase}
 use Rattle.dap_replies.specs.declared.phase.Phase.TheVariants as phase
 use Rattle.dap_replies.specs.Phases.{situation_of, launch_of, WantsNoFile, IsPhase}
 use Rattle.dap_session.specs.Ports.{Ports}
 use Rattle.dap_session.specs.State.{State}
-use Rattle.dap_session.specs.Handling.{HasHistory, HandlesItem, LeadsByContent, TakesContent, HandlesContent}
+use Rattle.dap_session.specs.Handling.{HasHistory, HandlesItem, TakesContent, HandlesContent}
 use Rattle.dap_session.proofs.Items.{refuses_none}
 use Rattle.dap_session.proofs.Joining.{sends_nothing}
+use Rattle.std.proofs.lemmas.Grind.{common_steps}
 
 -- ---- which content wants a file
 
@@ -46,8 +46,7 @@ unwanted_in (phase.Ended t u) request wants free = refl
 
 pub unwanted : (p : Phase) (past : History) (request : Request) → IsPhase p past → WantsNoFile p request.body
     → launch_of p ≡ None → wanted_in (situation past) (Some request) ≡ None
-unwanted p past request is wants free =
-    ap (λ s. wanted_in s (Some request)) is.situation_is ∙ unwanted_in p request wants free
+unwanted p past request is wants free = cc (is.situation_is, unwanted_in p request wants free)
 
 -- ---- what comes of a content
 
@@ -55,14 +54,7 @@ unwanted p past request is wants free =
 pub content_of_item : (result : Result (Unit {0}) SessionFault) (past : History) (request : Option Request)
     (session : State) (old later : Ports) → wanted_in (situation past) request ≡ None
     → HandlesItem result past (Content request) session old later → HandlesContent result past request session old later
-content_of_item (Ok u) past request session old later none item =
-    record {
-      new = item.new;
-      is_at = item.is_at;
-      leads = subst (λ launch. LeadsByContent past request launch item.new) (sym item.free) (none, item.after);
-      sends = item.sends;
-      refuses_nothing = item.refuses_nothing;
-    }
+content_of_item (Ok u) past request session old later none item = grind (arith, common_steps)
 content_of_item (Err fault) past request session old later none item =
     record {
       next = item.next;
@@ -87,21 +79,4 @@ pub launch_waits : (past : History) (request : Request) (arguments : LaunchArgum
     → IsWaiting session waiting settings (record { seq = request.seq; arguments = arguments })
     → TakesContent past (Some request) waiting old old
 launch_waits past request arguments settings session waiting old open_ at launches is =
-    let launch : Launch = record { seq = request.seq; arguments = arguments } in
-    let taking : IsTaking past = sym at.ending_is ∙ open_ in
-    let was : IsPhase (phase.Ready settings) past =
-    subst (λ p. IsPhase p past) is.phase_was (at.knows taking).phase_is in
-    record {
-      new = past;
-      is_at = record {
-        ending_is = is.ending_is ∙ at.ending_is;
-        knows = λ _. record {
-          phase_is = subst (λ p. IsPhase p past) (sym is.phase_is) (launching_phase settings launch past was);
-          seq_is = is.seq_is ∙ (at.knows taking).seq_is;
-        };
-      };
-      leads = subst (λ l. LeadsByContent past (Some request) l past) (sym (ap launch_of is.phase_is))
-          (ap (λ s. wanted_in s (Some request)) was.situation_is ∙ ap (wanted_by request.seq) launches, refl);
-      sends = sends_nothing past old;
-      refuses_nothing = refuses_none old;
-    }
+    grind (arith, common_steps, launching_phase, sends_nothing, refuses_none)

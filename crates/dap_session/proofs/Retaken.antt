@@ -1,9 +1,5 @@
 -- A history that a session reached is that of some events: each content in a piece of its own.
-use Rattle.std.proofs.Common.{◌≡◌, ◌⊎◌, inl, inr, ℕ, List, [], ◌∷◌, ◌++◌, length, Option, None, Some, Result, Ok, Err, refl, sym, ◌∙◌, ap, subst, length-append, arith}
-use Rattle.dap_frame.specs.declared.fault.FramingFault.{FramingFault}
-use Rattle.dap_frame.specs.declared.fault.FramingFault.TheVariants as framing
-use Rattle.dap_frame.specs.Frame.{IsFrameInFront, IsOpen}
-use Rattle.dap_frame.specs.Header.{line_end, lines_of, line_of, HasFaultyLine, FaultAt}
+use Rattle.std.proofs.Common.{◌≡◌, ◌⊎◌, inl, inr, ℕ, List, [], ◌∷◌, ◌++◌, Option, None, Some, Result, Ok, Err, refl, sym, ◌∙◌, ap, subst}
 use Rattle.dap_msg.specs.declared.request.Request.{Request}
 use Rattle.dbg_runner.specs.Lawful.{IsLawfulReport}
 use Rattle.dbg_runner.specs.Plain.{PlainReport}
@@ -97,9 +93,8 @@ launch_given : {f : FirstSeq} {past : History} → Retaken f past None
     → Retaken f past (Some launch)
 launch_given {f = f} {past = past} retaken request launch bytes more taking front wanted =
     let frame = alone f bytes request more front in
-    one_event retaken (Piece frame.0) past (only_launch (Some launch)) (Some launch) tt taking
-    (at_once (waits request launch [] taking frame.1 wanted))
-    (λ still. refl)
+    one_event retaken (Piece frame.0) past _ (Some launch) tt taking (at_once (waits request launch [] taking frame.1
+    wanted)) (λ still. refl)
 
 load_given : {f : FirstSeq} {past : History} {launch : Launch} → Retaken f past (Some launch)
     → (file : Option (List ℕ)) (new : History)
@@ -123,8 +118,7 @@ item_given : {f : FirstSeq} {past : History} {launch : Option Launch} → Retake
     → (item : Item) (event : Incoming) (new : History) → AreLawful (event ∷ [])
     → (MayTake past item new → LeadsByEvent f past (only_launch launch) event new (only_launch launch))
     → MayTake past item new → Retaken f new launch
-item_given {f = f} {launch = launch} retaken item event new law leads (inl not) =
-    subst (λ h. Retaken f h launch) (sym not.1) retaken
+item_given {f = f} {launch = launch} retaken item event new law leads (inl not) = rw not.1 retaken
 item_given {f = f} {launch = launch} retaken item event new law leads (inr is) =
     one_event retaken event new (only_launch launch) launch law is.0 (leads (inr is)) (λ still. refl)
 
@@ -158,16 +152,13 @@ takes_given f past new bytes rest taken retaken = rests_given taken.3 (some_give
 piece_given : (f : FirstSeq) (past : History) (launch : Option Launch) (bytes : List ℕ) (new : History) (left : Rest)
     → LeadsByPiece f past launch bytes new left → Retaken f past launch → Retaken f new left.launch
 piece_given f past None bytes new left leads retaken = takes_given f past new bytes left leads retaken
-piece_given f past (Some launch) bytes new left leads retaken =
-    subst (λ h. Retaken f h left.launch) (sym leads.0)
-    (subst (λ (r : Rest). Retaken f past r.launch) (sym leads.1) retaken)
+piece_given f past (Some launch) bytes new left leads retaken = rw leads.0 (rw leads.1 retaken)
 
 -- nothing comes of the event
 passed_over : {f : FirstSeq} (past : History) (rest : Rest) (launch : Option Launch) (new : History) (left : Rest)
     → rest.launch ≡ launch → new ≡ past → left ≡ rest → Retaken f past launch → Retaken f new left.launch
 passed_over {f = f} past rest launch new left is same left_is retaken =
-    subst (λ h. Retaken f h left.launch) (sym same)
-    (subst (Retaken f past) (sym is ∙ ap (λ (r : Rest). r.launch) (sym left_is)) retaken)
+    rw same (rw (← (sym is ∙ ap (λ (r : Rest). r.launch) (sym left_is))) retaken)
 
 file_given : (f : FirstSeq) (past : History) (rest : Rest) (launch : Option Launch) (answer : Result (List ℕ) LoadFault)
     (new : History) (left : Rest) → rest.launch ≡ launch → LeadsByFile f past rest launch answer new left
@@ -177,13 +168,11 @@ file_given f past rest None answer new left is leads retaken =
 file_given f past rest (Some launch) (Ok bytes) new left is (inl not) retaken =
     passed_over past rest (Some launch) new left is not.1 not.2 retaken
 file_given f past rest (Some launch) (Ok bytes) new left is (inr loads) retaken =
-    takes_given f loads.mid new rest.bytes left loads.after
-    (load_given retaken (Some bytes) loads.mid loads.taking loads.loaded)
+    takes_given f _ new _ left loads.after (load_given retaken _ _ loads.taking loads.loaded)
 file_given f past rest (Some launch) (Err load_fault.CannotRead) new left is (inl not) retaken =
     passed_over past rest (Some launch) new left is not.1 not.2 retaken
 file_given f past rest (Some launch) (Err load_fault.CannotRead) new left is (inr loads) retaken =
-    takes_given f loads.mid new rest.bytes left loads.after
-    (load_given retaken None loads.mid loads.taking loads.loaded)
+    takes_given f _ new _ left loads.after (load_given retaken None _ loads.taking loads.loaded)
 file_given f past rest (Some launch) (Err load_fault.NoMemory) new left is leads retaken =
     passed_over new rest (Some launch) new left is refl leads.1
     (item_given retaken MemoryFailure NoMemoryCame new tt (λ may. (may, refl)) leads.0)
@@ -245,16 +234,14 @@ toward_item : {f : FirstSeq} (past : History) (launch : Option Launch) (item : I
     → AreLawful (event ∷ []) → IsTaking
     past → (MayTake past item new → LeadsByEvent f past (only_launch launch) event new (only_launch launch))
     → (new ≡ past) ⊎ IsAfter past item new → Retaken f past launch → IsRetaken f new
-toward_item {f = f} past launch item event new law taking leads (inl same) here =
-    (launch, subst (λ h. Retaken f h launch) (sym same) here)
+toward_item {f = f} past launch item event new law taking leads (inl same) here = (launch, rw same here)
 toward_item {f = f} past launch item event new law taking leads (inr after) here =
     (launch, item_given here item event new law leads (inr (taking, after)))
 
 toward_file : (f : FirstSeq) (past : History) (rest : Rest) (answer : Result (List ℕ) LoadFault) (new : History)
     → IsTaking past
     → (new ≡ past) ⊎ LoadsToward f past rest answer new → Retaken f past rest.launch → IsRetaken f new
-toward_file f past rest answer new taking (inl same) here =
-    (rest.launch, subst (λ h. Retaken f h rest.launch) (sym same) here)
+toward_file f past rest answer new taking (inl same) here = (rest.launch, rw same here)
 toward_file f past rest answer new taking (inr loads) here = (
   None,
   some_given loads.taken (load_given (subst (Retaken f past) loads.waits here) loads.file loads.mid taking
@@ -270,11 +257,9 @@ retaken_toward f past rest End new law taking toward here =
     toward_item past rest.launch InputEnd End new tt taking (λ may. (may, refl)) toward here
 retaken_toward f past rest ReadFailed new law taking toward here =
     toward_item past rest.launch ReadFailure ReadFailed new tt taking (λ may. (may, refl)) toward here
-retaken_toward f past rest NoMemoryCame new law taking toward here =
-    (rest.launch, subst (λ h. Retaken f h rest.launch) (sym toward) here)
+retaken_toward f past rest NoMemoryCame new law taking toward here = (rest.launch, rw toward here)
 retaken_toward f past rest (File answer) new law taking toward here =
     toward_file f past rest answer new taking toward here
-retaken_toward f past rest (Report r) new law taking (inl same) here =
-    (rest.launch, subst (λ h. Retaken f h rest.launch) (sym same) here)
+retaken_toward f past rest (Report r) new law taking (inl same) here = (rest.launch, rw same here)
 retaken_toward f past rest (Report r) new law taking (inr is) here =
     (rest.launch, report_given here r new law.0 taking is.0 is.1)

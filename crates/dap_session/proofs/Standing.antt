@@ -1,5 +1,5 @@
 -- One event more for a session that represents some.
-use Rattle.std.proofs.Common.{◌≡◌, ◌≢◌, ◌⊎◌, inl, inr, ℕ, List, [], ◌∷◌, ◌++◌, Option, None, Some, Result, Ok, Err, refl, sym, ◌∙◌, ap, subst}
+use Rattle.std.proofs.Common.{◌≡◌, ◌≢◌, ◌⊎◌, inl, inr, ℕ, List, [], ◌∷◌, ◌++◌, Option, None, Some, Result, Ok, Err, refl, sym, ◌∙◌, ap, subst, arith}
 use Rattle.std.specs.Prelude.{IfOk, IfErr, String, string_bytes}
 use Rattle.std.specs.declared.alloc.Global.{Global}
 use Rattle.dap_msg.specs.declared.requests.initialize.InitializeArguments.{InitializeArguments}
@@ -8,11 +8,8 @@ use Rattle.dap_history.specs.declared.fault.LoadFault.{LoadFault}
 use Rattle.dap_history.specs.declared.fault.LoadFault.TheVariants as load_fault
 use Rattle.dap_history.specs.declared.fault.SessionFault.{SessionFault}
 use Rattle.dap_history.specs.declared.fault.SessionFault.TheVariants.{Frame, NoMemory, SeqExhausted, OrdersFull, RunnerGone, WriterGone}
-use Rattle.dap_history.specs.declared.ending.Ending.{Ending}
 use Rattle.dap_history.specs.declared.launch.Launch.{Launch}
-use Rattle.dap_history.specs.History.{Item, MemoryFailure, Fault, History}
-use Rattle.dap_history.specs.Readings.{closing, ending_of}
-use Rattle.dap_history.specs.Emission.{IsAfter}
+use Rattle.dap_history.specs.History.{MemoryFailure, Fault, History}
 use Rattle.dap_history.specs.Events as event
 use Rattle.dap_history.specs.Events.{Incoming, Rest, only_bytes, IsHistoryOf, IsTaking, TakesSome, no_content, one_content, Rests, closed, open_ended, faulty, waits, Takes, Loads, LeadsByPiece, LeadsByFile, LeadsByEvent, LeadsByEvents}
 use Rattle.dap_replies.specs.declared.phase.Phase.TheVariants as phase
@@ -20,10 +17,11 @@ use Rattle.dap_replies.specs.Phases.{launch_of}
 use Rattle.dap_session.specs.declared.want.Want.{Want}
 use Rattle.dap_session.specs.declared.want.Want.TheVariants as want_is
 use Rattle.dap_session.specs.Ports.{Ports}
-use Rattle.dap_session.specs.State.{State, Represents, WantsHere, Wants}
+use Rattle.dap_session.specs.State.{State, Represents, Wants}
 use Rattle.dap_session.specs.Taking.{TowardByPiece, LoadsToward, file_of, Toward, EventGivesUp, Comes, TakesEvent}
 use Rattle.dap_session.specs.Handling.{Arrives, StopsOnTheWay, Handles, NeededNoMemory, HandlesEvent}
 use Rattle.dap_history.proofs.Along.{closes_for_good}
+use Rattle.std.proofs.lemmas.Grind.{common_steps}
 
 -- one event after others
 pub leads_one_more : (f : FirstSeq) (past : History) (rest : Rest) (events : List Incoming) (mid : History)
@@ -56,8 +54,7 @@ none_after (waits request launch more taking front wanted) still = refl
 toward_by_contents : (f : FirstSeq) (past new : History) (bytes : List ℕ) (rest : Rest)
     → Takes f past bytes new rest
     → IsTaking new → TowardByPiece f past None bytes new
-toward_by_contents f past new bytes rest taken still =
-    (taken.1, subst (λ h. TakesSome f past bytes h taken.1) (none_after taken.3 still) taken.2)
+toward_by_contents f past new bytes rest taken still = (taken.1, rw (← (none_after taken.3 still)) taken.2)
 
 toward_by_piece : (f : FirstSeq) (past : History) (launch : Option Launch) (bytes : List ℕ)
     (new : History)
@@ -102,10 +99,8 @@ leads_toward : (f : FirstSeq) (past : History) (rest : Rest) (e : Incoming) (new
     → IsTaking past → LeadsByEvent f past rest e new left → IsTaking new → Toward f past rest e new
 leads_toward f past rest (event.Piece piece) new left taking leads still =
     toward_by_piece f past rest.launch (rest.bytes ++ piece) new left leads still
-leads_toward f past rest event.End new left taking leads still =
-    elim leads.0 [ inl not ↦ inl not.1 | inr after ↦ inr after.1 ]
-leads_toward f past rest event.ReadFailed new left taking leads still =
-    elim leads.0 [ inl not ↦ inl not.1 | inr after ↦ inr after.1 ]
+leads_toward f past rest event.End new left taking leads still = grind (arith, common_steps)
+leads_toward f past rest event.ReadFailed new left taking leads still = grind (arith, common_steps)
 leads_toward f past rest event.NoMemory new left taking leads still =
     elim leads.0 [
       | inl not ↦ not.1
@@ -113,8 +108,7 @@ leads_toward f past rest event.NoMemory new left taking leads still =
     ]
 leads_toward f past rest (event.File answer) new left taking leads still =
     toward_by_file f past rest rest.launch answer new left refl taking leads still
-leads_toward f past rest (event.Report r) new left taking leads still =
-    elim leads.0 [ inl not ↦ inl not.1 | inr is ↦ inr (is.1, is.2) ]
+leads_toward f past rest (event.Report r) new left taking leads still = grind (arith, common_steps)
 
 -- ---- what comes of the event
 
@@ -191,25 +185,14 @@ comes_of_want f (Ok want) events past e start session last old later stands taki
       wants = wants;
     })
 comes_of_want f (Err fault) events past e start session last old later stands taking came wants lost same =
-    rw lost.0 (record {
-      mid = came.new;
-      toward = leads_toward f past stands.rest e came.new came.rest taking came.way (sym came.ending_is ∙ lost.1);
-      between = later;
-      sent = came.sends;
-      refuses_nothing = came.refuses_nothing;
-      next = came.new;
-      next_is = inl refl;
-      breaks = refl;
-    })
+    grind (arith, common_steps, leads_toward)
 
 -- a launch waits for the file at the path
 pub wants_file : (session : State) (path : String Global) (settings : InitializeArguments) (launch : Launch)
     → session.ending ≡ None → session.phase ≡ phase.Launching settings launch
     → string_bytes path ≡ launch.arguments.program
     → Wants (want_is.File path) session session.ending
-wants_file session path settings launch open_ launching spelled =
-    subst (λ ending. Wants (want_is.File path) session ending) (sym open_)
-    (subst (λ p. WantsHere (want_is.File path) (launch_of p)) (sym launching) (path, refl, spelled))
+wants_file session path settings launch open_ launching spelled = rw open_ (rw launching (path, refl, spelled))
 
 -- where no launch waits, nothing has to be made to ask for what comes next
 want_needs_none : (result : Result Want SessionFault) (session : State)
@@ -228,8 +211,7 @@ handled_from : (start session : State) (e : Incoming) (taken : Result (Unit {0})
     → (f : FirstSeq) (events : List Incoming) (past : History)
     (stands : Represents f start events past) → Handles f taken past stands.rest e session old later
 handled_from start session e taken old later open_ handled f events past stands =
-    let taking : IsTaking past = sym stands.ending_is ∙ open_ in
-    handled.comes f past stands.rest taking (stands.goes_on taking)
+    grind (arith, common_steps)
 
 -- with the result under another name
 pub takes_as : (start last : State) (e : Incoming) (result same : Result Want SessionFault) (old later : Ports)

@@ -2,7 +2,6 @@
 use Rattle.std.specs.Prelude.{◌≡◌, ◌≢◌, ◌⊎◌, ◌++◌, ◌∷◌, [], ℕ, List, Option, Some, None, Result, Ok, Err}
 use Rattle.dap_frame.specs.declared.fault.FramingFault.{FramingFault}
 use Rattle.dap_msg.specs.declared.request.FirstSeq.{FirstSeq}
-use Rattle.dap_msg.specs.declared.request.Request.{Request}
 use Rattle.dbg_runner.specs.Plain.{PlainReport}
 use Rattle.dap_history.specs.declared.fault.SessionFault.{SessionFault}
 use Rattle.dap_history.specs.declared.fault.SessionFault.TheVariants.{Frame, NoMemory}
@@ -10,9 +9,8 @@ use Rattle.dap_history.specs.declared.fault.LoadFault.{LoadFault}
 use Rattle.dap_history.specs.declared.fault.LoadFault.TheVariants as load_fault
 use Rattle.dap_history.specs.declared.ending.Ending.TheVariants.{Fault}
 use Rattle.dap_history.specs.declared.launch.Launch.{Launch}
-use Rattle.dap_history.specs.History.{Item, Content, Loaded, Accepted, InputEnd, ReadFailure, History}
-use Rattle.dap_history.specs.Readings.{situation, ending_of}
-use Rattle.dap_history.specs.Launching.{wanted_in}
+use Rattle.dap_history.specs.History.{Item, Loaded, Accepted, InputEnd, ReadFailure, History}
+use Rattle.dap_history.specs.Readings.{ending_of}
 use Rattle.dap_history.specs.Reports.{Accepts}
 use Rattle.dap_history.specs.Emission.{IsAfter}
 use Rattle.dap_history.specs.Events.{Incoming, Piece, End, ReadFailed, File, Report, Rest, TakesSome, IsHistoryOf}
