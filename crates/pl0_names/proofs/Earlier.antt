@@ -43,11 +43,10 @@ row_after : (p : Place) (m e : Option Place) (ps : Procedures) → Chain m (row_
     → AllAfter p (names_of ps)
 row_after p m e NoMore chain within = tt
 row_after p m e (AndProcedure x b more) chain within =
-    let r = chain_first (Some x.place) e (block_places b) (row_places more) chain.1 in (
+    let r = chain_first _ e (block_places b) (row_places more) chain.1 in (
       within x.place chain.0,
-      row_after p r.0 e more r.2
-          (λ q later. within q (behind_within m x.place chain.0 q
-          (chain_ends (Some x.place) r.0 (block_places b) r.1 q later))),
+      row_after p r.0 e more r.2 (λ q later. within q (behind_within m x.place chain.0 q
+          (chain_ends _ r.0 (block_places b) r.1 q later))),
     )
 
 -- the places of a block, and what is known of each place that stands before their end
@@ -91,23 +90,21 @@ module _ (main : Block) where
   inner_spans : (q : Path) (i : ℕ) (c b : Block) → block_at main q ≡ Some c → procedure_at i c ≡ Some b
       → Spans c (Later q) → Spans b (Later (i ∷ q))
   inner_spans q i (ABlock cs xs ps s end) b at is spans =
-      let one =
-      chain_first spans.from spans.to (constant_places cs)
-      (name_places xs ++ (row_places ps ++ use_places (statement_uses s))) spans.chain in
+      let one = chain_first spans.from spans.to (constant_places cs) (name_places xs ++ (row_places ps ++ use_places
+      (statement_uses s))) spans.chain in
       let two = chain_first one.0 spans.to (name_places xs) (row_places ps ++ use_places (statement_uses s)) one.2 in
       let three = chain_first two.0 spans.to (row_places ps) (use_places (statement_uses s)) two.2 in
-      let r = row_spans ps i b two.0 three.0 (Later q) three.1
-      (λ p within. spans.later p (λ x l. within x
-      (chain_ends three.0 spans.to (use_places (statement_uses s)) three.2 x l))) is in
+      let r = row_spans ps i b two.0 three.0 (Later q) three.1 (λ p within. spans.later p (λ x l. within x (chain_ends
+      three.0 spans.to (use_places (statement_uses s)) three.2 x l))) is in
       record {
         from = r.from;
         to = r.to;
         chain = r.chain;
         later = λ p within.
             let l = r.later p within in (
-              (λ c here. let same : ABlock cs xs ps s end ≡ c =
-                  cc in subst (λ d. AllAfter p (drop (i + 1) (map (λ (r : Procedure). r.name) (procedures d)))) same
-                  l.0),
+              (λ c here.
+                  let same : ABlock cs xs ps s end ≡ c = cc in
+                  rw (← same) l.0),
               l.1,
             );
       }
@@ -173,30 +170,23 @@ module _ (main : Block) where
 
   around_found : (p : Place) (q : Path) (i : ℕ) (w : List ℕ) (h : Home) → Later (i ∷ q) p
       → IsBefore h.declaration.name.place p → home main q w ≡ Some h → home_around main (i ∷ q) w ≡ Some h
-  around_found p [] i w h later before is =
-      found_step p [] i w h (block_at main []) later.0 before None None (λ e. e)
-      (or_none (home_of [] (option_and_then (first_declaration w) (block_at main []))) ∙ is)
+  around_found p [] i w h later before is = found_step p [] i w h _ later.0 before None None (λ e. e) (or_none _ ∙ is)
   around_found p (j ∷ q) i w h later before is =
-      found_step p (j ∷ q) i w h (block_at main (j ∷ q)) later.0 before (home main q w) (home_around main (j ∷ q) w)
-      (λ e. around_found p q j w h later.1 before e) is
+      found_step p _ i w h _ later.0 before _ _ (λ e. around_found p q j w h later.1 before e) is
 
   -- the place of a use, in the span of its block
   use_later : (q : Path) (b : Block) (i : ℕ) (u : Use) → Spans b (Later q) → slice_get (body_uses b) i ≡ Some u
       → Later q u.name.place
   use_later q (ABlock cs xs ps s end) i u spans is =
-      let one =
-      chain_first spans.from spans.to (constant_places cs)
-      (name_places xs ++ (row_places ps ++ use_places (statement_uses s))) spans.chain in
-      let two = chain_first one.0 spans.to (name_places xs) (row_places ps ++ use_places (statement_uses s)) one.2 in
-      let three = chain_first two.0 spans.to (row_places ps) (use_places (statement_uses s)) two.2 in
+      let one = chain_first spans.from spans.to _ _ spans.chain in
+      let two = chain_first one.0 spans.to (name_places xs) _ one.2 in
+      let three = chain_first two.0 spans.to (row_places ps) _ two.2 in
       spans.later u.name.place (use_ends three.0 spans.to (statement_uses s) i u three.2 is)
 
   used_before : (q : Path) (w : List ℕ) (p : Place) (h : Home) → Later q p → home main q w ≡ Some h
       → IsBefore h.declaration.name.place p → home_before main q w ≡ home main q w
   used_before [] w p h later is before = or_none (home main [] w)
-  used_before (i ∷ q) w p h later is before =
-      pick (home_of (i ∷ q) (option_and_then (first_declaration w) (block_at main (i ∷ q)))) is
-      (λ e. around_found p q i w h later before e)
+  used_before (i ∷ q) w p h later is before = pick _ is (λ e. around_found p q i w h later before e)
     where
       pick : (o : Option Home) → or_else o (home main q w) ≡ Some h
           → (home main q w ≡ Some h → home_around main (i ∷ q) w ≡ Some h)

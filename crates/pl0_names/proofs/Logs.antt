@@ -112,8 +112,7 @@ module _ {T : Type 0} where
       → nearest n es word ≡ o → is_at m o ≡ true
       → blocks_of (blocks n es) ≡ declared_in (blocks_of (blocks n es)) word d
   declared_old n m es word d None more is here = cc
-  declared_old n m es word d (Some x) more is here =
-      rw one (at (names (at_level m es) word) refl (rw one at is))
+  declared_old n m es word d (Some x) more is here = rw one (at _ refl (rw one at is))
     where
       one : n ≡ suc m
       one = more ∙ add-one m

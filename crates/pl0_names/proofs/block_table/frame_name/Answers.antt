@@ -14,14 +14,13 @@ pub index-requires : goal.index-requires
 index-requires c =
     let main = plain_block c.args.main.now in
     let at = read_at main c.args.table.now c.args.number _ c.requires.table c.requires.within c.in-Some.is in
-    let inside =
-    index_within main (plain_block c.block-outer.result.now) c.args.number c.in-Some.nesting at
-    c.block-outer.ensures in
+    let inside = index_within main _ c.args.number c.in-Some.nesting at c.block-outer.ensures in
     omega (
       arith,
       inside,
       procedures_length c.block-outer.result.now,
-      (out-Block c.block-outer.result.now).procedures.ok.0,
+      (out-Block
+          c.block-outer.result.now).procedures.ok.0,
     )
 
 pub returns-in-None : goal.returns-in-None

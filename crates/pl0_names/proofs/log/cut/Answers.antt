@@ -9,9 +9,8 @@ restore-requires g c =
     let e = c.in-Some.entry in
     let es = reverse c.pop.new.self.items in
     let es' = reverse c.loop-log.log.items in
-    let is = latest_first c.pop.new.self.items e c.loop-log.log.items c.in-Some.ensures.items in
-    let ends =
-    ends_read n c.ends_at.result true c.deref.result.now c.loop-log.log.items c.ends_at.ensures c.deref.ensures.value
+    let is = latest_first _ e _ c.in-Some.ensures.items in
+    let ends = ends_read n c.ends_at.result true c.deref.result.now _ c.ends_at.ensures c.deref.ensures.value
     c.loop-log-test.true in
     has_index n c.loop-log.index e es es' c.loop-log.invariant.indexed is (ends_level n e es es' is ends)
 
@@ -21,23 +20,20 @@ loop-log-preserved-in-Some g c =
     let e = c.in-Some.entry in
     let es = reverse c.pop.new.self.items in
     let es' = reverse c.loop-log.log.items in
-    let is = latest_first c.pop.new.self.items e c.loop-log.log.items c.in-Some.ensures.items in
-    let ends =
-    ends_read n c.ends_at.result true c.deref.result.now c.loop-log.log.items c.ends_at.ensures c.deref.ensures.value
-    c.loop-log-test.true in
+    let is = latest_first _ e _ c.in-Some.ensures.items in
+    let ends = ends_read n _ true _ _ c.ends_at.ensures c.deref.ensures.value c.loop-log-test.true in
     record {
-      indexed =
-          cut_indexed n c.loop-log.index c.restore.new.index e es es' c.loop-log.invariant.indexed is
-          (ends_level n e es es' is ends) c.restore.ensures;
+      indexed = cut_indexed n _ _ e es es' c.loop-log.invariant.indexed is (ends_level n e es es' is ends)
+          c.restore.ensures;
       nested = cut_nested _ e es es' is c.loop-log.invariant.nested;
-      outer = cut_outer n e es es' is ends ∙ c.loop-log.invariant.outer;
+      outer = cut_outer n e es es' is
+          ends
+          ∙ c.loop-log.invariant.outer;
     }
 
 pub returns-clause-indexed : goal.returns-clause-indexed
 returns-clause-indexed g c =
     let n = c.args.level in
     let es = reverse c.loop-log.log.items in
-    let ended =
-    ends_read n c.ends_at.result false c.deref.result.now c.loop-log.log.items c.ends_at.ensures c.deref.ensures.value
-    c.loop-log-test.false in
-    left_indexed n c.loop-log.index es (left_nested n es c.loop-log.invariant.nested ended) c.loop-log.invariant.indexed
+    let ended = ends_read n _ false _ _ c.ends_at.ensures c.deref.ensures.value c.loop-log-test.false in
+    left_indexed n _ es (left_nested n es c.loop-log.invariant.nested ended) c.loop-log.invariant.indexed

@@ -31,12 +31,11 @@ pub returns-in-Some-variable_in : goal.returns-in-Some-variable_in
 returns-in-Some-variable_in c =
     let w = c.args.word.now in
     let b = c.args.block.now in
-    let p = position (λ p. bytes_eq (string_bytes (out-Procedure p).name.text) w) (out-Block b).procedures.items in
+    let p = position (λ p. bytes_eq _ w) (out-Block b).procedures.items in
     ap (λ o. found_as w None o p) (sym c.in-Some-variable_in.is)
     ∙ ap (λ o. found_as w o c.variable_in.result p) (sym c.in_default.is)
-    ∙ block_means w b c.constant_in.result c.variable_in.result p
-    (constant_is (goal.at.returns-in-Some-variable_in c).After-constant_in)
-    (variable_is (goal.at.returns-in-Some-variable_in c).After-variable_in) refl
+    ∙ block_means w b c.constant_in.result c.variable_in.result p (constant_is (goal.at.returns-in-Some-variable_in
+    c).After-constant_in) (variable_is (goal.at.returns-in-Some-variable_in c).After-variable_in) refl
 
 pub returns-in_err-index : goal.returns-in_err-index
 returns-in_err-index c =

@@ -10,22 +10,19 @@ nested c = grind (arith, common_steps)
 
 pub block-block-requires-clause-within : goal.block-block-requires-clause-within
 block-block-requires-clause-within c =
-    in_table (plain_block c.args.self.now) c.self.inside.nestings.now
-    (nested (goal.at.block-block-requires-clause-within c).After-declared) c.args.word.now c.args.number
-    c.loop-meaning.around c.loop-meaning.level c.requires c.loop-meaning.invariant
+    in_table _ c.self.inside.nestings.now (nested (goal.at.block-block-requires-clause-within c).After-declared)
+    c.args.word.now c.args.number c.loop-meaning.around c.loop-meaning.level c.requires c.loop-meaning.invariant
 
 pub bounds-self-inside-around : goal.bounds-self-inside-around
 bounds-self-inside-around c =
-    in_table (plain_block c.args.self.now) c.self.inside.nestings.now
-    (nested (goal.at.bounds-self-inside-around c).After-declared) c.args.word.now c.args.number
-    c.loop-meaning.around c.loop-meaning.level c.requires c.loop-meaning.invariant
+    in_table _ c.self.inside.nestings.now (nested (goal.at.bounds-self-inside-around c).After-declared) c.args.word.now
+    c.args.number c.loop-meaning.around c.loop-meaning.level c.requires c.loop-meaning.invariant
 
 pub returns-in-Some : goal.returns-in-Some
 returns-in-Some c =
-    found_here (plain_block c.args.self.now) c.self.inside.nestings.now (nested (goal.at.returns-in-Some
-    c).After-declared) c.args.word.now c.args.number c.loop-meaning.around c.loop-meaning.level c.requires
-    c.loop-meaning.invariant c.block-block.result c.in-Some.meaning (rw (← c.self.view_is) c.block-block.ensures)
-    c.in-Some.ensures
+    found_here _ c.self.inside.nestings.now (nested (goal.at.returns-in-Some c).After-declared) c.args.word.now
+    c.args.number c.loop-meaning.around c.loop-meaning.level c.requires c.loop-meaning.invariant c.block-block.result
+    c.in-Some.meaning (rw (← c.self.view_is) c.block-block.ensures) c.in-Some.ensures
 
 pub returns-in_err-nesting : goal.returns-in_err-nesting
 returns-in_err-nesting c =
@@ -37,21 +34,18 @@ pub overflow_add-level : goal.overflow_add-level
 overflow_add-level c =
     omega (
       arith,
-      levels_few (plain_block c.args.self.now) c.self.inside.nestings.now
-          (nested (goal.at.overflow_add-level c).After-declared) c.args.word.now c.args.number c.loop-meaning.around
-          c.loop-meaning.level c.requires c.loop-meaning.invariant,
+      levels_few _ c.self.inside.nestings.now (nested (goal.at.overflow_add-level c).After-declared)
+          c.args.word.now c.args.number c.loop-meaning.around c.loop-meaning.level c.requires c.loop-meaning.invariant,
     )
 
 pub loop-meaning-smaller : goal.loop-meaning-smaller
 loop-meaning-smaller c =
-    (walk_on (plain_block c.args.self.now) c.self.inside.nestings.now
-    (nested (goal.at.loop-meaning-smaller c).After-declared) c.args.word.now c.args.number c.loop-meaning.around
-    c.loop-meaning.level c.requires c.loop-meaning.invariant c.in_ok-nesting.nesting c.in_default.ensures
-    c.in_ok-nesting.was).1
+    (walk_on _ c.self.inside.nestings.now (nested (goal.at.loop-meaning-smaller c).After-declared) c.args.word.now
+    c.args.number c.loop-meaning.around c.loop-meaning.level c.requires c.loop-meaning.invariant c.in_ok-nesting.nesting
+    c.in_default.ensures c.in_ok-nesting.was).1
 
 pub loop-meaning-preserved : goal.loop-meaning-preserved
 loop-meaning-preserved c =
-    (walk_on (plain_block c.args.self.now) c.self.inside.nestings.now
-    (nested (goal.at.loop-meaning-preserved c).After-declared) c.args.word.now c.args.number c.loop-meaning.around
-    c.loop-meaning.level c.requires c.loop-meaning.invariant c.in_ok-nesting.nesting c.in_default.ensures
-    c.in_ok-nesting.was).0
+    (walk_on _ c.self.inside.nestings.now (nested (goal.at.loop-meaning-preserved c).After-declared) c.args.word.now
+    c.args.number c.loop-meaning.around c.loop-meaning.level c.requires c.loop-meaning.invariant c.in_ok-nesting.nesting
+    c.in_default.ensures c.in_ok-nesting.was).0

@@ -14,8 +14,7 @@ invariant_of-self g c =
     }
 
 pub returns-clause-ok : goal.returns-clause-ok
-returns-clause-ok g c =
-    rw (opened c.self.inside.depth (reverse c.self.inside.log.items) c.self.invariant.nested, c.self.view_is)
+returns-clause-ok g c = rw (opened c.self.inside.depth _ c.self.invariant.nested, c.self.view_is)
 
 pub returns-then-self-clause-room : goal.returns-then-self-clause-room
 returns-then-self-clause-room g c = grind (arith, common_steps, length, blocks_length)
