@@ -4,16 +4,17 @@
 usage: pl0_pages.py PL0
 
 Each row of the table of mistakes in docs/PL0.md is tried where its example is a text: the code is the number of the
-fault, and the sentence and the place are what `pl0 check` tells. So is what the list below it says beside a token that
-can't stand where it does, and of each text of mistakes.txt what stands there; each hint is told of one. For each of the
-examples `pl0 list` shows the same instructions, and the same steps beside them, as `pl0dap --check` prints, whose
-stored output the gate compares. The table of names in docs/PL0.md is what `pl0 list --names` writes, and the tree what
-`pl0 tree` does. The table of a run in docs/PL0.md is what `pl0 trace` writes, also where it begins later or ends
-earlier, and so are the machine and the instructions that are shown there; in a run of each example an instruction leads
-to the next, and a step writes the operand on top. A program that writes more than a megabyte writes it all to a pipe.
-Where nobody reads on, each command ends at once with status 3, and says nothing; where the disk is full, it says so
-once, after a fault too. A run that is stopped keeps what it wrote, and `pl0 check` tells which files can't be read, and
-why. Prints what is wrong, and ends with status 1 where anything is.
+fault, and the sentence and the place are what `pl0 check` tells. So is what the list below it says beside a token
+that can't stand where it does, and of each text of mistakes.txt what stands there; each hint is told of one, and
+names only what its sources know. For each of the examples `pl0 list` shows the same instructions, and the same steps
+beside them, as `pl0dap --check` prints, whose stored output the gate compares. The table of names in docs/PL0.md is
+what `pl0 list --names` writes, and the tree what `pl0 tree` does. The table of a run in docs/PL0.md is what `pl0
+trace` writes, also where it begins later or ends earlier, and so are the machine and the instructions that are shown
+there; in a run of each example an instruction leads to the next, and a step writes the operand on top. A program that
+writes more than a megabyte writes it all to a pipe. Where nobody reads on, each command ends at once with status 3,
+and says nothing; where the disk is full, it says so once, after a fault too. A run that is stopped keeps what it
+wrote, and `pl0 check` tells which files can't be read, and why. Prints what is wrong, and ends with status 1 where
+anything is.
 """
 import itertools
 import os
@@ -96,6 +97,24 @@ def wrong_texts(pl0: str):
         said = re.compile(r".*; " + ".*".join(re.escape(part) for part in re.split(r"\{.*?\}", hint)))
         if not any(said.fullmatch(line) for _, wanted in texts() for line in wanted.decode().splitlines()):
             yield f"no text is told {hint!r}"
+
+
+def misspelt_rows(pl0: str):
+    """What a row of the hints names, and what reads it doesn't know: a key, a fact, a word in capitals or in braces."""
+    sources = {name: (HINTS.parent / f"{name}.rt").read_text(encoding="utf-8") for name in ("facts", "words", "rows")}
+    known = {name: set(re.findall(r'"([^"\n]+)" =>', text)) for name, text in sources.items()}
+    for row in re.findall(r"^[a-z].*say: .*$", HINTS.read_text(encoding="utf-8"), re.MULTILINE):
+        conditions, said = row.split("say: ")
+        key, unknown = "", [one for one in re.findall(r"\{(.*?)\}", said) if one not in known["words"] | {"here"}]
+        for word in conditions.split():
+            if len(word) > 1 and word.endswith(":"):
+                key = word
+                unknown += [key] if key not in known["rows"] | {"here:"} else []
+            elif key in ("when:", "unless:"):
+                unknown += [word] if word not in known["facts"] else []
+            elif word.isupper() and len(word) > 2 and word.lower() not in conditions.split():
+                unknown += [word] if word not in known["words"] else []
+        yield from (f"{one!r} is unknown in the row {row!r}" for one in unknown)
 
 
 def listed(text: bytes) -> list[list[bytes]]:
@@ -253,8 +272,8 @@ def wrong_stops(pl0: str):
 
 def main() -> int:
     pl0 = str(pathlib.Path(sys.argv[1]).resolve())
-    wrong = [*wrong_mistakes(pl0), *wrong_hints(pl0), *wrong_texts(pl0), *wrong_listings(pl0), *wrong_traces(pl0)]
-    wrong += [*wrong_instructions(pl0), *wrong_outputs(pl0), *wrong_stops(pl0)]
+    wrong = [*wrong_mistakes(pl0), *wrong_hints(pl0), *wrong_texts(pl0), *misspelt_rows(pl0)]
+    wrong += [*wrong_listings(pl0), *wrong_traces(pl0), *wrong_instructions(pl0), *wrong_outputs(pl0), *wrong_stops(pl0)]
     print("\n".join(wrong) or "mistakes, listings, traces and long outputs are as they should be")
     return 1 if wrong else 0
 
