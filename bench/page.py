@@ -243,7 +243,8 @@ def back(log: Log) -> str:
     start, logged = log.figures("back", "`reverseContinue` to the start")[0], log.figures("back", "100,000 logs in")[0]
     turns = log.figures("back", "gdb records 16,000 turns")
     hits = log.figures("back", "`reverseContinue` to the last of 50,000,000 hits")[1]
-    kept, deep = (log.figures("back", f"{frames} frames of 1,000 variables") for frames in ("130", "1,000"))
+    kept, deep = (log.figures("back", f"{frames} frames of 1,000 variables, some 2,000,000 steps forward")
+                  for frames in ("130", "1,000"))
     return (f"The way forward, with checkpoints kept, takes {forward:.3f} s and {memory:,.0f} KiB at most; "
             f"`stepBack` from there {best / 1000:.1f} ms at best,\n"
             f"{median / 1000:.1f} in the median and {worst / 1000:.1f} at worst; `reverseContinue` to the start "
