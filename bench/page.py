@@ -57,6 +57,10 @@ class Log:
         return [float(number.replace(",", "")) for number in NUMBER.findall(text)]
 
 
+def filled(text: str, indent: str = "") -> str:
+    return textwrap.fill(text, COLUMNS, subsequent_indent=indent, break_long_words=False, break_on_hyphens=False)
+
+
 class Goal(NamedTuple):
     """What is wanted; how the figures are shown; these; a limit for each, the least or else the most; and what each is
     of."""
@@ -72,8 +76,7 @@ class Goal(NamedTuple):
         held = [(had >= limit) if self.least else (had <= limit) for had, limit in zip(self.measured, self.limits)]
         missed = [name for name, is_held in zip(self.names, held) if not is_held]
         word = "" if all(held) else ", not held" if not any(held) or not missed else ", but for " + ", ".join(missed)
-        return textwrap.fill(f"- {self.what}: {self.shown.format(*self.measured)}{word}", COLUMNS,
-                             subsequent_indent="  ", break_long_words=False, break_on_hyphens=False)
+        return filled(f"- {self.what}: {self.shown.format(*self.measured)}{word}", "  ")
 
 
 def table(head: list[str], rows: list[list[str]]) -> str:
@@ -245,15 +248,13 @@ def back(log: Log) -> str:
     hits = log.figures("back", "`reverseContinue` to the last of 50,000,000 hits")[1]
     kept, deep = (log.figures("back", f"{frames} frames of 1,000 variables, some 2,000,000 steps forward")
                   for frames in ("130", "1,000"))
-    return (f"The way forward, with checkpoints kept, takes {forward:.3f} s and {memory:,.0f} KiB at most; "
-            f"`stepBack` from there {best / 1000:.1f} ms at best,\n"
-            f"{median / 1000:.1f} in the median and {worst / 1000:.1f} at worst; `reverseContinue` to the start "
-            f"{start:.3f} s, to the last of a hit a turn {hits:.2f} of the way's processor time.\n"
-            f"With 130,000 cells in use a session has {kept[2]:,.0f} KiB at most, with 1,000,000 {deep[2]:,.0f}; "
-            f"`stepBack` takes {kept[3]:.1f} and {deep[3]:.1f} ms there.\n"
-            f"100,000 logs take {logged:.3f} s at best. gdb "
-            f"records 16,000 turns in {turns[1]:.3f} s, with {turns[3]:.0f} bytes an instruction, "
-            f"and its `reverse-step` takes {turns[4]:.2f} ms at best.")
+    return filled(
+        f"The way forward, with checkpoints kept, takes {forward:.3f} s and {memory:,.0f} KiB at most; `stepBack` from there "
+        f"{best / 1000:.1f} ms at best, {median / 1000:.1f} in the median and {worst / 1000:.1f} at worst; `reverseContinue` to "
+        f"the start {start:.3f} s, to the last of a hit a turn {hits:.2f} times the way's processor time. With 130,000 cells in "
+        f"use a session has {kept[1]:,.0f} KiB at most, with 1,000,000 {deep[1]:,.0f}; `stepBack` takes {kept[2]:.1f} and "
+        f"{deep[2]:.1f} ms there. 100,000 logs take {logged:.3f} s at best. gdb records 16,000 turns in {turns[1]:.3f} s, with "
+        f"{turns[3]:.0f} bytes an instruction, and its `reverse-step` takes {turns[4]:.2f} ms at best.")
 
 
 def checking(log: Log) -> str:
