@@ -265,7 +265,7 @@ fn fault_of(halt: Option<Halt>) -> Option<Fault>
     ensures { option_map plain_fault result ≡ fault_of (option_map plain_halt halt) }
 {
     match halt {
-        Some(Halt::AtFault(fault)) => Some(fault),
+        Some(Halt::AtFault(fault)) => Some(Box::into_inner(fault)),
         _ => None,
     }
 }

@@ -81,7 +81,7 @@ abbrev pub plain_halt : Halt → PlainHalt
 plain_halt halt.AtBreakpoint = AtBreakpoint
 plain_halt halt.AtStep = AtStep
 plain_halt (halt.AtEnd status) = AtEnd status
-plain_halt (halt.AtFault why) = AtFault (plain_fault why)
+plain_halt (halt.AtFault why) = AtFault (plain_fault why.value)
 
 -- what is told: what the program prints, and what messages say
 pub data PlainOutput : Type 0 where

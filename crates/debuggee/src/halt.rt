@@ -12,7 +12,7 @@ pub enum Halt {
     /// The program has ended, with this status.
     AtEnd(u64),
     /// A step can't be taken, and why.
-    AtFault(Fault),
+    AtFault(Box<Fault>),
 }
 
 /// What is told of a run.

@@ -107,6 +107,6 @@ fn take<D: Debuggee>(
             Ok(None)
         }
         Step::Ends(status) => Ok(Some(Halt::AtEnd(status))),
-        Step::Fails(why) => Ok(Some(Halt::AtFault(why))),
+        Step::Fails(why) => Ok(Some(Halt::AtFault(Box::new(alloc, why)?))),
     }
 }
