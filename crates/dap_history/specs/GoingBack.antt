@@ -30,7 +30,7 @@ back_in _ = None
 abbrev pub back_of : Heading → Option Mode
 back_of run = if goes_back run.mode then Some run.mode else None
 
--- A run goes back exactly where a granted `stepBack` or `reverseContinue` asks for it, in its mode.
+-- A run goes back exactly when a granted `stepBack` or `reverseContinue` asks for it, in its mode.
 -- `EachStopIsAsAsked` says where it leads.
 abbrev pub EachGoesBackAsAsked : Type 0
 EachGoesBackAsAsked = OfLawfulSteps (λ before step.

@@ -119,7 +119,7 @@ CutsChangeNothing =
     → IsHistoryOf first (before ++ (Piece a ∷ Piece b ∷ after)) past rest
     → IsHistoryOf first (before ++ (Piece (a ++ b) ∷ after)) past rest
 
--- While items are taken, neither a frame nor a framing fault is left in front, except where a launch waits for its
+-- While items are taken, neither a frame nor a framing fault is left in front, unless a launch waits for its
 -- file. One waits only in the situation Ready.
 abbrev pub RestIsOpen : Type 0
 RestIsOpen =

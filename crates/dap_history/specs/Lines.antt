@@ -54,7 +54,7 @@ HasDebuggee Stopped = Unit {0}
 HasDebuggee Faulted = Unit {0}
 HasDebuggee _ = ⊥
 
--- Where the session has the debuggee, the plan is the breakpoints of the lines set last at the launched path. Each
+-- While the session has the debuggee, the plan is the breakpoints of the lines set last at the launched path. Each
 -- is at the step that its line is answered with, with its condition, hit condition and message. Before the program
 -- is started it counts from position 0.
 abbrev pub PlanIsOfLines : Type 0

@@ -56,7 +56,7 @@ pub record PauseWaits (past : History) : Type 0 where
   pub pause_is : request.body ≡ command.Pause asked
   pub none_since : All (λ (s : Step). run_in s ≡ None) later
 
--- The program stops with the reason `pause` exactly where its run was held and a `pause` was granted since that was
+-- The program stops with the reason `pause` exactly when its run was held and a `pause` was granted since that was
 -- ordered. Where none was, another run is ordered.
 abbrev pub PausesStop : Type 0
 PausesStop = OfSteps (λ before step.

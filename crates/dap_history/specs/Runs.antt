@@ -116,7 +116,7 @@ pub record GrantsWait (past : History) (step : Step) : Type 0 where
   pub granted : Grants step request
   pub to_wait : IsToWait past request.body
 
--- A Hold is ordered only where a pause or breakpoints are granted in a run that doesn't go back, at most once for a
+-- A Hold is ordered only when a pause or breakpoints are granted in a run that doesn't go back, at most once for a
 -- run. The program runs then, and the order comes directly after the Go of the run that it names.
 abbrev pub HoldOnce : Type 0
 HoldOnce = OfSteps (λ before step.
