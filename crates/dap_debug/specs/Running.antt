@@ -132,9 +132,7 @@ mode_of resume.StepOut depth = mode.Out depth
 -- the body of the reply to a request that lets the program go on
 abbrev pub resumed : Resume → Option Data
 resumed resume.Continue = Some (object (member (codes "allThreadsContinued") (boolean true) no_members))
-resumed resume.Next = None
-resumed resume.StepIn = None
-resumed resume.StepOut = None
+resumed _ = None
 
 -- a program that is stopped goes on, and what is told of its first slice comes with the reply
 abbrev pub ResumesFrom : {S : Type 0} → Meaning S → Sight S → Phase S → Resume → Standing S → PlainReply → Standing S

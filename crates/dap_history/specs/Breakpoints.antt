@@ -14,7 +14,7 @@ use Rattle.dbg_runner.specs.Plain.{PlainOrder, Hold}
 use Rattle.dbg_plan.specs.declared.resolving.Resolution.{Resolution}
 use Rattle.dbg_plan.specs.declared.resolving.Resolution.TheVariants.{At, NoStep, BadCondition, BadHitCondition, BadLogMessage}
 use Rattle.dap_history.specs.declared.situation.Situation.{Situation}
-use Rattle.dap_history.specs.declared.situation.Situation.TheVariants.{Fresh, Ready, Configuring, Running, Stopped, Faulted, Ended}
+use Rattle.dap_history.specs.declared.situation.Situation.TheVariants.{Configuring, Running, Stopped, Faulted}
 use Rattle.dap_history.specs.History.{History, Effect}
 use Rattle.dap_history.specs.Readings.{settings, runs, is_back, position, is_held}
 use Rattle.dap_history.specs.Replies.{nothing}
@@ -79,9 +79,7 @@ effect_in Stopped past bs =
 effect_in Faulted past bs =
     record nothing { put_in = Some (record { breakpoints = bs; counted_from = position past + 1 }) }
 effect_in Running past bs = record nothing { waits = Some bs; orders = hold_once past }
-effect_in Ended past bs = nothing
-effect_in Fresh past bs = nothing
-effect_in Ready past bs = nothing
+effect_in _ past bs = nothing
 
 -- the source is at this path
 abbrev pub is_same_path : Option (List ℕ) → List ℕ → Bool

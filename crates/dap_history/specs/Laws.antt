@@ -21,7 +21,7 @@ use Rattle.dap_msg.specs.declared.outgoing.StopReason.{StopReason}
 use Rattle.dap_msg.specs.Outgoing.{text_of}
 use Rattle.dap_msg.specs.Laws.{ReadsAsMessage}
 use Rattle.pl0_meaning.specs.Runs.{written}
-use Rattle.dap_history.specs.History.{Launched, Item, Content, Loaded, Accepted, Fault, InputEnd, ReadFailure, MemoryFailure, Step, History, messages, messages_of, orders_of}
+use Rattle.dap_history.specs.History.{Launched, Item, Content, Loaded, Step, History, messages, messages_of, orders_of}
 use Rattle.dap_history.specs.Readings.{situation, launched, reached, numbers, ending_of}
 use Rattle.dap_history.specs.Considered.{logged}
 use Rattle.dap_history.specs.declared.situation.Situation.TheVariants.{Ready}
@@ -136,14 +136,9 @@ answered_request (Event e) = None
 
 -- the seq and the command of the request that an item is, if it is one
 abbrev pub request_of_item : Item → Option (ℕ × CommandName)
-request_of_item (Content None) = None
 request_of_item (Content (Some request)) = Some (request.seq, name_of request.body)
 request_of_item (Loaded launch file) = Some (launch.seq, name.Supported supported.Launch)
-request_of_item (Accepted r) = None
-request_of_item (Fault k) = None
-request_of_item InputEnd = None
-request_of_item ReadFailure = None
-request_of_item MemoryFailure = None
+request_of_item _ = None
 
 -- The answers are, in order, one for each request among the items, under its own seq and command.
 abbrev pub EachIsAnsweredOnce : Type 0

@@ -1,6 +1,6 @@
 -- Defines what a reader has read and sent when it ends.
 use Rattle.std.specs.Prelude.{◌≡◌, ◌++◌, ◌∷◌, [], ℕ, List, map, Option, Some, None}
-use Rattle.dap_history.specs.Events.{Incoming, Piece, End, ReadFailed, File, Report}
+use Rattle.dap_history.specs.Events.{Incoming, Piece, End, ReadFailed}
 use Rattle.dap_history.specs.Events.{NoMemory as NoMemoryCame}
 use Rattle.dap_wires.specs.declared.reading.ReadEnd.{ReadEnd}
 use Rattle.dap_wires.specs.declared.reading.ReadEnd.TheVariants.{Ended, Failed, NoMemory, HandedBack}
@@ -31,12 +31,10 @@ pub record IsReadUntil (end : ReadEnd) (sent : List Incoming) (old later : Suppl
 
 -- how reading ends with this event, if it does
 abbrev pub end_by : Incoming → Option ReadEnd
-end_by (Piece bytes) = None
 end_by End = Some Ended
 end_by ReadFailed = Some Failed
 end_by NoMemoryCame = Some NoMemory
-end_by (File file) = None
-end_by (Report r) = None
+end_by _ = None
 
 -- A reader that reads on owes nothing: it has sent all that it read, as pieces, each once, in their order, and none was
 -- handed back.

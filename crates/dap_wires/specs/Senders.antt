@@ -12,12 +12,8 @@ use Rattle.dap_wires.specs.declared.arrival.Arrival.TheVariants as arrival
 
 -- whether the runner sends it
 abbrev pub is_report : Event → Bool
-is_report (event.Piece piece) = false
-is_report event.End = false
-is_report event.ReadFailed = false
-is_report event.NoMemory = false
-is_report (event.File file) = false
 is_report (event.Report r) = true
+is_report _ = false
 
 abbrev pub is_by_runner : Arrival → Bool
 is_by_runner (arrival.Event e) = is_report e
@@ -49,11 +45,7 @@ reports_among (e ∷ events) = reports_among events
 -- whether the run goes on after a slice with this outcome
 abbrev pub goes_on : SliceOutcome → Bool
 goes_on out.More = true
-goes_on (out.Due reason) = false
-goes_on out.Held = false
-goes_on out.Done = false
-goes_on (out.Fault fault) = false
-goes_on out.NoMemory = false
+goes_on _ = false
 
 -- whether the list is empty
 abbrev pub is_none_of : {A : Type 0} → List A → Bool

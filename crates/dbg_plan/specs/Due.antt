@@ -11,7 +11,7 @@ use Rattle.dbg_plan.specs.declared.breakpoint.Rule.{Rule}
 use Rattle.dbg_plan.specs.declared.breakpoint.Rule.TheVariants.{From, Every}
 use Rattle.dbg_plan.specs.Breakpoints.{TextCondition, Breakpoint}
 use Rattle.dbg_plan.specs.declared.mode.Mode.{Mode}
-use Rattle.dbg_plan.specs.declared.mode.Mode.TheVariants.{Entry, Continue, In, Over, Out, StepBack, Reverse}
+use Rattle.dbg_plan.specs.declared.mode.Mode.TheVariants.{Entry, In, Over, Out}
 use Rattle.dbg_plan.specs.declared.mode.Reason.{Reason}
 use Rattle.dbg_plan.specs.declared.mode.Reason.TheVariants as reason
 
@@ -79,12 +79,10 @@ stops main t m b = is_none b.message && is_hit main t m b
 -- the reason that the mode alone gives at a depth
 abbrev pub reason_of : Mode → ℕ → Option Reason
 reason_of Entry depth = Some reason.Entry
-reason_of Continue depth = None
 reason_of In depth = Some reason.Step
 reason_of (Over d) depth = if nat_le depth d then Some reason.Step else None
 reason_of (Out d) depth = if nat_lt depth d then Some reason.Step else None
-reason_of StepBack depth = None
-reason_of Reverse depth = None
+reason_of _ depth = None
 
 -- how many frames are alive at position m, 0 where there is none
 abbrev pub depth_at : Block → ℕ → ℕ

@@ -3,7 +3,7 @@ use Rattle.std.specs.Prelude.{◌≡◌, ℕ, zero, suc, ◌+◌, ◌-◌, ◌<�
 use Rattle.pl0_tree.specs.Tree.{Block}
 use Rattle.dbg_plan.specs.Breakpoints.{Breakpoint}
 use Rattle.dbg_plan.specs.declared.mode.Mode.{Mode}
-use Rattle.dbg_plan.specs.declared.mode.Mode.TheVariants.{Entry, Continue, In, Over, Out, StepBack, Reverse}
+use Rattle.dbg_plan.specs.declared.mode.Mode.TheVariants.{Continue, StepBack, Reverse}
 use Rattle.dbg_plan.specs.declared.mode.Reason.{Reason}
 use Rattle.dbg_plan.specs.declared.mode.Reason.TheVariants as reason
 use Rattle.dbg_plan.specs.Due.{due}
@@ -37,11 +37,7 @@ reversed main breakpoints n = stop_at (last_due main breakpoints n)
 abbrev pub goal_of : Block → List Breakpoint → Mode → ℕ → Option Stop
 goal_of main breakpoints StepBack n = Some (stepped_back n)
 goal_of main breakpoints Reverse n = Some (reversed main breakpoints n)
-goal_of main breakpoints Entry n = None
-goal_of main breakpoints Continue n = None
-goal_of main breakpoints In n = None
-goal_of main breakpoints (Over d) n = None
-goal_of main breakpoints (Out d) n = None
+goal_of main breakpoints _ n = None
 
 -- ---- the law of it
 

@@ -3,18 +3,14 @@ use Rattle.std.specs.Prelude.{ℕ, Bool, true, false, List, ℤ}
 use Rattle.dbg_plan.specs.Breakpoints.{Breakpoint}
 use Rattle.dbg_plan.specs.Logs.{Log}
 use Rattle.dbg_plan.specs.declared.mode.Mode.{Mode}
-use Rattle.dbg_plan.specs.declared.mode.Mode.TheVariants.{Entry, Continue, In, Over, Out, StepBack, Reverse}
+use Rattle.dbg_plan.specs.declared.mode.Mode.TheVariants.{StepBack, Reverse}
 use Rattle.dbg_runner.specs.declared.outcome.SliceOutcome.{SliceOutcome}
 
 -- a run in this mode goes back
 abbrev pub goes_back : Mode → Bool
 goes_back StepBack = true
 goes_back Reverse = true
-goes_back Entry = false
-goes_back Continue = false
-goes_back In = false
-goes_back (Over d) = false
-goes_back (Out d) = false
+goes_back _ = false
 
 -- which way a run goes
 pub data Direction : Type 0 where

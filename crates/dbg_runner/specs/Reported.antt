@@ -124,10 +124,7 @@ pub data Whereabouts : Type 0 where
 abbrev pub whereabouts : SliceOutcome → Whereabouts
 whereabouts out.More = BesideReport
 whereabouts out.Done = Nowhere
-whereabouts (out.Due reason) = InReport
-whereabouts out.Held = InReport
-whereabouts (out.Fault fault) = InReport
-whereabouts out.NoMemory = InReport
+whereabouts _ = InReport
 
 -- the debuggee, if it is in the report
 abbrev pub in_report : Whereabouts → Debugged → Option Debugged
@@ -164,6 +161,4 @@ Carries Onward r outcome = r.debuggee ≡ carried r outcome
 Carries Back r out.More = r.debuggee ≡ carried r out.More
 Carries Back r (out.Due reason) = r.debuggee ≡ carried r (out.Due reason)
 Carries Back r out.NoMemory = (d : Debugged) × (r.debuggee ≡ Some d) × IsOnItsWay r d
-Carries Back r out.Held = ⊥
-Carries Back r out.Done = ⊥
-Carries Back r (out.Fault fault) = ⊥
+Carries Back r _ = ⊥

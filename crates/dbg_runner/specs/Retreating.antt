@@ -9,7 +9,7 @@ use Rattle.dbg_plan.specs.Retreat.{goal_of}
 use Rattle.dbg_plan.specs.Trail.{Trail, floor_of}
 use Rattle.dbg_plan.specs.Debugged.{Debugged}
 use Rattle.dbg_plan.specs.declared.mode.Mode.{Mode}
-use Rattle.dbg_plan.specs.declared.mode.Mode.TheVariants.{Entry, Continue, In, Over, Out, StepBack, Reverse}
+use Rattle.dbg_plan.specs.declared.mode.Mode.TheVariants.{StepBack, Reverse}
 use Rattle.dbg_runner.specs.declared.outcome.SliceOutcome.{SliceOutcome}
 use Rattle.dbg_runner.specs.declared.outcome.SliceOutcome.TheVariants as out
 use Rattle.dbg_runner.specs.declared.report.Summary.{Summary}
@@ -41,11 +41,7 @@ steps_to kept to = to - floor_of kept to
 abbrev pub steps_again : List ℕ → Mode → ℕ → ℕ → ℕ
 steps_again kept StepBack n to = steps_to kept to
 steps_again kept Reverse n to = (n - 1) + steps_to kept to
-steps_again kept Entry n to = 0
-steps_again kept Continue n to = 0
-steps_again kept In n to = 0
-steps_again kept (Over d) n to = 0
-steps_again kept (Out d) n to = 0
+steps_again kept _ n to = 0
 
 -- ---- a run between two slices
 
@@ -125,9 +121,6 @@ RanBack old (Some reason) new =
 -- held, comes to no end of the program, and meets no fault.
 abbrev pub GoesOnBack : Retreating → SliceOutcome → Option Retreating → Type 0
 GoesOnBack b out.More (Some on) = on ≡ having_run b (b.steps_rerun + slice_limit) on.position
-GoesOnBack b out.More None = ⊥
 GoesOnBack b (out.Due reason) on = on ≡ None
 GoesOnBack b out.NoMemory on = on ≡ None
-GoesOnBack b out.Held on = ⊥
-GoesOnBack b out.Done on = ⊥
-GoesOnBack b (out.Fault fault) on = ⊥
+GoesOnBack b _ on = ⊥

@@ -7,5 +7,3 @@ pub mod Interpreter
 pub mod Taken
 -- worked examples of the pages
 pub mod WorkedPages
-
--- What only proofs and inner contracts cite.

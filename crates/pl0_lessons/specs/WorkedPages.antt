@@ -1,10 +1,5 @@
 -- Worked examples of the pages, each computed.
-use Rattle.std.specs.Prelude.{◌≡◌, ℕ, List, [], ◌∷◌, ◌++◌, codes, map, Some, None, pos}
-use Rattle.pl0_tree.specs.declared.tree.Place.{Place}
-use Rattle.pl0_tree.specs.declared.tree.Operator.TheVariants.{Add, Subtract, Multiply, Divide}
-use Rattle.pl0_tree.specs.declared.tree.Relation.TheVariants.{Equal, Unequal, Less, AtMost, Greater, AtLeast}
-use Rattle.pl0_tree.specs.Tree.{Name, Variable, Number, Negate, Binary, Odd, Compare, Empty, Then, Assign, Call, Write, If, While, Block, ABlock, NoMore, AProcedure}
-use Rattle.pl0_tree.specs.Scope.{Path}
+use Rattle.std.specs.Prelude.{◌≡◌, List, [], ◌∷◌, ◌++◌, codes, map, Some, None, pos}
 use Rattle.pl0_meaning.specs.Values.{Configuration}
 use Rattle.pl0_meaning.specs.declared.RunFault.TheVariants.{Depth}
 use Rattle.pl0_unit.specs.declared.instruction.Instruction.{Instruction}

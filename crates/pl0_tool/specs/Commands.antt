@@ -9,7 +9,7 @@ use Rattle.pl0_mistakes.specs.Lines.{AreMistakeLines, IsMistakeLine}
 use Rattle.pl0_mistakes.specs.Warnings.{warning_lines}
 use Rattle.byte_streams.specs.Streams.{Output}
 use Rattle.pl0_tool.specs.declared.arguments.Task.{Task}
-use Rattle.pl0_tool.specs.declared.arguments.Task.TheVariants.{Run, Trace, Check, Tree, List as Listing, Tokens}
+use Rattle.pl0_tool.specs.declared.arguments.Task.TheVariants.{Run, Trace, Check, Tokens}
 use Rattle.pl0_tool.specs.declared.report.Ending.{Ending}
 use Rattle.pl0_tool.specs.declared.report.Ending.TheVariants.{Success, Fault, Mistake, Stopped, Unwritten}
 use Rattle.pl0_tool.specs.declared.report.Report.{Report}
@@ -102,9 +102,7 @@ ProgramTells (Trace from steps view) file unit report before after =
     TraceTells file (start_of unit) from steps report before after
 ProgramTells Check file unit report before after =
     IsReport [] (warning_lines file unit.tree.text.items) Success report × (after ≡ before)
-ProgramTells (Listing names) file unit report before after = PageTells report × (after ≡ before)
-ProgramTells Tree file unit report before after = PageTells report × (after ≡ before)
-ProgramTells Tokens file unit report before after = PageTells report × (after ≡ before)
+ProgramTells _ file unit report before after = PageTells report × (after ≡ before)
 
 -- a text's first mistake is told; or, where it is a program's, what the task tells of that
 abbrev pub Tells : Task → List ℕ → List ℕ → Report → Output → Output → Type 0
@@ -130,10 +128,7 @@ StartTraces before after = (after ≡ before) ⊎ Grows before after
 abbrev pub ProgramWrites : Task → Compiled → Output → Output → Type 0
 ProgramWrites (Run limit) unit before after = StartWrites unit before after
 ProgramWrites (Trace from steps view) unit before after = StartTraces before after
-ProgramWrites Check unit before after = after ≡ before
-ProgramWrites (Listing names) unit before after = after ≡ before
-ProgramWrites Tree unit before after = after ≡ before
-ProgramWrites Tokens unit before after = after ≡ before
+ProgramWrites _ unit before after = after ≡ before
 
 -- nothing was written of a text, or the run of its program, or a part of its trace
 abbrev pub WritesNumbers : Task → List ℕ → Output → Output → Type 0

@@ -20,15 +20,7 @@ use Rattle.stack_language.specs.Language.{PlainState, IsInitial, plain_state, va
 -- whether an instruction does something: a line that is empty, or a comment, has one that doesn't
 abbrev pub does_something : Instruction → Bool
 does_something instruction.Nothing = false
-does_something (instruction.Push number) = true
-does_something (instruction.Load variable) = true
-does_something (instruction.Store variable) = true
-does_something (instruction.Calculate operator) = true
-does_something instruction.Print = true
-does_something (instruction.Jump line) = true
-does_something (instruction.JumpZero line) = true
-does_something (instruction.Call line) = true
-does_something instruction.Return = true
+does_something _ = true
 
 -- whether a line has an instruction; the first line is 0
 abbrev pub has_instruction : Machine → ℕ → Bool
