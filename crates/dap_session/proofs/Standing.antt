@@ -11,7 +11,7 @@ use Rattle.dap_history.specs.declared.fault.SessionFault.TheVariants.{Frame, NoM
 use Rattle.dap_history.specs.declared.launch.Launch.{Launch}
 use Rattle.dap_history.specs.History.{MemoryFailure, Fault, History}
 use Rattle.dap_history.specs.Events as event
-use Rattle.dap_history.specs.Events.{Incoming, Rest, only_bytes, IsHistoryOf, IsTaking, TakesSome, no_content, one_content, Rests, closed, open_ended, faulty, waits, Takes, Loads, LeadsByPiece, LeadsByFile, LeadsByEvent, LeadsByEvents}
+use Rattle.dap_history.specs.Events.{Incoming, Rest, only_bytes, IsTaking, Rests, closed, open_ended, faulty, waits, Takes, Loads, LeadsByPiece, LeadsByFile, LeadsByEvent, LeadsByEvents}
 use Rattle.dap_replies.specs.declared.phase.Phase.TheVariants as phase
 use Rattle.dap_replies.specs.Phases.{launch_of}
 use Rattle.dap_session.specs.declared.want.Want.{Want}

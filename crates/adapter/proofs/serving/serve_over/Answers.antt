@@ -1,6 +1,6 @@
 use denote.Exit as Exit
 use denote.Param.Send as Send
-use Rattle.std.proofs.Common.{rules, ◌≡◌, [], ◌++◌, sym, ap, ◌∙◌, subst}
+use Rattle.std.proofs.Common.{rules, ◌≡◌, [], ◌++◌, ap, ◌∙◌, subst}
 use Rattle.std.specs.List.{flat_map}
 use Rattle.dap_session.specs.Ports.{ports}
 use Rattle.dbg_runner.specs.Queues.{passed_in}

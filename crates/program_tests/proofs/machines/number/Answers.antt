@@ -1,5 +1,5 @@
 use Rattle.std.proofs.Common.{◌≡◌, ◌<◌, length, slice_get, Some, sym, ◌∙◌, subst, arith}
-use Rattle.pl0_tree.specs.declared.tree.Block.{Block, out-Block}
+use Rattle.pl0_tree.specs.declared.tree.Block.{out-Block}
 use Rattle.pl0_tree.specs.Plain.{plain_block}
 use Rattle.pl0_tree.specs.Scope.{Path, block_at}
 use Rattle.pl0_tree.specs.Steps.{blocks}
