@@ -1,6 +1,6 @@
 -- Where a report ends a frame is alive, unless the report says that the program is done.
-use Rattle.dap_history.proofs.Common.{Accepted, Accepts, Block, Causes, Configuration, Content, EndsBy, Frame, GoesBackBy, Heading, History, IsLawfulReport, IsSome, Item, Launched, Loaded, None, Option, PlainReport, SliceOutcome, Some, Step, StopReason, Went, WrittenJoins, [], ap, arith, at, back_if, end_of, exited_events, faults, goes_back, has_come, has_no_memory, inl, inr, is_due, is_some, is_spent, lacks_memory, last_run, last_such, launched, length, refl, report_effect, situation, stop_in, stop_of_event, subst, sym, takes_all, unwrap_or, ℕ, ◌+◌, ◌<◌, ◌∙◌, ◌∷◌, ◌≡◌, ◌≤◌, ◌⊎◌, ⊎_elim, cases_lt}
-use Rattle.std.proofs.Common.{Bool, true, false}
+use Rattle.dap_history.proofs.Common.{Accepted, Accepts, Block, Causes, Configuration, Content, EndsBy, Frame, GoesBackBy, Heading, History, IsLawfulReport, IsSome, Item, Launched, None, Option, PlainReport, SliceOutcome, Some, Step, StopReason, Went, WrittenJoins, [], ap, arith, at, back_if, end_of, faults, goes_back, has_come, has_no_memory, inl, inr, is_due, is_some, is_spent, lacks_memory, last_run, last_such, launched, length, refl, report_effect, situation, stop_in, stop_of_event, subst, sym, takes_all, unwrap_or, ℕ, ◌+◌, ◌<◌, ◌∙◌, ◌∷◌, ◌≡◌, ◌≤◌, ◌⊎◌, ⊎_elim, cases_lt}
+use Rattle.std.proofs.Common.{Bool}
 use Rattle.pl0_meaning.specs.Laws.{RunsHaveNoGaps, NothingFollowsTheEnd}
 use Rattle.dbg_runner.specs.Lawful.{RunsAt, is_over, is_held}
 use Rattle.dbg_runner.specs.declared.outcome.SliceOutcome.TheVariants as slice
@@ -22,8 +22,7 @@ Lives main m = (f : Frame) × (below : Configuration) × (at main m ≡ Some (f 
 
 lives_so : (main : Block) (m : ℕ) (o : Option Configuration) → at main m ≡ o → RunsAt main m → Lives main m
 lives_so main m (Some (f ∷ below)) is runs = (f, below, is)
-lives_so main m (Some []) is runs = grind (arith, common_steps, length) steps 1500000
-lives_so main m None is runs = grind (arith, common_steps, length) steps 1500000
+lives_so main m _ is runs = grind (arith, common_steps, length) steps 1500000
 
 pub lives : (main : Block) (m : ℕ) → RunsAt main m → Lives main m
 lives main m runs = lives_so main m (at main m) refl runs
@@ -57,8 +56,7 @@ module _ (no_gaps : RunsHaveNoGaps) (ends : NothingFollowsTheEnd) (main : Block)
 
   module _ (begun : RunsAt main r.start) where
     some_there : (o : Option Configuration) → at main r.start ≡ o → IsSome (at main r.start)
-    some_there (Some c) is = ap is_some is
-    some_there None is = grind (arith, common_steps, length) steps 1500000
+    some_there o is = grind (arith, common_steps, is_some) steps 200000
 
     below_lives : r.end ≤ r.start → Lives main r.end
     below_lives below =
@@ -74,13 +72,10 @@ module _ (no_gaps : RunsHaveNoGaps) (ends : NothingFollowsTheEnd) (main : Block)
     back_lives (slice.Due why) (has_come comes) =
         inl (below_lives (goal_below main r.plan r.mode r.start r.end why comes))
     back_lives slice.NoMemory (has_no_memory stays) = inl (below_lives (omega (arith, stays)))
-    back_lives slice.Held by = elim by [ ]
-    back_lives slice.Done by = elim by [ ]
-    back_lives (slice.Fault fault) by = elim by [ ]
+    back_lives _ by = elim by [ ]
 
   went_lives : (b : Bool) → Went main r (back_if b) → Finishes r.outcome
-  went_lives false went = on_lives r.outcome went.outcome
-  went_lives true went = back_lives went.begun r.outcome went.outcome
+  went_lives b went = grind (arith, common_steps, on_lives, back_lives) steps 200000
 
 module _ (one : OneProgram) (joins : WrittenJoins) (no_gaps : RunsHaveNoGaps) (ends : NothingFollowsTheEnd)
     (past : History) where
@@ -93,12 +88,7 @@ module _ (one : OneProgram) (joins : WrittenJoins) (no_gaps : RunsHaveNoGaps) (e
   -- the end isn't a stop
   done_stops_not : (r : PlainReport) (e : SliceOutcome) → e ≡ slice.Done → (s : StopReason)
       → ¬ (last_such stop_of_event (report_effect past r e).events ≡ Some s)
-  done_stops_not r slice.Done done s stops = let e = sym (outputs_stop past r (exited_events 0)) ∙ stops in absurd cc
-  done_stops_not r slice.More done s stops = absurd cc
-  done_stops_not r (slice.Due why) done s stops = absurd cc
-  done_stops_not r slice.Held done s stops = absurd cc
-  done_stops_not r (slice.Fault fault) done s stops = absurd cc
-  done_stops_not r slice.NoMemory done s stops = absurd cc
+  done_stops_not r e done s stops = grind (arith, common_steps, outputs_stop) steps 200000
 
   -- no reply stops a program of which a run was ordered
   reply_stops_not : (o : Option StopReason) → StopsBy (situation past) past o → Ran one joins past → (run : Heading)
@@ -113,12 +103,10 @@ module _ (one : OneProgram) (joins : WrittenJoins) (no_gaps : RunsHaveNoGaps) (e
   stop_alive (Content (Some request)) step taken is ran l there run run_is s stop_is =
       absurd (reply_stops_not _ (all_silent _ past request.body is.0 is.1).stops ran run run_is s (sym (stop_of_effect
       one joins step _ is.2.effect_is) ∙ stop_is))
-  stop_alive (Loaded launch file) step taken is ran l there run run_is s stop_is =
-      grind (arith, common_steps, launch_stops_not, stop_of_effect) steps 1500000
   stop_alive (Accepted r) step taken is ran l there run run_is s stop_is =
       ⊎_elim (λ (alive : IsAlive l r.end). alive)
       (λ (over : (at l.program r.end ≡ Some []) × (r.outcome ≡ slice.Done)). absurd
       (done_stops_not r r.outcome over.1 s (sym (stop_of_effect one joins step _ is.effect_is) ∙ stop_is)))
       (report_lives r taken.0 taken.1 ran l there)
-  stop_alive _ step taken is ran l there run run_is s stop_is =
-      let e = sym (stop_of_effect one joins step _ is.effect_is) ∙ stop_is in absurd cc
+  stop_alive item step taken is ran l there run run_is s stop_is =
+      grind (arith, common_steps, launch_stops_not, stop_of_effect) steps 200000

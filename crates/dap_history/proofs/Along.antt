@@ -1,9 +1,10 @@
 -- What holds along a history: what holds at first and is kept by each item that is taken.
-use Rattle.dap_history.proofs.Common.{Accepted, Accepts, AreLawful, Content, Ending, Err, Fault, File, FirstSeq, History, Incoming, InputEnd, IsAfter, IsHistoryOf, IsLawfulReport, IsTaking, Item, Launch, LeadsByEvent, LeadsByEvents, LeadsByFile, LeadsByPiece, LeadsByReport, LoadFault, Loaded, Loads, MayTake, MemoryFailure, NoMemory, None, Ok, Option, Piece, PlainReport, ReadFailed, ReadFailure, Ready, Report, Request, Rest, Situation, Some, Rests, Takes, TakesSome, [], closed, closing, faulty, inl, inr, no_content, one_content, open_ended, refl, situation, subst, sym, waits, wanted_in, ℕ, ◌++◌, ◌∙◌, ◌∷◌, ◌≡◌, ap, ending_of, only_bytes, or_else}
-use Rattle.std.proofs.Common.{List, Result}
+use Rattle.dap_history.proofs.Common.{Accepted, Accepts, AreLawful, Content, Ending, Err, Fault, File, FirstSeq, History, Incoming, InputEnd, IsAfter, IsHistoryOf, IsLawfulReport, IsTaking, Item, Launch, LeadsByEvent, LeadsByEvents, LeadsByFile, LeadsByPiece, LeadsByReport, LoadFault, Loaded, Loads, MayTake, MemoryFailure, NoMemory, None, Ok, Option, Piece, PlainReport, ReadFailed, ReadFailure, Ready, Report, Request, Rest, Situation, Some, Rests, Takes, TakesSome, [], closed, closing, faulty, inl, inr, no_content, one_content, open_ended, refl, situation, subst, sym, waits, wanted_in, ℕ, ◌∙◌, ◌∷◌, ◌≡◌}
+use Rattle.std.proofs.Common.{List, Result, arith}
 use Rattle.dap_history.specs.declared.fault.LoadFault.TheVariants as load_fault
 use Rattle.dap_history.proofs.Readings.{ending_of-snoc}
 use Rattle.dap_history.specs.Events.{End}
+use Rattle.std.proofs.lemmas.Grind.{common_steps}
 
 -- an item is taken only so: a content that wants no file, a launch in Ready, a report that is accepted; and what an
 -- event brings is as Q says of it
@@ -49,16 +50,12 @@ WaitsWell past rest = IsTaking past → (launch : Launch) → rest.launch ≡ So
 -- a launch that is wanted is wanted in Ready
 wanted_ready : (s : Situation) (request : Option Request) (launch : Launch) → wanted_in s request ≡ Some launch
     → s ≡ Ready
-wanted_ready Ready request launch is = refl
-wanted_ready _ request launch is = absurd cc
+wanted_ready s request launch is = grind (arith, common_steps) steps 200000
 
 -- no item is taken after one that closes
 pub closes_for_good : (past : History) (item : Item) (new : History) (by : Ending) → closing item ≡ Some by
     → IsAfter past item new → ¬ IsTaking new
-closes_for_good past item new by is after taking =
-    let e = sym taking ∙ ap ending_of after.new_is ∙ ending_of-snoc past after.step
-    ∙ ap (λ i. or_else (closing i) (ending_of past)) after.item_is ∙ ap (λ o. or_else o (ending_of past)) is in
-    absurd cc
+closes_for_good past item new by is after taking = grind (arith, common_steps, ending_of-snoc) steps 200000
 
 module _ (Q : Incoming → Type 0) (P : History → Type 0) (kept : IsKept Q P) where
   -- what holds of a history, with its rest
@@ -98,8 +95,7 @@ module _ (Q : Incoming → Type 0) (P : History → Type 0) (kept : IsKept Q P) 
       (new : History) (left : Rest)
       → rest.launch ≡ launch → LeadsByPiece first past launch bytes new left → Holds past rest → Holds new left
   along_piece first past rest None bytes new left same all here = along_takes first past bytes new left all here.0
-  along_piece first past rest (Some launch) bytes new left same is here =
-      subst (λ h. Holds h left) (sym is.0) (here.0, λ taking other waits_. here.1 taking launch same)
+  along_piece first past rest (Some launch) bytes new left same is here = grind (arith, common_steps) steps 200000
 
   along_loads : (first : FirstSeq) (past : History) (launch : Launch) (file : Option (List ℕ)) (bytes : List ℕ)
       (new : History)
@@ -112,14 +108,13 @@ module _ (Q : Incoming → Type 0) (P : History → Type 0) (kept : IsKept Q P) 
       (new : History) (left : Rest) → rest.launch ≡ launch → LeadsByFile f past rest launch file new left
       → Holds past rest → Holds new left
   along_file f past rest None file new left same is here = rw is.0 (rw is.1 here)
-  along_file f past rest (Some launch) (Ok file) new left same (inl is) here = rw is.1 (rw is.2 here)
   along_file f past rest (Some launch) (Ok file) new left same (inr loads) here =
       along_loads f past launch (Some file) rest.bytes new left (here.1 loads.taking launch same) loads here.0
-  along_file f past rest (Some launch) (Err load_fault.CannotRead) new left same (inl is) here = rw is.1 (rw is.2 here)
   along_file f past rest (Some launch) (Err load_fault.CannotRead) new left same (inr loads) here =
       along_loads f past launch None rest.bytes new left (here.1 loads.taking launch same) loads here.0
   along_file f past rest (Some launch) (Err load_fault.NoMemory) new left same is here =
       subst (λ r. Holds new r) (sym is.1) (along_may past rest MemoryFailure new _ tt refl is.0 here)
+  along_file f past rest (Some launch) _ new left same (inl is) here = rw is.1 (rw is.2 here)
 
   along_report : (past : History) (rest : Rest) (r : PlainReport) (new : History) → Q (Report r)
       → LeadsByReport past r new → Holds past rest → Holds new rest
@@ -131,8 +126,7 @@ module _ (Q : Incoming → Type 0) (P : History → Type 0) (kept : IsKept Q P) 
 
   along_event : (f : FirstSeq) (past : History) (rest : Rest) (event : Incoming) (new : History) (left : Rest) → Q event
       → LeadsByEvent f past rest event new left → Holds past rest → Holds new left
-  along_event f past rest (Piece piece) new left good leads here =
-      along_piece f past rest rest.launch (rest.bytes ++ piece) new left refl leads here
+  along_event f past rest (Piece piece) new left good leads here = along_piece f past rest _ _ new left refl leads here
   along_event f past rest End new left good leads here =
       subst (λ r. Holds new r) (sym leads.1) (along_may past rest InputEnd new _ good refl leads.0 here)
   along_event f past rest ReadFailed new left good leads here =
@@ -153,11 +147,9 @@ module _ (Q : Incoming → Type 0) (P : History → Type 0) (kept : IsKept Q P) 
   -- What holds of no steps, and is kept, holds of each history.
   pub along : P [] → (f : FirstSeq) (events : List Incoming) (past : History) (rest : Rest) → AllEvents Q events
       → IsHistoryOf f events past rest → P past
-  along first f events past rest good history =
-      (along_from f [] (only_bytes []) events past rest good history (first, λ taking launch is. absurd cc)).0
+  along first f events past rest good history = grind (arith, common_steps, along_from) steps 200000
 
   -- a launch waits in Ready alone
   pub along_waits : P [] → (f : FirstSeq) (events : List Incoming) (past : History) (rest : Rest) → AllEvents Q events
       → IsHistoryOf f events past rest → WaitsWell past rest
-  along_waits first f events past rest good history =
-      (along_from f [] (only_bytes []) events past rest good history (first, λ taking launch is. absurd cc)).1
+  along_waits first f events past rest good history = grind (arith, common_steps, along_from) steps 200000

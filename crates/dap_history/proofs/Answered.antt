@@ -1,10 +1,11 @@
 -- Each request is answered once.
-use Rattle.dap_history.proofs.Common.{Answers, Causes, CommandName, Content, Event, EventBody, History, Item, Loaded, None, Reply, Some, Step, [], filter_map, filter_map-append, map-append, messages, messages_of, refl, ℕ, ◌++◌, ◌∷◌, ◌≡◌, ap, subst, sym, ◌∙◌}
-use Rattle.std.proofs.Common.{List}
+use Rattle.dap_history.proofs.Common.{Answers, Causes, CommandName, Content, Event, EventBody, History, Item, None, Reply, Some, Step, [], filter_map, filter_map-append, map-append, messages, messages_of, refl, ℕ, ◌++◌, ◌∷◌, ◌≡◌}
+use Rattle.std.proofs.Common.{List, arith}
 use Rattle.std.specs.Prelude.{map}
 use Rattle.dap_history.specs.Laws.{answered_request, request_of_item, EachIsAnsweredOnce}
 use Rattle.dap_history.proofs.Readings.{messages_of-snoc}
 use Rattle.dap_history.proofs.Along.{IsKept, any_events, along}
+use Rattle.std.proofs.lemmas.Grind.{common_steps}
 
 abbrev Once : History → Type 0
 Once past = filter_map answered_request (messages_of past) ≡ filter_map request_of_item
@@ -26,25 +27,15 @@ answers_never step is = cc (events_answer_nothing step.effect.events)
 once_here : (past : History) (item : Item) (step : Step) → Causes past item step
     → filter_map answered_request (messages step) ≡ filter_map request_of_item (item ∷ [])
 once_here past (Content (Some request)) step is = answers_once _ _ is.0 step is.2
-once_here past (Loaded launch file) step is = answers_once _ _ is.0 step is.2
-once_here past _ step is = answers_never step is.answer_is
+once_here past item step is = grind (arith, common_steps, answers_once, answers_never) steps 200000
 
 once_more : (past : History) (item : Item) (step : Step) → step.item ≡ item → Causes past item step → Once past
     → Once (past ++ step ∷ [])
 once_more past item step item_is causes here =
-    ap (filter_map answered_request) (messages_of-snoc past step)
-    ∙ filter_map-append answered_request (messages_of past) (messages step)
-    ∙ ap (λ l. l ++ filter_map answered_request (messages step)) here
-    ∙ ap (λ l. filter_map request_of_item (map (λ (s : Step). s.item) past) ++ l)
-    (once_here past item step causes ∙ ap (λ i. filter_map request_of_item (i ∷ [])) (sym item_is))
-    ∙ sym (filter_map-append request_of_item (map (λ (s : Step). s.item) past) (step.item ∷ []))
-    ∙ ap (filter_map request_of_item) (sym (map-append (λ (s : Step). s.item) past (step ∷ [])))
+    grind (arith, common_steps, filter_map, messages_of-snoc, filter_map-append, once_here, map-append) steps 200000
 
 once_kept : IsKept (λ e. Unit {0}) Once
-once_kept = record {
-  step = λ past item new taking taken after here.
-      subst Once (sym after.new_is) (once_more past item after.step after.item_is after.causes here);
-}
+once_kept = grind (arith, common_steps, once_more) steps 200000
 
 pub each_answered : EachIsAnsweredOnce
 each_answered f events past rest history =

@@ -1,9 +1,8 @@
 -- Each stop of a run is as the command asks by which the program goes, and none is passed.
-use Rattle.dap_history.proofs.Common.{Accepted, Body, Causes, Command, Content, Effect, Err, Grants, Heading, History, IsRetreatsStop, IsRightStop, IsRunsStop, IsSome, IsStopOf, Item, Launched, Loaded, Mode, None, NoneDueBefore, NoneDueUpTo, Ok, Option, Reason, Refusal, Request, RetreatKind, SliceOutcome, Some, Step, Stop, StopReason, ThreadArguments, WrittenJoins, [], ap, depth_at, due_in_run, go, goes_back, held_mode, if◌then◌else◌, is_some, last_run, last_such, launched, mode_asked, mode_by, name_of, option_map_or, or_else, reason_of, refl, run_in, situation, subst, sym, told_reason, ℕ, ◌++◌, ◌<◌, ◌∙◌, ◌∷◌, ◌≡◌, ◌≤◌}
+use Rattle.dap_history.proofs.Common.{Accepted, Body, Causes, Command, Content, Effect, Err, Grants, Heading, History, IsRetreatsStop, IsRightStop, IsRunsStop, IsSome, IsStopOf, Item, Launched, Loaded, Mode, None, NoneDueBefore, NoneDueUpTo, Ok, Option, Reason, Refusal, Request, RetreatKind, SliceOutcome, Some, Step, Stop, StopReason, ThreadArguments, WrittenJoins, [], ap, depth_at, due_in_run, go, goes_back, held_mode, if◌then◌else◌, is_some, last_run, last_such, launched, mode_asked, mode_by, name_of, or_else, reason_of, refl, run_in, situation, subst, sym, told_reason, ℕ, ◌++◌, ◌<◌, ◌∙◌, ◌∷◌, ◌≡◌, ◌≤◌}
 use Rattle.std.proofs.Common.{Bool, true, false, ◌&&◌, Result}
 use Rattle.std.specs.Prelude.{option_map}
 use Rattle.dap_msg.specs.declared.command.Command.TheVariants as command
-use Rattle.dap_msg.specs.declared.requests.resume.ResumeKind.TheVariants as resume
 use Rattle.dap_msg.specs.declared.requests.resume.RetreatKind.TheVariants as retreat
 use Rattle.dap_msg.specs.declared.outgoing.Outgoing.TheVariants.{Answer}
 use Rattle.dap_msg.specs.declared.outgoing.StopReason.TheVariants as stop
@@ -17,7 +16,7 @@ use Rattle.dap_history.specs.Moves.{IsAlive, is_request_item, sets_going, GoesBy
 use Rattle.dap_history.proofs.Readings.{launched-snoc, last_run-snoc, position-snoc}
 use Rattle.dap_history.proofs.Texts.{OneProgram}
 use Rattle.dap_history.proofs.Along.{IsTaken, IsKept, IsLawfulEvent, lawful_events, along}
-use Rattle.dap_history.proofs.Each.{WasTaken, EachTaken, each_kept, each_first}
+use Rattle.dap_history.proofs.Each.{WasTaken, each_kept, each_first}
 use Rattle.dap_history.proofs.Early.{IsEarly}
 use Rattle.dap_history.proofs.Silent.{all_silent}
 use Rattle.dap_history.proofs.Outputs.{report_launches}
@@ -69,10 +68,7 @@ granted_by past step request run item_is is goes = by_result is.0.result refl
       body = b;
       answer_is = is.2.answer_is ∙ ap (λ x. Some (Answer request.seq (name_of request.body) x)) same;
     }
-    by_result (Err why) same =
-        let none = refused_step past (Content (Some request)) step request.seq (name_of request.body) why is
-        (is.2.answer_is ∙ ap (λ x. Some (Answer request.seq (name_of request.body) x)) same) in
-        let e = sym (ap (last_such go) none.orders_are) ∙ goes in absurd cc
+    by_result (Err why) same = grind (arith, common_steps, refused_step, go) steps 200000
 
 module _ (one : OneProgram) (joins : WrittenJoins) where
   module _ (past : History) (step : Step) (taken : IsTaken IsLawfulEvent past step.item)
@@ -87,16 +83,14 @@ module _ (one : OneProgram) (joins : WrittenJoins) where
         launches_none : (item : Item) → Causes past item step → IsTaken IsLawfulEvent past item
             → last_run (past ++ step ∷ []) ≡ Some run → step.effect.launched ≡ None
         launches_none (Content (Some request)) is taken_ run_is =
-            ap (λ (e : Effect). e.launched) is.2.effect_is
-            ∙ (all_silent (situation past) past request.body is.0 is.1).no_launch
+            cc (is.2.effect_is, (all_silent (situation past) past request.body is.0 is.1).no_launch)
         launches_none (Loaded launch file) is ready run_is =
             let none = last_run-snoc past step
             ∙ ap (λ o. or_else o (last_run past)) (ap (λ (e : Effect). last_such go e.orders) is.2.effect_is
             ∙ loaded_orders launch file is.0 is.1)
             ∙ (ran.so_far.progress None (ran.so_far.early (subst IsEarly (sym ready) tt))).1 in
             let e = sym none ∙ run_is in absurd cc
-        launches_none (Accepted r) is taken_ run_is =
-            ap (λ (e : Effect). e.launched) is.effect_is ∙ report_launches past r r.outcome
+        launches_none (Accepted r) is taken_ run_is = cc (is.effect_is, report_launches past r r.outcome)
         launches_none _ is taken_ run_is = ap (λ (e : Effect). e.launched) is.effect_is
 
     -- where a run is ordered, the program goes by the request, or as before
@@ -197,33 +191,17 @@ GoesForward _ = Unit {0}
 -- a command by which a run goes forward
 pub forward_by : (asked : Command) (d : ℕ) (run : Heading) → mode_by d asked ≡ Some run.mode
     → goes_back run.mode ≡ false → GoesForward asked
-forward_by (command.Retreat retreat.StepBack a) d run mode_is on =
-    let e = ap (λ o. option_map_or goes_back o false) mode_is ∙ on in absurd cc
-forward_by (command.Retreat retreat.ReverseContinue a) d run mode_is on =
-    let e = ap (λ o. option_map_or goes_back o false) mode_is ∙ on in absurd cc
-forward_by _ d run mode_is on = tt
+forward_by asked d run mode_is on = grind (arith, common_steps) steps 200000
 
 mode_done : (asked : Command) (m : Mode) (d n : ℕ) → GoesForward asked → mode_by d asked ≡ Some m
     → (reason_of m n ≡ done_reason (is_done asked d n)) × (goes_back m ≡ false)
-mode_done command.ConfigurationDone m d n forward is = grind (arith, common_steps, goes_back, false) steps 1500000
-mode_done (command.Resume resume.Continue a) m d n forward is =
-    grind (arith, common_steps, goes_back, false) steps 1500000
-mode_done (command.Resume resume.StepIn a) m d n forward is =
-    grind (arith, common_steps, goes_back, false) steps 1500000
-mode_done (command.Resume resume.Next a) m d n forward is =
-    grind (arith, common_steps, goes_back, false, true) steps 1500000
-mode_done (command.Resume resume.StepOut a) m d n forward is =
-    grind (arith, common_steps, goes_back, false, true) steps 1500000
-mode_done (command.Retreat kind a) m d n forward is = absurd forward
-mode_done _ m d n forward is = absurd cc
+mode_done asked m d n forward is = grind (arith, common_steps) steps 200000
 
 -- what the two tests say, as the client is told
 told_by : (met done : Bool)
     → option_map told_reason (if met then Some reason.Breakpoint else done_reason done)
     ≡ (if met then Some stop.Breakpoint else (if done then Some stop.Step else None))
-told_by true done = refl
-told_by false true = refl
-told_by false false = refl
+told_by met done = grind (arith, common_steps) steps 200000
 
 module _ (l : Launched) (run : Heading) (asked : Command) (from : ℕ) (forward : GoesForward asked)
     (mode_is : mode_by (depth_at l.program from) asked ≡ Some run.mode) where
@@ -239,11 +217,10 @@ module _ (l : Launched) (run : Heading) (asked : Command) (from : ℕ) (forward 
   first_so r s m told is = grind (arith, common_steps, reason_is, nowhere) steps 1500000
 
   runs_so : (s : StopReason) (m : ℕ) → IsRunsStop l run s m → StopsForward l run asked from s m
-  runs_so stop.Pause m is = (is.0, λ k above up_to. nowhere k (is.1 k above up_to))
-  runs_so (stop.Exception x) m is = grind (arith, common_steps, nowhere) steps 1500000
   runs_so stop.Breakpoint m is = first_so is.0 stop.Breakpoint m is.1 (is.2, is.3, is.4)
   runs_so stop.Step m is = first_so is.0 stop.Step m is.1 (is.2, is.3, is.4)
   runs_so stop.Entry m is = first_so is.0 stop.Entry m is.1 (is.2, is.3, is.4)
+  runs_so s m is = grind (arith, common_steps, nowhere) steps 200000
 
   forward_so : (s : StopReason) (m : ℕ) → IsStopOf (goes_back run.mode) l run s m → StopsForward l run asked from s m
   forward_so s m is = grind (arith, common_steps, runs_so, mode_done) steps 1500000
@@ -252,12 +229,10 @@ module _ (l : Launched) (run : Heading) (asked : Command) (from : ℕ) (forward 
 
 -- nothing is due in the mode Continue just where no breakpoint stops the program
 met_not : (met : Bool) → (if met then Some reason.Breakpoint else None) ≡ None → met ≡ false
-met_not true is = absurd cc
-met_not false is = refl
+met_not met is = grind (arith, common_steps) steps 200000
 
 met_so : (met : Bool) → IsSome (if met then Some reason.Breakpoint else None) → met ≡ true
-met_so true is = refl
-met_so false is = absurd cc
+met_so met is = grind (arith, common_steps) steps 200000
 
 module _ (last : LastDueIsLast) (l : Launched) (run : Heading) where
   none_met : (m : ℕ) → NoneIsDue l.program run.plan m run.start → NoneMet l run m
@@ -275,20 +250,14 @@ module _ (last : LastDueIsLast) (l : Launched) (run : Heading) where
   back_so : (kind : RetreatKind) (a : ThreadArguments) (d : ℕ) (s : StopReason) (m : ℕ)
       → mode_by d (command.Retreat kind a) ≡ Some run.mode → IsStopOf (goes_back run.mode) l run s m
       → StopsBack l run kind s m
-  back_so retreat.StepBack a d s m mode_is is = grind (arith, common_steps, steps_so, goes_back) steps 1500000
-  back_so retreat.ReverseContinue a d s m mode_is is = grind (arith, common_steps, reverses_so, goes_back) steps 1500000
+  back_so kind a d s m mode_is is = grind (arith, common_steps, steps_so, reverses_so) steps 200000
 
   -- ---- either
 
   as_asked : (asked : Command) (from : ℕ) (s : StopReason) (m : ℕ)
       → mode_by (depth_at l.program from) asked ≡ Some run.mode → IsStopOf (goes_back run.mode) l run s m
       → StopsAsAsked l run asked from s m
-  as_asked (command.Retreat kind a) from s m mode_is is =
-      back_so kind a (depth_at l.program from) s m mode_is is
-  as_asked command.ConfigurationDone from s m mode_is is = grind (arith, common_steps, forward_so) steps 1500000
-  as_asked (command.Resume kind a) from s m mode_is is =
-      forward_so l run (command.Resume kind a) from tt mode_is s m is
-  as_asked _ from s m mode_is is = absurd cc
+  as_asked asked from s m mode_is is = grind (arith, common_steps, back_so, forward_so) steps 200000
 
 pub stops_as_asked : OneProgram → WrittenJoins → RunsHaveNoGaps → NothingFollowsTheEnd → LastDueIsLast
     → EachStopIsAsAsked
@@ -307,9 +276,8 @@ stops_as_asked one joins no_gaps ends last f events past rest lawful history bef
     right = each_stop_right one joins f events past rest lawful history before s m stops_at
 
     was : WasTaken IsLawfulEvent (Kept one joins) before stops_at.step
-    was = (along IsLawfulEvent (EachTaken IsLawfulEvent (Kept one joins))
-        (each_kept IsLawfulEvent (Kept one joins) (kept_kept one joins))
-        (each_first IsLawfulEvent (Kept one joins) (kept_first one joins)) f events past rest
+    was =
+        (along _ _ (each_kept _ _ (kept_kept one joins)) (each_first _ _ (kept_first one joins)) f events past rest
         (lawful_events events lawful) history).each before stops_at.step stops_at.after stops_at.past_is
 
     by : WentBy before right.0 run
@@ -317,10 +285,9 @@ stops_as_asked one joins no_gaps ends last f events past rest lawful history bef
 
     alive : IsAlive right.0 m
     alive =
-        subst (IsAlive right.0) (sym (stops_at.position_is ∙ position-snoc before stops_at.step))
-        (stop_alive one joins no_gaps ends before stops_at.step.item stops_at.step was.taken was.causes was.held.0
-        right.0 right.1 run run_is s
-        (stopped_last before stops_at.step s stops_at.front stops_at.back was.causes stops_at.events_are))
+        subst (IsAlive right.0) (sym (stops_at.position_is
+        ∙ position-snoc before _)) (stop_alive one joins no_gaps ends before _ _ was.taken was.causes was.held.0 _
+        right.1 run run_is s (stopped_last before _ s _ _ was.causes stops_at.events_are))
 
 pub none_passed : OneProgram → WrittenJoins → NoStopIsPassed
 none_passed one joins f events past rest lawful history running run run_is forward = (

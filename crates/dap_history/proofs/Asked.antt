@@ -1,7 +1,5 @@
 -- Each run has the next number, and is in the mode that was asked for.
-use Rattle.dap_history.proofs.Common.{Accepted, Accepts, Breakpoint, Causes, Command, Content, Heading, History, Incoming, Item, Launched, Loaded, None, Option, PlainOrder, PlainReport, Reaction, Reason, Reply, ResumeKind, RetreatKind, Running, Situation, SliceOutcome, Some, Step, ThreadArguments, WrittenJoins, [], all_runs, ap, append-nil, arith, depth_at, effect_in, enters, filter_map, filter_map-append, go, held_mode, hold_once, last_run, last_such, launched, length, mode_asked, mode_by, mode_of, option_map_or, refl, reply_of, report_effect, retreat_mode, run_in, runs, subst, sym, ℕ, ◌++◌, ◌+◌, ◌∙◌, ◌∷◌, ◌≡◌}
-use Rattle.dap_msg.specs.declared.requests.resume.ResumeKind.TheVariants as resume
-use Rattle.dap_msg.specs.declared.requests.resume.RetreatKind.TheVariants as retreat
+use Rattle.dap_history.proofs.Common.{Accepted, Accepts, Breakpoint, Causes, Command, Content, Heading, History, Incoming, Item, Launched, None, Option, PlainOrder, PlainReport, Reaction, Reason, Reply, ResumeKind, RetreatKind, Situation, SliceOutcome, Some, Step, ThreadArguments, WrittenJoins, [], all_runs, ap, append-nil, arith, depth_at, effect_in, enters, filter_map, filter_map-append, go, held_mode, hold_once, last_run, last_such, launched, length, mode_asked, mode_by, mode_of, reply_of, report_effect, retreat_mode, run_in, runs, subst, sym, ℕ, ◌++◌, ◌+◌, ◌∙◌, ◌∷◌, ◌≡◌}
 use Rattle.std.proofs.Common.{List, true, false}
 use Rattle.dap_msg.specs.declared.command.Command.TheVariants as command
 use Rattle.dbg_plan.specs.declared.mode.Mode.TheVariants as mode
@@ -12,7 +10,7 @@ use Rattle.dap_history.proofs.Texts.{OneProgram}
 use Rattle.dap_history.proofs.Along.{IsTaken, IsKept, IsLawfulEvent, any_events, lawful_events, along}
 use Rattle.dap_history.proofs.Each.{WasTaken, EachTaken, each_kept, each_first}
 use Rattle.dap_history.proofs.Silent.{NextRuns, no_runs, next_run}
-use Rattle.dap_history.proofs.Reacted.{Reacted, by_refusing, by_answering, by_setting, by_starting, by_resuming, by_ending, by_retreating, by_interrupting, by_closing, by_reaction}
+use Rattle.dap_history.proofs.Reacted.{Reacted, by_setting, by_starting, by_resuming, by_retreating, by_interrupting, by_reaction}
 use Rattle.dap_history.proofs.Passing.{Ran, loaded_orders}
 use Rattle.dap_history.proofs.Runs.{AreNumbered, numbered-snoc}
 use Rattle.dap_history.proofs.Counted.{all_runs-snoc, next_runs}
@@ -52,15 +50,11 @@ runs_count f events past rest history front back run orders_are =
 
 resume_kind_mode : (depth : ℕ) (kind : ResumeKind) (a : ThreadArguments)
     → mode_by depth (command.Resume kind a) ≡ Some (mode_of kind depth)
-resume_kind_mode depth resume.Continue a = refl
-resume_kind_mode depth resume.Next a = refl
-resume_kind_mode depth resume.StepIn a = refl
-resume_kind_mode depth resume.StepOut a = refl
+resume_kind_mode depth kind a = grind (arith, common_steps) steps 200000
 
 back_mode : (depth : ℕ) (kind : RetreatKind) (a : ThreadArguments)
     → mode_by depth (command.Retreat kind a) ≡ Some (retreat_mode kind)
-back_mode depth retreat.StepBack a = refl
-back_mode depth retreat.ReverseContinue a = refl
+back_mode depth kind a = grind (arith, common_steps) steps 200000
 
 -- the run is of the launched program, in the mode that the command asks for
 abbrev pub AsAsked : History → Command → Heading → Type 0
@@ -72,8 +66,7 @@ no_go_held past = grind (arith, common_steps, is_held, go, runs, true, false) st
 
 pub no_go_in : (s : Situation) (past : History) (bs : List Breakpoint)
     → last_such go (effect_in s past bs).orders ≡ None
-no_go_in Running past bs = no_go_held past
-no_go_in _ past bs = refl
+no_go_in s past bs = grind (arith, common_steps, no_go_held) steps 200000
 
 no_go_by : (past : History) (asked : Command) (run : Heading) (orders : List PlainOrder)
     → last_such go orders ≡ None → last_such go orders ≡ Some run → AsAsked past asked run
@@ -81,34 +74,26 @@ no_go_by past asked run orders none some = let e = sym some ∙ none in absurd c
 
 begun_mode : (past : History) (l : Launched) (why : Option Reason) (run : Heading)
     → last_such go (enters past l why).orders ≡ Some run → run.mode ≡ mode.Continue
-begun_mode past l None run is = ap (λ o. option_map_or (λ (h : Heading). h.mode) o mode.Continue) (sym is)
-begun_mode past l (Some r) run is = absurd cc
+begun_mode past l why run is = grind (arith, common_steps) steps 200000
 
 pub reaction_mode : (past : History) {s : Situation} {asked : Command} {reaction : Reaction}
     → Reacted past s asked reaction → (run : Heading)
     → last_such go (reply_of past reaction).effect.orders ≡ Some run → AsAsked past asked run
-reaction_mode past (by_refusing s asked why) run goes = absurd cc
-reaction_mode past (by_answering s asked b calm) run goes = absurd cc
 reaction_mode past (by_setting s a l found bs there path_is resolved) run goes =
     grind (arith, common_steps, no_go_by, no_go_in) steps 1500000
 reaction_mode past (by_starting l there) run goes = grind (arith, common_steps, begun_mode) steps 1500000
 reaction_mode past (by_resuming kind a l there) run goes =
     grind (arith, common_steps, position, resume_kind_mode) steps 1500000
-reaction_mode past (by_ending kind a) run goes = absurd cc
 reaction_mode past (by_retreating s kind a l stands there) run goes =
     grind (arith, common_steps, back_mode, position) steps 1500000
 reaction_mode past (by_interrupting a) run goes = grind (arith, common_steps, no_go_by, no_go_held) steps 1500000
-reaction_mode past (by_closing s) run goes = absurd cc
+reaction_mode past _ run goes = absurd cc
 
 -- a run that a report orders is in the mode of the run that was held
 report_mode : (past : History) (r : PlainReport) (e : SliceOutcome) → Accepts past r → (run : Heading)
     → last_such go (report_effect past r e).orders ≡ Some run → held_mode e (last_run past) ≡ Some run.mode
-report_mode past r slice.More accepts run goes = absurd cc
-report_mode past r (slice.Due reason) accepts run goes = absurd cc
-report_mode past r slice.Done accepts run goes = absurd cc
-report_mode past r (slice.Fault fault) accepts run goes = absurd cc
-report_mode past r slice.NoMemory accepts run goes = absurd cc
 report_mode past r slice.Held accepts run goes = grind (arith, common_steps, go, true, false) steps 1500000
+report_mode past r _ accepts run goes = absurd cc
 
 module _ (one : OneProgram) (joins : WrittenJoins) where
   -- the run is of the launched program, in the mode that the item asks for
@@ -120,22 +105,19 @@ module _ (one : OneProgram) (joins : WrittenJoins) where
   item_mode past (Content (Some request)) step taken is ran run goes =
       by_reaction (λ (r : Reply). last_such go r.effect.orders ≡ Some run → AsAsked past request.body run) (λ reaction
       reacted goes. reaction_mode past reacted run goes) is.1 (cc is.2.effect_is)
-  item_mode past (Loaded launch file) step taken is ran run goes =
-      grind (arith, common_steps, go, loaded_orders) steps 1500000
   item_mode past (Accepted r) step taken is ran run goes =
       let there = of_launched one joins past (Accepted r) step taken is ran run goes in
       (there.0, there.1, report_mode past r r.outcome taken.0 run (cc is.effect_is))
-  item_mode past _ step taken is ran run goes = grind (arith, common_steps, go) steps 1500000
+  item_mode past item step taken is ran run goes = grind (arith, common_steps, go, loaded_orders) steps 200000
 
   pub each_as_asked : EachRunIsAsAsked
   each_as_asked f events past rest lawful history before step after past_is run orders =
       item_mode before step.item step was.taken was.causes was.held run (ordered_last before step run was.causes orders)
     where
       each : EachTaken IsLawfulEvent (Ran one joins) past
-      each = along IsLawfulEvent (EachTaken IsLawfulEvent (Ran one joins))
-          (each_kept IsLawfulEvent (Ran one joins) (ran_kept one joins))
-          (each_first IsLawfulEvent (Ran one joins) (ran_first one joins)) f events past rest
-          (lawful_events events lawful) history
+      each =
+          along IsLawfulEvent _ (each_kept IsLawfulEvent _ (ran_kept one joins)) (each_first IsLawfulEvent _ (ran_first
+          one joins)) f events past rest (lawful_events events lawful) history
 
       was : WasTaken IsLawfulEvent (Ran one joins) before step
       was = each.each before step after past_is

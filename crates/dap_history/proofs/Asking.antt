@@ -1,10 +1,9 @@
 -- The loader is asked for the path of each launch that waits, and for no other; the events are what inbox and loader
 -- returned.
-use Rattle.dap_history.proofs.Common.{File, FirstSeq, History, Incoming, IsHistoryOf, IsTaking, Launch, Piece, ReadFailed, NoMemory, None, Report, Rest, Some, [], ap, append-nil, inl, inr, subst, sym, ℕ, ◌++◌, ◌∙◌, ◌∷◌, ◌≡◌, ◌⊎◌}
+use Rattle.dap_history.proofs.Common.{File, FirstSeq, History, Incoming, IsHistoryOf, IsTaking, Launch, None, Rest, Some, [], ap, append-nil, inl, inr, subst, sym, ℕ, ◌++◌, ◌∙◌, ◌∷◌, ◌≡◌, ◌⊎◌}
 use Rattle.std.proofs.Common.{List, arith}
 use Rattle.std.specs.Prelude.{map}
 use Rattle.std.proofs.lemmas.List.{append_assoc}
-use Rattle.dap_history.specs.Events.{End}
 use Rattle.dap_history.specs.Interleaving.{Load, AwaitsNone, IsLoad, Interleaves, IsAsked, EachLoadIsOfALaunch, IsAnswerFor, EachLaunchIsLoaded, AreMerged, EventsAreReturned}
 use Rattle.dap_history.specs.Laws.{HistoryIsOne}
 use Rattle.dap_history.proofs.Once.{none_within}
@@ -14,12 +13,7 @@ use Rattle.std.proofs.lemmas.Grind.{common_steps}
 
 asked_now : (first : FirstSeq) (before : List Incoming) (e : Incoming) (after : List Incoming) (load : Load)
     → IsLoad first before e load → IsAsked first (before ++ e ∷ after) load
-asked_now first before (File file) after load (answer_is, awaits) = grind (arith, common_steps) steps 200000
-asked_now first before (Piece piece) after load is = absurd is
-asked_now first before End after load is = absurd is
-asked_now first before ReadFailed after load is = absurd is
-asked_now first before NoMemory after load is = absurd is
-asked_now first before (Report r) after load is = absurd is
+asked_now first before e after load is = grind (arith, common_steps) steps 200000
 
 asked_along : (first : FirstSeq) (so_far events given : List Incoming) (loads : List Load)
     → Interleaves first so_far events given loads → (front : List Load) (load : Load) (back : List Load)
@@ -34,8 +28,7 @@ asked_along first so_far (e ∷ events) given loads (inl (l, more, are, loaded, 
     subst (λ es. IsAsked first es load) (append_assoc so_far (e ∷ []) events)
     (asked_along first (so_far ++ e ∷ []) events given more later front load back rest)
 asked_along first so_far (e ∷ events) given loads (inr (more, given_is, none, later)) front load back loads_are =
-    subst (λ es. IsAsked first es load) (append_assoc so_far (e ∷ []) events)
-    (asked_along first (so_far ++ e ∷ []) events more loads later front load back loads_are)
+    rw (← (append_assoc so_far (e ∷ []) events)) (asked_along first _ events more loads later front load back loads_are)
 
 pub each_asked : EachLoadIsOfALaunch
 each_asked first events given loads is front load back loads_are =
@@ -72,11 +65,7 @@ answer_now one first before (File file) load loads more are (answer_is, awaits) 
       path_is = awaits.path_is ∙ ap (λ (l : Launch). l.arguments.program) (sym launch_is);
       event_is = ap File (sym answer_is);
     }
-answer_now one first before (Piece piece) load loads more are is past rest history launch waits = absurd is
-answer_now one first before End load loads more are is past rest history launch waits = absurd is
-answer_now one first before ReadFailed load loads more are is past rest history launch waits = absurd is
-answer_now one first before NoMemory load loads more are is past rest history launch waits = absurd is
-answer_now one first before (Report r) load loads more are is past rest history launch waits = absurd is
+answer_now one first before _ load loads more are is past rest history launch waits = absurd is
 
 longer : (so_far before : List Incoming) (x e : Incoming) → x ≡ e
     → so_far ++ x ∷ before ≡ (so_far ++ e ∷ []) ++ before
@@ -130,12 +119,7 @@ each_loaded one first events given loads is before event after are past rest his
 
 answer_event : (first : FirstSeq) (before : List Incoming) (e : Incoming) (load : Load) → IsLoad first before e load
     → File load.answer ≡ e
-answer_event first before (File file) load is = ap File is.0
-answer_event first before (Piece piece) load is = absurd is
-answer_event first before End load is = absurd is
-answer_event first before ReadFailed load is = absurd is
-answer_event first before NoMemory load is = absurd is
-answer_event first before (Report r) load is = absurd is
+answer_event first before e load is = grind (arith, common_steps) steps 200000
 
 abbrev answers : List Load → List Incoming
 answers loads = map (λ (load : Load). File load.answer) loads

@@ -1,18 +1,17 @@
 -- A session that was closed by the end of its input has taken that event, and Quit is its last order.
-use Rattle.dap_history.proofs.Common.{Accepted, Breakpoint, Causes, Close, Command, Content, Effect, Ending, Fault, File, FirstSeq, Go, History, Hold, Incoming, InputEnd, IsAfter, IsHistoryOf, IsTaking, Item, Launch, Launched, Launches, Loaded, MemoryFailure, None, Option, PlainOrder, PlainReport, Quit, Reaction, ReadFailed, ReadFailure, Reason, RepliesIn, Reply, Rest, Running, Situation, SliceOutcome, Some, Step, [], ap, closing, closing_command, closing_report, due_first, effect_in, ending_of, enters, hold_once, inl, inr, orders_of, refl, reply_of, report_effect, runs, situation, subst, sym, ℕ, ◌++◌, ◌∙◌, ◌∷◌, ◌≡◌, ◌⊎◌, held_effect, if◌then◌else◌, is_back, waiting_pause, ◌||◌}
-use Rattle.std.proofs.Common.{List, true, false, Bool}
+use Rattle.dap_history.proofs.Common.{Breakpoint, Causes, Close, Command, Content, Ending, File, FirstSeq, Go, History, Hold, Incoming, IsAfter, IsHistoryOf, IsTaking, Item, Launch, Launched, Launches, None, Option, PlainOrder, PlainReport, Quit, Reaction, ReadFailed, Reason, RepliesIn, Reply, Rest, Situation, SliceOutcome, Some, Step, [], ap, closing, closing_command, closing_report, effect_in, ending_of, enters, hold_once, inl, inr, orders_of, refl, reply_of, report_effect, runs, situation, subst, sym, ℕ, ◌++◌, ◌∙◌, ◌∷◌, ◌≡◌, ◌⊎◌}
+use Rattle.std.proofs.Common.{List, arith}
 use Rattle.dap_msg.specs.declared.command.Command.TheVariants as command
-use Rattle.dbg_runner.specs.declared.outcome.SliceOutcome.TheVariants as slice
 use Rattle.dap_history.specs.declared.ending.Closed.{Closed}
 use Rattle.dap_history.specs.declared.ending.Closed.TheVariants as closed
 use Rattle.dap_history.specs.declared.ending.Ending.TheVariants as ending
-use Rattle.dap_history.specs.Readings.{is_held}
 use Rattle.dap_history.specs.Interleaving.{Load, IsLoad, Interleaves}
 use Rattle.dap_history.specs.Events.{End}
 use Rattle.dap_history.specs.Laws.{IsAmong, QuitIsLast, EndsWithQuit, QuitCloses}
 use Rattle.dap_history.proofs.Readings.{or_else-none, orders_of-snoc, ending_of-snoc}
-use Rattle.dap_history.proofs.Reacted.{Reacted, by_setting, by_starting, by_interrupting, by_closing, replied, by_reaction}
+use Rattle.dap_history.proofs.Reacted.{Reacted, by_setting, replied, by_reaction}
 use Rattle.dap_history.proofs.Along.{IsTaken, IsKept, AllEvents, any_events, along}
+use Rattle.std.proofs.lemmas.Grind.{common_steps}
 
 -- a session that took the item goes on only where the item doesn't close
 pub ends_by : (past : History) (item : Item) (new : History) → IsTaking past → IsAfter past item new
@@ -38,24 +37,15 @@ module _ (own : Incoming) (is_own : (e : Incoming) → (own ≡ e) ⊎ ¬ (own �
     IsNotClosed past = ¬ (ending_of past ≡ Some (ending.Closed by))
 
     command_not : (c : Command) → ¬ (closing_command c ≡ Some (ending.Closed by))
-    command_not command.Disconnect is = asked cc
-    command_not _ is = absurd cc
+    command_not c is = grind (arith, common_steps) steps 200000
 
     report_not : (outcome : SliceOutcome) → ¬ (closing_report outcome ≡ Some (ending.Closed by))
-    report_not slice.NoMemory is = absurd cc
-    report_not _ is = absurd cc
+    report_not outcome is = grind (arith, common_steps) steps 200000
 
     -- no item closes so that another event brings
     item_not : (past : History) (item : Item) → IsTaken (λ e. ¬ (own ≡ e)) past item
         → ¬ (closing item ≡ Some (ending.Closed by))
-    item_not past (Content None) taken is = absurd cc
-    item_not past (Content (Some request)) taken is = command_not request.body is
-    item_not past (Loaded launch file) taken is = absurd cc
-    item_not past (Accepted r) taken is = report_not r.outcome is
-    item_not past (Fault k) taken is = absurd cc
-    item_not past InputEnd other is = other (at_end cc)
-    item_not past ReadFailure other is = other (at_failure cc)
-    item_not past MemoryFailure taken is = absurd cc
+    item_not past item taken is = grind (arith, common_steps, command_not, report_not) steps 200000
 
     not_closed_kept : IsKept (λ e. ¬ (own ≡ e)) IsNotClosed
     not_closed_kept = record {
@@ -74,12 +64,10 @@ module _ (own : Incoming) (is_own : (e : Incoming) → (own ≡ e) ⊎ ¬ (own �
             history is)
 
 is_end : (e : Incoming) → (End ≡ e) ⊎ ¬ (End ≡ e)
-is_end End = inl refl
-is_end _ = inr (λ same. absurd cc)
+is_end e = grind (arith, common_steps) steps 200000
 
 is_failure : (e : Incoming) → (ReadFailed ≡ e) ⊎ ¬ (ReadFailed ≡ e)
-is_failure ReadFailed = inl refl
-is_failure _ = inr (λ same. absurd cc)
+is_failure e = grind (arith, common_steps) steps 200000
 
 -- A session that the input's end closed has taken it.
 pub closed_by_end : (f : FirstSeq) (events : List Incoming) (past : History) (rest : Rest)
@@ -103,10 +91,9 @@ NoQuit (Hold run ∷ orders) = NoQuit orders
 NoQuit (Quit ∷ orders) = ⊥
 
 no_quit-append : (xs ys : List PlainOrder) → NoQuit xs → NoQuit ys → NoQuit (xs ++ ys)
-no_quit-append [] ys a b = b
 no_quit-append (Go run ∷ xs) ys a b = no_quit-append xs ys a b
 no_quit-append (Hold run ∷ xs) ys a b = no_quit-append xs ys a b
-no_quit-append (Quit ∷ xs) ys a b = absurd a
+no_quit-append xs ys a b = grind (arith, common_steps) steps 200000
 
 abbrev later_orders : List PlainOrder → List PlainOrder
 later_orders [] = []
@@ -114,23 +101,20 @@ later_orders (order ∷ orders) = orders
 
 no_quit_in : (orders front more : List PlainOrder) → NoQuit orders → ¬ (orders ≡ front ++ Quit ∷ more)
 no_quit_in [] [] more quiet is = absurd cc
-no_quit_in [] (x ∷ front) more quiet is = absurd cc
-no_quit_in (Go run ∷ orders) [] more quiet is = absurd cc
-no_quit_in (Hold run ∷ orders) [] more quiet is = absurd cc
 no_quit_in (Quit ∷ orders) front more quiet is = quiet
 no_quit_in (Go run ∷ orders) (x ∷ front) more quiet is = no_quit_in orders front more quiet (ap later_orders is)
 no_quit_in (Hold run ∷ orders) (x ∷ front) more quiet is = no_quit_in orders front more quiet (ap later_orders is)
+no_quit_in _ _ more quiet is = absurd cc
 
 quit_ends : (orders front more : List PlainOrder) → NoQuit orders → orders ++ Quit ∷ [] ≡ front ++ Quit ∷ more
     → more ≡ []
 quit_ends [] [] more quiet is = sym (ap later_orders is)
 quit_ends [] (x ∷ []) more quiet is = let e = ap later_orders is in absurd cc
 quit_ends [] (x ∷ y ∷ front) more quiet is = let e = ap later_orders is in absurd cc
-quit_ends (Go run ∷ orders) [] more quiet is = absurd cc
-quit_ends (Hold run ∷ orders) [] more quiet is = absurd cc
 quit_ends (Quit ∷ orders) front more quiet is = absurd quiet
 quit_ends (Go run ∷ orders) (x ∷ front) more quiet is = quit_ends orders front more quiet (ap later_orders is)
 quit_ends (Hold run ∷ orders) (x ∷ front) more quiet is = quit_ends orders front more quiet (ap later_orders is)
+quit_ends _ [] more quiet is = absurd cc
 
 -- ---- which replies order Quit
 
@@ -141,19 +125,13 @@ quiet_if : (reply other : Reply) → OrdersNoQuit other → reply ≡ other → 
 quiet_if reply other quiet is = subst OrdersNoQuit (sym is) quiet
 
 hold_quiet : (past : History) → NoQuit (hold_once past)
-hold_quiet past = by_test (is_held past || is_back past)
-  where
-    by_test : (held : Bool) → NoQuit (if held then [] else Hold (runs past) ∷ [])
-    by_test true = tt
-    by_test false = tt
+hold_quiet past = grind (arith, common_steps, runs) steps 200000
 
 effect_quiet : (s : Situation) (past : History) (bs : List Breakpoint) → NoQuit (effect_in s past bs).orders
-effect_quiet Running past bs = hold_quiet past
-effect_quiet _ past bs = tt
+effect_quiet s past bs = grind (arith, common_steps, hold_quiet) steps 200000
 
 enters_quiet : (past : History) (l : Launched) (why : Option Reason) → NoQuit (enters past l why).orders
-enters_quiet past l None = tt
-enters_quiet past l (Some r) = tt
+enters_quiet past l why = grind (arith, common_steps) steps 200000
 
 -- a Quit alone, where the session is closed by no fault; else orders without a Quit
 abbrev QuitsBy : List PlainOrder → Option Ending → Type 0
@@ -165,10 +143,7 @@ reaction_quiet : (past : History) {s : Situation} {asked : Command} {reaction : 
     → Reacted past s asked reaction
     → ¬ (asked ≡ command.Disconnect) → NoQuit (reply_of past reaction).effect.orders
 reaction_quiet past (by_setting s a l found bs there path_is resolved) other = effect_quiet (situation past) past bs
-reaction_quiet past (by_starting l there) other = enters_quiet past l (due_first past l)
-reaction_quiet past (by_interrupting a) other = hold_quiet past
-reaction_quiet past (by_closing s) other = absurd (other refl)
-reaction_quiet past _ other = tt
+reaction_quiet past is other = grind (arith, common_steps, effect_quiet, enters_quiet, hold_quiet) steps 200000
 
 replies_quit : (s : Situation) (past : History) (asked : Command) (reply : Reply) → RepliesIn s past asked reply
     → QuitsBy reply.effect.orders (closing_command asked)
@@ -178,35 +153,22 @@ replies_quit s past asked reply is =
 
 launches_quiet : (launch : Launch) (file : Option (List ℕ)) (reply : Reply) → Launches launch.arguments file reply
     → OrdersNoQuit reply
-launches_quiet launch None reply is = quiet_if reply _ tt is
-launches_quiet launch (Some text) reply (inl is) = quiet_if reply _ tt is.reply_is
-launches_quiet launch (Some text) reply (inr is) = quiet_if reply _ tt is.reply_is
+launches_quiet launch file reply is = grind (arith, common_steps, quiet_if) steps 200000
 
 report_quiet : (past : History) (r : PlainReport) (outcome : SliceOutcome)
     → NoQuit (report_effect past r outcome).orders
-report_quiet past r slice.Held = by_test (waiting_pause past)
-  where
-    by_test : (pauses : Bool) → NoQuit (held_effect past r pauses).orders
-    by_test true = tt
-    by_test false = tt
-report_quiet past r _ = tt
+report_quiet past r outcome = grind (arith, common_steps) steps 200000
 
 -- a report orders none, also where it closes the session
 report_quits : (past : History) (outcome : SliceOutcome) (orders : List PlainOrder) → NoQuit orders
     → QuitsBy orders (closing_report outcome)
-report_quits past slice.NoMemory orders quiet = quiet
-report_quits past _ orders quiet = quiet
+report_quits past outcome orders quiet = grind (arith, common_steps) steps 200000
 
 -- What an item orders has a Quit just where the item closes the session by no fault.
 item_quits : (past : History) (item : Item) (step : Step) → Causes past item step
     → QuitsBy step.effect.orders (closing item)
 item_quits past (Content (Some request)) step is = rw is.2.effect_is (replies_quit _ past request.body is.0 is.1)
-item_quits past (Loaded launch file) step is = rw is.2.effect_is (launches_quiet launch file is.0 is.1)
-item_quits past (Accepted r) step is =
-    report_quits past r.outcome step.effect.orders (rw is.effect_is (report_quiet past r r.outcome))
-item_quits past InputEnd step is = ap (λ (e : Effect). e.orders) is.effect_is
-item_quits past ReadFailure step is = ap (λ (e : Effect). e.orders) is.effect_is
-item_quits past _ step is = subst (λ (e : Effect). NoQuit e.orders) (sym is.effect_is) tt
+item_quits past item step is = grind (arith, common_steps, launches_quiet, report_quits, report_quiet) steps 200000
 
 -- ---- Quit is ordered last
 
@@ -228,8 +190,7 @@ quits_more past item new taking after here = by_closing _ refl (item_quits past 
     ends = ends_by past item new taking after
 
     none_ordered : NoQuit after.step.effect.orders → NoQuit (orders_of new)
-    none_ordered quiet =
-        rw orders_are (no_quit-append (orders_of past) after.step.effect.orders (here.before taking) quiet)
+    none_ordered quiet = grind (arith, common_steps, no_quit-append) steps 200000
 
     if_quiet : NoQuit after.step.effect.orders → EndsWithQuit (ending_of new) (orders_of new) → Quits new
     if_quiet quiet closes = record {
@@ -285,8 +246,7 @@ IsFile _ = ⊥
 
 only_files_load : (first : FirstSeq) (before : List Incoming) (e : Incoming) (load : Load) → ¬ IsFile e
     → ¬ IsLoad first before e load
-only_files_load f before (File file) load no_file is = no_file tt
-only_files_load f before _ load no_file is = is
+only_files_load f before e load no_file is = grind (arith, common_steps) steps 200000
 
 abbrev pub first_event : Incoming → List Incoming → Incoming
 first_event other [] = other

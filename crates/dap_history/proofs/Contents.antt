@@ -1,12 +1,11 @@
 -- The contents taken are those of the joined stream.
-use Rattle.dap_history.proofs.Common.{Accepted, AreReadAs, Command, Content, ContentsAreOfTheStream, Err, Fault, File, FirstSeq, History, Incoming, InputEnd, IsAfter, IsInFront, Item, Launch, LeadsByEvents, LeadsByFile, LeadsByPiece, LeadsByReport, LoadFault, Loaded, Loads, MayTake, MemoryFailure, NoMemory, None, Ok, Option, Piece, PlainReport, ReadFailed, ReadFailure, Ready, Report, Request, Rest, Situation, Some, Step, Rests, Takes, TakesSome, [], ap, append-nil, closed, faulty, filter_map, filter_map-append, inl, inr, launch_request, map-append, no_content, one_content, only_bytes, open_ended, read_as, refl, situation, sym, waits, wanted_in, ℕ, ◌++◌, ◌∙◌, ◌∷◌, ◌≡◌}
+use Rattle.dap_history.proofs.Common.{Accepted, AreReadAs, Command, Content, ContentsAreOfTheStream, Err, Fault, File, FirstSeq, History, Incoming, InputEnd, IsAfter, IsInFront, Item, Launch, LeadsByEvents, LeadsByFile, LeadsByPiece, LeadsByReport, LoadFault, Loaded, Loads, MayTake, MemoryFailure, NoMemory, None, Ok, Option, Piece, PlainReport, ReadFailed, ReadFailure, Report, Request, Rest, Situation, Some, Step, Rests, Takes, TakesSome, [], ap, append-nil, closed, faulty, filter_map, filter_map-append, inl, inr, launch_request, map-append, no_content, one_content, only_bytes, open_ended, read_as, refl, situation, sym, waits, wanted_in, ℕ, ◌++◌, ◌∙◌, ◌∷◌, ◌≡◌}
 use Rattle.std.proofs.Common.{List, Result}
 use Rattle.std.specs.Prelude.{map}
 use Rattle.std.proofs.lemmas.List.{append_assoc}
 use Rattle.dap_frame.specs.Frame.{Frames}
 use Rattle.dap_frame.specs.Laws.{FramesJoin}
 use Rattle.dap_frame.proofs.Feeding.{frames_longer}
-use Rattle.dap_msg.specs.declared.command.Command.TheVariants as command
 use Rattle.dap_history.specs.declared.fault.LoadFault.TheVariants as load_fault
 use Rattle.dap_history.specs.Launching.{wanted_by}
 use Rattle.dap_history.specs.Events.{End}
@@ -19,10 +18,8 @@ use Rattle.std.proofs.lemmas.Grind.{common_steps}
 read-append : (f : FirstSeq) (cs ds : List (List ℕ)) (rs ss : List (Option Request)) → AreReadAs f cs rs
     → AreReadAs f ds ss
     → AreReadAs f (cs ++ ds) (rs ++ ss)
-read-append f [] ds [] ss a b = b
-read-append f [] ds (r ∷ rs) ss a b = absurd a
-read-append f (c ∷ cs) ds [] ss a b = absurd a
 read-append f (c ∷ cs) ds (r ∷ rs) ss a b = (a.0, read-append f cs ds rs ss a.1 b)
+read-append f cs ds rs ss a b = grind (arith, common_steps) steps 200000
 
 abbrev reads : History → List (Option Request)
 reads past = filter_map read_as (map (λ (step : Step). step.item) past)
@@ -64,13 +61,11 @@ module _ (join : FramesJoin) (f : FirstSeq) where
 
   wanted_is : (seq : ℕ) (body : Command) (launch : Launch) → wanted_by seq body ≡ Some launch
       → ◌≡◌ {A = Request} (record { seq = seq; body = body }) (launch_request launch)
-  wanted_is seq (command.Launch arguments) launch is = grind (arith, common_steps) steps 1500000
-  wanted_is seq _ launch is = absurd cc
+  wanted_is seq body launch is = grind (arith, common_steps) steps 200000
 
   request_is : (s : Situation) (request : Option Request) (launch : Launch) → wanted_in s request ≡ Some launch
       → request ≡ Some (launch_request launch)
-  request_is Ready (Some request) launch is = ap Some (wanted_is request.seq request.body launch is)
-  request_is _ request launch is = absurd cc
+  request_is s request launch is = grind (arith, common_steps, wanted_is) steps 200000
 
   some_gain : {past mid : History} {bytes left : List ℕ} (new : History) (end : List ℕ) (launch : Option Launch)
       → TakesSome f past bytes mid left → Gains mid left new end launch → Gains past bytes new end launch
@@ -157,16 +152,14 @@ module _ (join : FramesJoin) (f : FirstSeq) where
       → LeadsByFile f past before launch file new rest
       → Holds stream past before → Holds stream new rest
   file_holds stream past before None file new rest is leads here = grind (arith, common_steps, same_holds) steps 1500000
-  file_holds stream past before (Some launch) (Ok file) new rest is (inl leads) here =
-      same_holds stream past before new rest (ap reads leads.1) leads.2 here
   file_holds stream past before (Some launch) (Ok file) new rest is (inr leads) here =
       loads_hold stream past before launch (Some file) new rest is leads here
-  file_holds stream past before (Some launch) (Err load_fault.CannotRead) new rest is (inl leads) here =
-      same_holds stream past before new rest (ap reads leads.1) leads.2 here
   file_holds stream past before (Some launch) (Err load_fault.CannotRead) new rest is (inr leads) here =
       loads_hold stream past before launch None new rest is leads here
   file_holds stream past before (Some launch) (Err load_fault.NoMemory) new rest is leads here =
       same_holds stream past before new rest (may_same past MemoryFailure new refl leads.0) leads.1 here
+  file_holds stream past before (Some launch) _ new rest is (inl leads) here =
+      same_holds stream past before new rest (ap reads leads.1) leads.2 here
 
   report_same : (past : History) (r : PlainReport) (new : History) → LeadsByReport past r new → reads new ≡ reads past
   report_same past r new (inl not) = ap reads not.1
@@ -190,8 +183,7 @@ module _ (join : FramesJoin) (f : FirstSeq) where
       events_hold stream all.0 all.1 events new rest all.3
       (same_holds stream past before all.0 all.1 (may_same past MemoryFailure all.0 refl all.2.0) all.2.1 here)
   events_hold stream past before (File file ∷ events) new rest all here =
-      events_hold stream all.0 all.1 events new rest all.3
-      (file_holds stream past before before.launch file all.0 all.1 refl all.2 here)
+      events_hold stream _ _ events new rest all.3 (file_holds stream past before _ file _ _ refl all.2 here)
   events_hold stream past before (Report r ∷ events) new rest all here =
       events_hold stream all.0 all.1 events new rest all.3
       (same_holds stream past before all.0 all.1 (report_same past r all.0 all.2.0) all.2.1 here)

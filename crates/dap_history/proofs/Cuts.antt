@@ -1,5 +1,5 @@
 -- How the stream was cut into pieces changes nothing.
-use Rattle.dap_history.proofs.Common.{Fault, FaultAt, FirstSeq, FramingFault, HasFaultyLine, History, Incoming, IsInFront, IsTaking, Launch, LeadsByEvent, LeadsByEvents, LeadsByPiece, None, Option, Piece, Request, Rest, Some, Rests, Takes, TakesSome, [], arith, closed, faulty, length-append, no_content, one_content, only_bytes, open_ended, refl, waits, ℕ, ◌++◌, ◌∙◌, ◌∷◌, ◌≡◌, subst}
+use Rattle.dap_history.proofs.Common.{Fault, FaultAt, FirstSeq, FramingFault, HasFaultyLine, History, Incoming, IsInFront, IsTaking, Launch, LeadsByEvent, LeadsByEvents, LeadsByPiece, None, Option, Piece, Request, Rest, Some, Rests, Takes, TakesSome, [], arith, closed, faulty, length-append, no_content, one_content, only_bytes, open_ended, refl, waits, ℕ, ◌++◌, ◌∙◌, ◌∷◌, ◌≡◌}
 use Rattle.std.proofs.Common.{List}
 use Rattle.std.proofs.lemmas.List.{append_assoc, take-append-le}
 use Rattle.dap_frame.specs.declared.fault.FramingFault.TheVariants.{HeaderTooLong, BadField, NoLength, TwoLengths, BadLength, TooLarge, NoMemory as NoRoom}
@@ -105,9 +105,7 @@ two_by_piece : (first : FirstSeq) (past : History) (launch : Option Launch) (byt
 two_by_piece first past None bytes b mid between new rest here second =
     two_takes first past mid bytes between b new rest here second
 two_by_piece first past (Some launch) bytes b mid between new rest here second =
-    let again : (new ≡ mid) × (rest ≡ record { launch = Some launch; bytes = bytes ++ b }) =
-    subst (λ (r : Rest). LeadsByPiece first mid r.launch (r.bytes ++ b) new rest) here.1 second in
-    (again.0 ∙ here.0, again.1)
+    grind (arith, common_steps) steps 200000
 
 two_pieces : (first : FirstSeq) (past : History) (before : Rest) (a b : List ℕ) (mid : History) (between : Rest)
     (new : History)
@@ -120,8 +118,7 @@ joined : (first : FirstSeq) (a b : List ℕ) (before after : List Incoming) (pas
     (new : History) (rest : Rest)
     → LeadsByEvents first past start (before ++ (Piece a ∷ Piece b ∷ after)) new rest
     → LeadsByEvents first past start (before ++ (Piece (a ++ b) ∷ after)) new rest
-joined first a b [] after past start new rest all =
-    (all.3.0, all.3.1, two_pieces first past start a b all.0 all.1 all.3.0 all.3.1 all.2 all.3.2, all.3.3)
+joined first a b [] after past start new rest all = grind (arith, common_steps, two_pieces) steps 200000
 joined first a b (e ∷ before) after past start new rest all =
     (all.0, all.1, all.2, joined first a b before after all.0 all.1 new rest all.3)
 

@@ -1,6 +1,8 @@
 -- Each step of a history was caused by its item, after the steps before it.
-use Rattle.dap_history.proofs.Common.{Causes, History, Incoming, IsAfter, IsTaking, Item, Step, [], ap, inl, inr, refl, sym, ◌++◌, ◌∙◌, ◌∷◌, ◌≡◌, ◌⊎◌, subst}
+use Rattle.dap_history.proofs.Common.{Causes, History, Incoming, IsAfter, IsTaking, Item, Step, [], ap, inl, inr, refl, sym, ◌++◌, ◌∙◌, ◌∷◌, ◌≡◌, ◌⊎◌}
 use Rattle.dap_history.proofs.Along.{IsTaken, IsKept}
+use Rattle.std.proofs.Common.{arith}
+use Rattle.std.proofs.lemmas.Grind.{common_steps}
 
 abbrev head_of : (xs : History) (first : Step) → Step
 head_of [] first = first
@@ -21,16 +23,8 @@ pub splits : (past : History) (s : Step) (front : History) (step : Step) (more :
 splits [] s [] step more is = inl (refl, ap (λ xs. head_of xs s) is, sym (ap tail_of is))
 splits [] s (x ∷ front) step more is = absurd (none_first front step more (ap tail_of is))
 splits (p ∷ past) s [] step more is = inr (past, ap (λ x. x ∷ past) (ap (λ xs. head_of xs s) is))
-splits (p ∷ past) s (x ∷ front) step more is = onward (splits past s front step more (ap tail_of is))
-  where
-    same : p ≡ x
-    same = ap (λ xs. head_of xs s) is
-
-    onward : (((past ≡ front) × (s ≡ step) × (more ≡ [])) ⊎ ((rest : History) × (past ≡ front ++ step ∷ rest)))
-        → ((p ∷ past ≡ x ∷ front) × (s ≡ step) × (more ≡ []))
-        ⊎ ((rest : History) × (p ∷ past ≡ (x ∷ front) ++ step ∷ rest))
-    onward (inl e) = inl (ap (λ y. y ∷ past) same ∙ ap (λ ys. x ∷ ys) e.0, e.1, e.2)
-    onward (inr e) = inr (e.0, ap (λ y. y ∷ past) same ∙ ap (λ ys. x ∷ ys) e.1)
+splits (p ∷ past) s (x ∷ front) step more is =
+    grind (arith, common_steps, splits past s front step more (ap tail_of is)) steps 200000
 
 -- the step was taken after these
 pub record WasTaken (Q : Incoming → Type 0) (P : History → Type 0) (front : History) (step : Step) : Type 0 where
@@ -58,13 +52,7 @@ each_kept Q P kept = record {
         → (((past ≡ front) × (after.step ≡ step) × (more ≡ [])) ⊎ ((rest : History) × (past ≡ front ++ step ∷ rest)))
         → WasTaken Q P front step
     one_of past item new taking taken after here front step more (inr e) = here.each front step e.0 e.1
-    one_of past item new taking taken after here front step more (inl e) =
-        subst (λ f. WasTaken Q P f step) e.0 (subst (λ s. WasTaken Q P past s) e.1 (record {
-          taking = taking;
-          held = here.now;
-          taken = subst (IsTaken Q past) (sym after.item_is) taken;
-          causes = subst (λ i. Causes past i after.step) (sym after.item_is) after.causes;
-        }))
+    one_of past item new taking taken after here front step more (inl e) = grind (arith, common_steps) steps 200000
 
 pub each_first : (Q : Incoming → Type 0) (P : History → Type 0) → P [] → EachTaken Q P []
 each_first Q P first = record { now = first; each = λ front step more is. absurd (none_first front step more is) }

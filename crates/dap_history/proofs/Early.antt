@@ -1,9 +1,7 @@
 -- In Fresh and Ready nothing is launched: only the first `initialize` leads to Ready.
-use Rattle.dap_history.proofs.Common.{Answers, Body, Command, CommandName, Err, Event, EventBody, Fresh, Go, History, Hold, None, Ok, Option, PlainOrder, Quit, Reaction, Ready, Refusal, RepliesIn, Reply, Situation, Some, Step, [], answer_mark, command_mark, event_mark, inl, inr, last_such, message_mark, name_of, or_else, order_mark, refl, reply_of, step_mark, unwrap_or, with_answer, ℕ, ◌∷◌, ◌≡◌, ◌⊎◌}
+use Rattle.dap_history.proofs.Common.{Answers, Body, Command, CommandName, Event, EventBody, Fresh, History, None, Ok, Option, PlainOrder, Reaction, Ready, Refusal, RepliesIn, Reply, Situation, Some, Step, [], answer_mark, command_mark, event_mark, last_such, message_mark, name_of, or_else, order_mark, reply_of, step_mark, unwrap_or, with_answer, ℕ, ◌∷◌, ◌≡◌, ◌⊎◌}
 use Rattle.std.proofs.Common.{List}
 use Rattle.std.specs.Prelude.{map, Result}
-use Rattle.dap_msg.specs.declared.command.Command.TheVariants as command
-use Rattle.dap_msg.specs.declared.outgoing.EventBody.TheVariants as event
 use Rattle.dap_history.proofs.Told.{by_stop_mark}
 use Rattle.dap_history.proofs.Reacted.{IsCalm, Reacted, by_answering, by_reaction}
 use Rattle.std.proofs.Common.{arith}
@@ -20,25 +18,17 @@ IsEarlyMark (Some s) = IsEarly s
 
 -- of two marks, neither early
 neither : (a b : Option Situation) → ¬ IsEarlyMark a → ¬ IsEarlyMark b → ¬ IsEarlyMark (or_else a b)
-neither None b not_a not_b is = not_b is
-neither (Some s) b not_a not_b is = not_a is
+neither a b not_a not_b is = grind (arith, common_steps) steps 200000
 
 order_late : (o : PlainOrder) → ¬ IsEarlyMark (order_mark o)
-order_late (Go run) is = is
-order_late (Hold run) is = is
-order_late Quit is = is
+order_late o is = grind (arith, common_steps) steps 200000
 
 orders_late : (os : List PlainOrder) → ¬ IsEarlyMark (last_such order_mark os)
 orders_late [] is = is
 orders_late (o ∷ os) is = neither (last_such order_mark os) (order_mark o) (orders_late os) (order_late o) is
 
 event_late : (e : EventBody) → ¬ IsEarlyMark (event_mark e)
-event_late event.Initialized is = is
-event_late (event.Stopped why) is = by_stop_mark (λ s. ¬ IsEarly s) (λ early. early) (λ early. early) why is
-event_late (event.Output v) is = is
-event_late (event.Log text) is = is
-event_late (event.Exited code) is = is
-event_late event.Terminated is = is
+event_late e is = grind (arith, common_steps, by_stop_mark) steps 200000
 
 events_late : (es : List EventBody) → ¬ IsEarlyMark (last_such message_mark (map Event es))
 events_late [] is = is
@@ -57,17 +47,11 @@ answered_late seq command reply step answers not is =
 
 pub result_late : (command : CommandName) → ¬ IsEarlyMark (command_mark command) → (result : Result Body Refusal)
     → ¬ IsEarlyMark (answer_mark command result)
-result_late command not (Ok b) is = not is
-result_late command not (Err r) is = is
+result_late command not result is = grind (arith, common_steps) steps 200000
 
 calm_early : (past : History) (s : Situation) (asked : Command) (b : Body) → IsCalm past s asked b
     → IsEarlyMark (answer_mark (name_of asked) (Ok b)) → s ≡ Fresh
-calm_early past s (command.Initialize a) b calm early = calm.0
-calm_early past s (command.SetBreakpoints a) b calm early = absurd early
-calm_early past s command.Threads b calm early = absurd early
-calm_early past s (command.Pause a) b calm early = absurd early
-calm_early past s (command.Inspect q) b calm early = absurd early
-calm_early past s _ b calm early = absurd calm
+calm_early past s asked b calm early = grind (arith, common_steps) steps 200000
 
 reaction_early : (past : History) {s : Situation} {asked : Command} {reaction : Reaction}
     → Reacted past s asked reaction
@@ -82,5 +66,4 @@ early_reply s past asked reply is early = grind (arith, common_steps, by_reactio
 
 pub early_unwrap : (o : Option Situation) (s : Situation) → IsEarly (unwrap_or o s) → IsEarlyMark o
     ⊎ ((o ≡ None) × IsEarly s)
-early_unwrap None s is = inr (refl, is)
-early_unwrap (Some t) s is = inl is
+early_unwrap o s is = grind (arith, common_steps) steps 200000

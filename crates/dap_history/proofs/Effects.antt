@@ -1,5 +1,5 @@
 -- No item leads nowhere: what its texts read as, or that they don't, gives it an answer.
-use Rattle.dap_history.proofs.Common.{Accepted, AreResolved, At, BadCondition, Block, Breakpoint, Command, Configuration, Configuring, Content, Ended, Err, EvalFault, EvaluatesIn, Expression, Fault, Faulted, Frame, Fresh, HasConditionAt, HasRule, History, InputEnd, Inspects, IsResolvedTo, IsSome, Item, Launch, Launched, Loaded, MemoryFailure, NoStep, None, OfProgram, Ok, Option, Reaction, Reacts, ReadFailure, Refuse, Ready, RepliesAt, Request, Resolution, RunFault, Running, SetsOf, Situation, Some, Stopped, WrittenJoins, [], asked_as, at, frame_by_id, inl, inr, is_same_path, launched, launches, line_offset, refl, refused, reply_of, reply_with, situation, step_from, subject_in, subst, sym, value, ℕ, ◌++◌, ◌-◌, ◌∷◌, ◌≡◌}
+use Rattle.dap_history.proofs.Common.{Accepted, AreResolved, At, BadCondition, Block, Breakpoint, Command, Configuration, Configuring, Content, Ended, Err, EvalFault, EvaluatesIn, Expression, Fault, Faulted, Frame, Fresh, HasConditionAt, HasRule, History, InputEnd, Inspects, IsResolvedTo, IsSome, Item, Launch, Launched, Loaded, MemoryFailure, NoStep, None, OfProgram, Ok, Option, Reaction, Reacts, ReadFailure, Refuse, Ready, RepliesAt, Request, Resolution, RunFault, Running, SetsOf, Situation, Some, Stopped, WrittenJoins, [], asked_as, at, inl, inr, is_same_path, launched, launches, line_offset, refl, refused, reply_of, reply_with, situation, step_from, subject_in, subst, sym, value, ℕ, ◌++◌, ◌-◌, ◌∷◌, ◌≡◌}
 use Rattle.std.proofs.Common.{List, map, Bool, true, false, ℤ, Result}
 use Rattle.dap_msg.specs.declared.question.Question.TheVariants as question
 use Rattle.dap_msg.specs.declared.question.Shown.{Shown}
@@ -89,8 +89,7 @@ evaluated_so : (r : Result ℤ RunFault) → IsArithmetic r → (result : Result
 evaluated_so (Ok v) is = (Ok v, refl)
 evaluated_so (Err run_fault.Overflow) is = (Err Overflow, refl)
 evaluated_so (Err run_fault.DivideByZero) is = (Err DivideByZero, refl)
-evaluated_so (Err run_fault.Depth) is = absurd is
-evaluated_so (Err run_fault.StepLimit) is = absurd is
+evaluated_so _ is = absurd is
 
 evaluates : ValuesAreArithmetic → (main : Block) (c : Configuration) (id : ℕ) (o : Option Frame) (text : List ℕ)
     → ¬ ((answer : Result Shown Refusal) → ¬ EvaluatesIn main c id o text answer)
@@ -173,8 +172,7 @@ module _ (one : OneProgram) (joins : WrittenJoins) (no_gaps : RunsHaveNoGaps) (t
       → ((reaction : Reaction) → Inspects past (question.Evaluate q) reaction
       → Reacts s past (command.Inspect (question.Evaluate q)) reaction)
       → ¬ (¬ Leads (Content (Some request)))
-  evaluate_leads s is not request q asks row none =
-      at_some (at there.0.program (position past)) refl (here.alive there.0 there.1)
+  evaluate_leads s is not request q asks row none = at_some _ refl (here.alive there.0 there.1)
     where
       there : IsLaunched past
       there = late s is not
@@ -190,8 +188,7 @@ module _ (one : OneProgram) (joins : WrittenJoins) (no_gaps : RunsHaveNoGaps) (t
       at_some : (o : Option Configuration) → at there.0.program (position past) ≡ o
           → IsSome (at there.0.program (position past)) → ⊥
       at_some (Some c) c_is some =
-          evaluates arithmetic there.0.program c q.frame_id (frame_by_id c q.frame_id) q.expression (λ answer
-          evaluates_so. with_answer answer (rw c_is evaluates_so))
+          evaluates arithmetic _ c _ _ _ (λ answer evaluates_so. with_answer answer (rw c_is evaluates_so))
       at_some None c_is some = let e = subst IsSome c_is some in absurd cc
 
   request_leads : (request : Request) (asked : Command) → request.body ≡ asked → (s : Situation) → situation past ≡ s

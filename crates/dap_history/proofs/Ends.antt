@@ -1,5 +1,5 @@
 -- A program is told to have exited where it has ended, and only there.
-use Rattle.dap_history.proofs.Common.{FirstSeq, Accepted, Accepts, All, Causes, Command, Content, EndsBy, Event, EventBody, Fault, Faulted, GoesBackBy, Heading, History, Incoming, InputEnd, IsHistoryOf, IsLawfulReport, IsOutput, Item, Launched, Loaded, MemoryFailure, None, Ok, Option, Outgoing, PlainReport, ReadFailure, Rest, Running, Situation, SliceOutcome, Some, Step, StopReason, Went, WentOn, WrittenJoins, [], ap, arith, at, back_if, depth_at, end_of, faults, filter_map, filter_map-append, goes_back, inl, inr, is_due, item_leads, lacks_memory, launched, or_else, refl, situation, stop_in, subst, sym, takes_all, unwrap_or, ℕ, ◌++◌, ◌<◌, ◌∙◌, ◌∷◌, ◌≡◌, AreLawful, Block, Effect, Launch, Launches, Reply, Stopped, Ready, Configuring, Fresh, Err}
+use Rattle.dap_history.proofs.Common.{FirstSeq, Accepted, Accepts, All, Causes, Command, Content, EndsBy, EventBody, Faulted, GoesBackBy, Heading, History, Incoming, IsHistoryOf, IsLawfulReport, IsOutput, Item, Launched, Loaded, None, Ok, Option, Outgoing, PlainReport, Rest, Running, Situation, SliceOutcome, Some, Step, StopReason, Went, WentOn, WrittenJoins, [], ap, arith, at, back_if, depth_at, end_of, faults, filter_map, filter_map-append, goes_back, inl, inr, is_due, item_leads, lacks_memory, launched, or_else, refl, situation, stop_in, subst, sym, takes_all, unwrap_or, ℕ, ◌++◌, ◌<◌, ◌∙◌, ◌∷◌, ◌≡◌, AreLawful, Block, Effect, Launch, Launches, Reply}
 use Rattle.std.proofs.Common.{List, Bool, true, false}
 use Rattle.std.proofs.lemmas.List.Elements.{All-head, All-tail}
 use Rattle.dap_msg.specs.declared.command.Command.TheVariants as command
@@ -11,7 +11,7 @@ use Rattle.pl0_meaning.specs.Laws.{RunsHaveNoGaps, NothingFollowsTheEnd}
 use Rattle.dbg_runner.specs.Lawful.{is_over, is_held, IsSpent}
 use Rattle.dbg_runner.specs.declared.outcome.SliceOutcome.TheVariants as slice
 use Rattle.dap_history.specs.Readings.{position}
-use Rattle.dap_history.specs.Stops.{tells, tells_held, TellsFirst, TellsEnd, TellsBy}
+use Rattle.dap_history.specs.Stops.{tells, TellsFirst, TellsEnd, TellsBy}
 use Rattle.dap_history.specs.Transitions.{command_leads, launch_leads, report_leads, if_granted}
 use Rattle.dap_history.specs.Ends.{ExitsAt, HasEnded, EndsWith, EachEndIsTheEnd, ComesFurther, EachEndIsTold}
 use Rattle.dap_history.proofs.Readings.{position-snoc, launched-snoc}
@@ -27,6 +27,7 @@ use Rattle.dap_history.proofs.Progress.{report_program}
 use Rattle.dap_history.proofs.Passing.{Ran, starts_here, begun_there, none_before}
 use Rattle.dap_history.proofs.AsAsked.{WentBy, Kept, kept_kept, kept_first, nowhere, forward_by}
 use Rattle.dap_history.proofs.Alive.{report_lives}
+use Rattle.std.proofs.lemmas.Grind.{common_steps}
 
 -- ---- exits among events
 
@@ -38,10 +39,9 @@ abbrev exits : List EventBody → List ℕ
 exits events = filter_map exit_of events
 
 outputs_exit_not : (es : List EventBody) → All IsOutput es → exits es ≡ []
-outputs_exit_not [] all = refl
 outputs_exit_not (event.Output v ∷ es) all = outputs_exit_not es (All-tail IsOutput _ es all)
 outputs_exit_not (event.Log text ∷ es) all = outputs_exit_not es (All-tail IsOutput _ es all)
-outputs_exit_not (e ∷ es) all = absurd (All-head IsOutput e es all)
+outputs_exit_not es all = grind (arith, common_steps, All-head) steps 200000
 
 -- the codes of all exits of some events, of which one is this
 exits_with : (front back : List EventBody) (code : ℕ) (events : List EventBody)
@@ -65,24 +65,12 @@ after_outputs outputs last events all is = cc (filter_map-append exit_of outputs
 -- a report exits where it is done
 report_exits : (before : History) (e : SliceOutcome) (front back : List ℕ) (code : ℕ)
     → exits (tells before e) ≡ front ++ code ∷ back → (e ≡ slice.Done) × (code ≡ 0)
-report_exits before slice.Done front back code is = (refl, sym (only_one front back code 0 is))
-report_exits before slice.More front back code is = absurd (not_none front back code is)
-report_exits before (slice.Due why) front back code is = absurd (not_none front back code is)
-report_exits before (slice.Fault fault) front back code is = absurd (not_none front back code is)
-report_exits before slice.NoMemory front back code is = absurd (not_none front back code is)
-report_exits before slice.Held front back code is = by_pause _ is
-  where
-    by_pause : (pauses : Bool) → exits (tells_held pauses) ≡ front ++ code ∷ back
-        → (◌≡◌ {A = SliceOutcome} slice.Held slice.Done) × (code ≡ 0)
-    by_pause true is = absurd (not_none front back code is)
-    by_pause false is = absurd (not_none front back code is)
+report_exits before e front back code is = grind (arith, common_steps, only_one, not_none) steps 200000
 
 -- a request exits before a fault
 ends_exit : (s : Situation) (events : List EventBody) (front back : List ℕ) (code : ℕ) → TellsEnd s events
     → exits events ≡ front ++ code ∷ back → (s ≡ Faulted) × (code ≡ 1)
-ends_exit s events front back code (inl none) is = absurd (not_none front back code (sym (ap exits none) ∙ is))
-ends_exit s events front back code (inr there) is =
-    (there.0, sym (only_one front back code 1 (sym (ap exits there.1) ∙ is)))
+ends_exit s events front back code here is = grind (arith, common_steps, not_none, only_one) steps 200000
 
 first_exits_not : (events : List EventBody) (front back : List ℕ) (code : ℕ) → TellsFirst events
     → ¬ (exits events ≡ front ++ code ∷ back)
@@ -93,16 +81,12 @@ first_exits_not events front back code (outputs, all, inr stops) is =
 
 reply_exits : (s : Situation) (asked : Command) (events : List EventBody) (front back : List ℕ) (code : ℕ)
     → TellsBy s asked events → exits events ≡ front ++ code ∷ back → (s ≡ Faulted) × (code ≡ 1)
-reply_exits s command.ConfigurationDone events front back code told is =
-    absurd (first_exits_not events front back code told is)
 reply_exits s (command.Resume kind a) events front back code told is = ends_exit s events front back code told is
-reply_exits s _ events front back code told is = absurd (not_none front back code (sym (ap exits told) ∙ is))
+reply_exits s asked events front back code told is = grind (arith, common_steps, first_exits_not, not_none) steps 200000
 
 launch_exits_not : (launch : Launch) (file : Option (List ℕ)) (reply : Reply) → Launches launch.arguments file reply
     → exits reply.effect.events ≡ []
-launch_exits_not launch None reply is = ap (λ (r : Reply). exits r.effect.events) is
-launch_exits_not launch (Some text) reply (inl is) = ap (λ (r : Reply). exits r.effect.events) is.reply_is
-launch_exits_not launch (Some text) reply (inr is) = ap (λ (r : Reply). exits r.effect.events) is.reply_is
+launch_exits_not launch file reply is = grind (arith, common_steps) steps 200000
 
 -- ---- before a fault
 
@@ -118,51 +102,25 @@ FaultsThere past = situation past ≡ Faulted → FaultAt past
 -- only a step that faults leads there
 command_keeps : (asked : Command) (s : Situation) (o : Option StopReason) → command_leads asked s o ≡ Faulted
     → s ≡ Faulted
-command_keeps (command.Initialize a) Fresh o is = absurd cc
-command_keeps (command.Initialize a) s o is = is
-command_keeps command.ConfigurationDone Configuring None is = absurd cc
-command_keeps command.ConfigurationDone Configuring (Some why) is = absurd cc
-command_keeps command.ConfigurationDone s o is = is
-command_keeps (command.Resume kind a) Stopped o is = absurd cc
-command_keeps (command.Resume kind a) Faulted o is = refl
-command_keeps (command.Resume kind a) s o is = is
-command_keeps (command.Retreat kind a) Stopped o is = absurd cc
-command_keeps (command.Retreat kind a) Faulted o is = refl
-command_keeps (command.Retreat kind a) s o is = is
-command_keeps _ s o is = is
+command_keeps asked s o is = grind (arith, common_steps) steps 200000
 
 granted_keeps : (answer : Option Outgoing) (there s : Situation) → (there ≡ Faulted → s ≡ Faulted)
     → if_granted answer there s ≡ Faulted → s ≡ Faulted
 granted_keeps (Some (Answer seq name (Ok b))) there s keeps is = keeps is
-granted_keeps (Some (Answer seq name (Err why))) there s keeps is = is
-granted_keeps (Some (Event e)) there s keeps is = is
-granted_keeps None there s keeps is = is
+granted_keeps _ there s keeps is = is
 
 launch_keeps : (s : Situation) → launch_leads s ≡ Faulted → s ≡ Faulted
-launch_keeps Ready is = absurd cc
-launch_keeps s is = is
+launch_keeps s is = grind (arith, common_steps) steps 200000
 
 fault_by : (e : SliceOutcome) (o : Option StopReason) → report_leads e Running o ≡ Faulted
     → (fault : RunFault) × (e ≡ slice.Fault fault)
-fault_by slice.More o is = absurd cc
-fault_by (slice.Due why) o is = absurd cc
-fault_by slice.Held None is = absurd cc
-fault_by slice.Held (Some why) is = absurd cc
-fault_by slice.Done o is = absurd cc
-fault_by (slice.Fault fault) o is = (fault, refl)
-fault_by slice.NoMemory o is = absurd cc
+fault_by e o is = grind (arith, common_steps) steps 200000
 
 abbrev Any : Incoming → Type 0
 Any e = Unit {0}
 
 any_taken : (past : History) (item : Item) → IsTaken IsLawfulEvent past item → IsTaken Any past item
-any_taken past (Accepted r) taken = (taken.0, tt)
-any_taken past (Content request) taken = taken
-any_taken past (Loaded launch file) taken = taken
-any_taken past (Fault k) taken = taken
-any_taken past InputEnd taken = tt
-any_taken past ReadFailure taken = tt
-any_taken past MemoryFailure taken = taken
+any_taken past item taken = grind (arith, common_steps) steps 200000
 
 module _ (one : OneProgram) (joins : WrittenJoins) where
   -- the fault of a report is that of its next step
@@ -214,9 +172,7 @@ module _ (one : OneProgram) (joins : WrittenJoins) where
         stays_there _ item_is (ap (λ (e : Effect). e.launched) is.2.effect_is ∙ (all_silent _ past request.body is.0
         is.1).no_launch) refl (granted_keeps step.answer _ _ (command_keeps request.body _ _) faulted)
     fault_more (Loaded launch file) item_is taken is faulted =
-        let was = granted_keeps step.answer (launch_leads (situation past)) (situation past)
-        (launch_keeps (situation past)) faulted in
-        let e = sym taken ∙ was in absurd cc
+        grind (arith, common_steps, granted_keeps, launch_keeps) steps 200000
     fault_more (Accepted r) item_is taken is faulted =
         let by = fault_by r.outcome (stop_in step)
         (ap (λ s. report_leads r.outcome s (stop_in step)) (sym taken.0.running) ∙ faulted) in
@@ -266,19 +222,10 @@ module _ (one : OneProgram) (joins : WrittenJoins) where
   done_on : (main : Block) (r : PlainReport) (e : SliceOutcome) → EndsBy main r e → e ≡ slice.Done
       → (r.start < r.end) × (at main r.end ≡ Some [])
   done_on main r slice.Done (is_over on over) is = (on, over)
-  done_on main r slice.More by is = absurd cc
-  done_on main r (slice.Due why) by is = absurd cc
-  done_on main r (slice.Fault fault) by is = absurd cc
-  done_on main r slice.Held by is = absurd cc
-  done_on main r slice.NoMemory by is = absurd cc
+  done_on main r _ by is = absurd cc
 
   done_back : (main : Block) (r : PlainReport) (e : SliceOutcome) → GoesBackBy main r e → ¬ (e ≡ slice.Done)
-  done_back main r slice.Done by is = elim by [ ]
-  done_back main r slice.More by is = absurd cc
-  done_back main r (slice.Due why) by is = absurd cc
-  done_back main r (slice.Fault fault) by is = absurd cc
-  done_back main r slice.Held by is = absurd cc
-  done_back main r slice.NoMemory by is = absurd cc
+  done_back main r e by is = grind (arith, common_steps) steps 200000
 
   module _ (past : History) (r : PlainReport) (accepts : Accepts past r) (lawful : IsLawfulReport r)
       (kept : Kept one joins past) (done : r.outcome ≡ slice.Done) (l : Launched) (there : launched past ≡ Some l)

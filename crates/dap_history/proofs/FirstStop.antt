@@ -1,6 +1,6 @@
 -- A granted `configurationDone` stops the program at position 0 where it has to, and otherwise lets it run.
 use Rattle.dap_history.proofs.Common.{Body, Causes, Command, Configuring, Content, Effect, History, Launched, None, Ok, Option, Reaction, Reason, Reply, Situation, Some, WrittenJoins, [], ap, append-nil, due_first, enters, go, if◌then◌else◌, is_some, last_such, launched, plan, reason_of, refl, reply_of, run_in, situation, stop_in, stop_of, stop_of_event, subst, sym, unwrap_or, ℕ, ◌∙◌, ◌≡◌}
-use Rattle.std.proofs.Common.{Bool, true, false}
+use Rattle.std.proofs.Common.{Bool, arith}
 use Rattle.std.specs.Prelude.{option_map, is_none}
 use Rattle.std.specs.List.{list_any}
 use Rattle.dap_msg.specs.declared.outgoing.StopReason.TheVariants as stop
@@ -16,6 +16,7 @@ use Rattle.dap_history.proofs.Holding.{result_of}
 use Rattle.dap_history.proofs.Judged.{was_taken}
 use Rattle.dap_history.proofs.Lines.{first_counts}
 use Rattle.dap_msg.specs.declared.command.Command.TheVariants as command
+use Rattle.std.proofs.lemmas.Grind.{common_steps}
 
 -- where `configurationDone` is granted, the program enters
 record Enters (past : History) (s : Situation) (effect : Effect) : Type 0 where
@@ -39,9 +40,7 @@ first_reason : (met_there entry : Bool) (depth : ℕ)
     → option_map stop_of (if met_there then Some reason.Breakpoint
     else reason_of (if entry then mode.Entry else mode.Continue) depth)
     ≡ (if met_there then Some stop.Breakpoint else (if entry then Some stop.Entry else None))
-first_reason true entry depth = refl
-first_reason false true depth = refl
-first_reason false false depth = refl
+first_reason met_there entry depth = grind (arith, common_steps) steps 200000
 
 first_due : (past : History) (l : Launched) → (plan past).counted_from ≡ 0
     → option_map stop_of (due_first past l) ≡ first_stop l (plan past).breakpoints

@@ -1,9 +1,8 @@
 -- The numbers of a history's messages fit in 64 bits.
-use Rattle.dap_history.proofs.Common.{FirstSeq, Accepted, All, All-cons, All-nil, Answers, At, Block, Body, Breakpoint, Causes, Command, CommandName, Configuration, Configuring, Content, Counting, DivideByZero, Effect, Err, EvalFault, EvaluatesIn, Event, EventBody, Frame, FramesAreFew, HasEffect, History, Incoming, InputEnd, IsHistoryOf, Item, LaunchArguments, Launched, Launches, Loaded, Log, None, OfProgram, Ok, Option, Outgoing, Overflow, PlainReport, Question, Reaction, ReadFailure, Reason, Refusal, RepliesAt, RepliesFrom, RepliesIn, Reply, Resolution, Rest, ResumeKind, Scope, Situation, SliceOutcome, Some, Step, StepAt, Subject, [], answer_to_line, answered, ap, arith, at, at_most, body_of, cond, due_first, effect_in, enters, eqb-true, exited_events, first_logs, frame_by_id, frame_limit, held_effect, inl, inr, launched, length, log_events, messages, messages_of, nothing, only_orders, option_map_or, or_else, other_source, outputs, refl, refused, reply_of, report_effect, result_answer, scopes, scopes_from, shown_column, shown_frame, shown_frames, shown_line, slice_get, stopped_events, subject_in, subst, suc, sym, waiting_pause, with_answer, zero, ℕ, ◌++◌, ◌+◌, ◌-◌, ◌<◌, ◌^◌, ◌∙◌, ◌∷◌, ◌≡◌, ◌≤◌}
-use Rattle.std.proofs.Common.{Bool, true, false, nat_eq, List, map, option_map, Result, ℤ, lit≤}
+use Rattle.dap_history.proofs.Common.{FirstSeq, All, All-cons, All-nil, Answers, At, Block, Body, Breakpoint, Causes, Command, CommandName, Configuration, Content, Counting, Effect, Err, EvaluatesIn, Event, EventBody, Frame, FramesAreFew, HasEffect, History, Incoming, IsHistoryOf, Item, LaunchArguments, Launched, Launches, Loaded, Log, None, OfProgram, Ok, Option, Outgoing, PlainReport, Question, Reaction, Reason, Refusal, RepliesAt, RepliesFrom, RepliesIn, Reply, Resolution, Rest, ResumeKind, Scope, Situation, SliceOutcome, Some, Step, StepAt, Subject, [], answer_to_line, answered, ap, arith, at, at_most, body_of, cond, due_first, effect_in, enters, eqb-true, frame_limit, held_effect, launched, length, log_events, messages, messages_of, nothing, option_map_or, or_else, other_source, outputs, refl, refused, reply_of, report_effect, scopes, scopes_from, shown_column, shown_frame, shown_frames, shown_line, slice_get, subject_in, subst, suc, sym, with_answer, zero, ℕ, ◌++◌, ◌+◌, ◌-◌, ◌<◌, ◌^◌, ◌∷◌, ◌≡◌, ◌≤◌}
+use Rattle.std.proofs.Common.{Bool, nat_eq, List, map, option_map, Result, ℤ}
 use Rattle.std.proofs.lemmas.List.Elements.{All-take, All-drop, All-map}
 use Rattle.dap_msg.specs.declared.question.Question.TheVariants as question
-use Rattle.dap_msg.specs.declared.requests.resume.ResumeKind.TheVariants as resume
 use Rattle.dap_msg.specs.declared.command.Command.TheVariants as command
 use Rattle.dap_msg.specs.declared.outgoing.Body.TheVariants as body
 use Rattle.dap_msg.specs.declared.outgoing.EventBody.TheVariants as event
@@ -15,7 +14,6 @@ use Rattle.dap_msg.specs.Scopes.{ReferenceFits}
 use Rattle.dap_msg.specs.StackTrace.{FrameFits}
 use Rattle.dap_msg.specs.declared.question.Shown.{Shown}
 use Rattle.std.specs.Prelude.{if◌then◌else◌}
-use Rattle.dbg_runner.specs.declared.outcome.SliceOutcome.TheVariants as slice
 use Rattle.dap_history.specs.Readings.{position}
 use Rattle.dap_history.specs.Inspection.{stack_trace, variables}
 use Rattle.dap_history.proofs.Readings.{launched-snoc, messages_of-snoc}
@@ -37,9 +35,8 @@ messages_fit-append [] ns a b = b
 messages_fit-append (m ∷ ms) ns a b = (a.0, messages_fit-append ms ns a.1 b)
 
 pub message_fits : (ms : List Outgoing) (n : ℕ) (m : Outgoing) → MessagesFit ms → slice_get ms n ≡ Some m → NumbersFit m
-message_fits [] n m fits is = absurd cc
-message_fits (x ∷ ms) zero m fits is = let same : x ≡ m = cc in subst NumbersFit same fits.0
 message_fits (x ∷ ms) (suc n) m fits is = message_fits ms n m fits.1 is
+message_fits ms n m fits is = grind (arith, common_steps) steps 200000
 
 abbrev EventsFit : List EventBody → Type 0
 EventsFit es = MessagesFit (map Event es)
@@ -69,8 +66,7 @@ AnswerFits (Ok b) = ShownFits b
 AnswerFits (Err why) = Unit {0}
 
 thread_fits : (known : Bool) (b : Shown) (why : Refusal) → ShownFits b → AnswerFits (if known then Ok b else Err why)
-thread_fits true b why fits = fits
-thread_fits false b why fits = tt
+thread_fits known b why fits = grind (arith, common_steps) steps 200000
 
 -- ---- lines, frames and scopes
 
@@ -78,32 +74,27 @@ near_small : (n : ℕ) → n ≤ most → n < 2 ^ 64
 near_small n is = omega arith
 
 line_small : (less : ℕ) (o : Option StepAt) → MayBeNear o → option_map_or (λ s. s.place.line) o 0 - less < 2 ^ 64
-line_small less None near = omega arith
-line_small less (Some s) near = omega (arith, near.0)
+line_small less o near = grind (arith, common_steps) steps 200000
 
 place_line_small : (counting : Counting) (o : Option StepAt) → MayBeNear o
     → shown_line counting (option_map (λ s. s.place) o) < 2 ^ 64
-place_line_small counting None near = omega arith
-place_line_small counting (Some s) near = omega (arith, near.0)
+place_line_small counting o near = grind (arith, common_steps) steps 200000
 
 place_column_small : (counting : Counting) (o : Option StepAt) → MayBeNear o
     → shown_column counting (option_map (λ s. s.place) o) < 2 ^ 64
-place_column_small counting None near = omega arith
-place_column_small counting (Some s) near = omega (arith, near.1)
+place_column_small counting o near = grind (arith, common_steps) steps 200000
 
 scopes_if : (b : Bool) (n i : ℕ) (word : List ℕ) (rest other : List Scope) → nat_eq n i ≡ b → n < frame_limit
     → All ReferenceFits rest → All ReferenceFits other
     → All ReferenceFits (cond b (record { name = word; reference = i + 1 } ∷ rest) other)
-scopes_if true n i word rest other is few near far = grind (arith, common_steps, eqb-true, All-cons) steps 1500000
-scopes_if false n i word rest other is few near far = far
+scopes_if b n i word rest other is few near far = grind (arith, common_steps, eqb-true, All-cons) steps 200000
 
 scopes_fit : (main : Block) (c : Configuration) (i : ℕ) → length c ≤ frame_limit
     → All ReferenceFits (scopes_from main c i)
 scopes_fit main [] i few = All-nil ReferenceFits
 scopes_fit main (f ∷ below) i few =
     let less : length below ≤ frame_limit = omega (arith, few) in
-    scopes_if (nat_eq (length below) i) (length below) i _ _ _ refl (omega (arith, few)) (scopes_fit main below f.link
-    less) (scopes_fit main below i less)
+    scopes_if _ _ i _ _ _ refl (omega (arith, few)) (scopes_fit main below f.link less) (scopes_fit main below i less)
 
 module _ (main : Block) (near : BlockNear main) where
   answers_fit : (less : ℕ) (answers : List Resolution) → All LineFits (map (answer_to_line main less) answers)
@@ -154,39 +145,27 @@ module _ (few : FramesAreFew) where
 
   scopes_answer_fits : (of : Subject) (id n : ℕ) (c : Configuration) (f : Option Frame) → at of.program n ≡ Some c
       → AnswerFits (scopes of id c f)
-  scopes_answer_fits of id n c None is = tt
-  scopes_answer_fits of id n c (Some f) is = scopes_fit of.program c (id - 1) (few of.program n c is)
+  scopes_answer_fits of id n c f is = grind (arith, common_steps, scopes_fit) steps 200000
 
   variables_fit : (of : Subject) (f : Option Frame) → AnswerFits (variables of f)
-  variables_fit of None = tt
-  variables_fit of (Some f) = tt
-
-  result_fits : (r : Result ℤ EvalFault) → AnswerFits (result_answer r)
-  result_fits (Ok v) = tt
-  result_fits (Err Overflow) = tt
-  result_fits (Err DivideByZero) = tt
+  variables_fit of f = grind (arith, common_steps) steps 200000
 
   answer_if : (b other : Result Shown Refusal) → AnswerFits other → b ≡ other → AnswerFits b
   answer_if b other fits is = subst AnswerFits (sym is) fits
 
   evaluates_fit : (main : Block) (c : Configuration) (id : ℕ) (f : Option Frame) (text : List ℕ)
       (b : Result Shown Refusal) → EvaluatesIn main c id f text b → AnswerFits b
-  evaluates_fit main c id None text b is = answer_if b _ tt is
-  evaluates_fit main c id (Some f) text b (inl is) = answer_if b _ (result_fits is.result) is.answer_is
-  evaluates_fit main c id (Some f) text b (inr is) = answer_if b _ tt is.answer_is
+  evaluates_fit main c id f text b is = grind (arith, common_steps) steps 200000
 
   answers_fit_at : (of : Subject) (n : ℕ) (c : Configuration) (question : Question) (b : Result Shown Refusal)
       → BlockNear of.program → at of.program n ≡ Some c → RepliesFrom of c question b → AnswerFits b
   answers_fit_at of n c (question.StackTrace a) b near is says = answer_if b _ (stack_fits of a n c near is) says
-  answers_fit_at of n c (question.Scopes a) b near is says =
-      answer_if b _ (scopes_answer_fits of a.frame_id n c (frame_by_id c a.frame_id) is) says
-  answers_fit_at of n c (question.Variables a) b near is says = answer_if b _ (variables_fit of _) says
-  answers_fit_at of n c (question.Evaluate a) b near is says = grind (arith, common_steps, evaluates_fit) steps 1500000
+  answers_fit_at of n c question b near is says =
+      grind (arith, common_steps, answer_if, stack_fits, scopes_answer_fits, variables_fit, evaluates_fit) steps 200000
 
   replies_at_fit : (of : Subject) (n : ℕ) (o : Option Configuration) (question : Question) (b : Result Shown Refusal)
       → BlockNear of.program → at of.program n ≡ o → RepliesAt of o question b → AnswerFits b
-  replies_at_fit of n None question b near is says = absurd says
-  replies_at_fit of n (Some c) question b near is says = answers_fit_at of n c question b near is says
+  replies_at_fit of n o question b near is says = grind (arith, common_steps, answers_fit_at) steps 200000
 
   abbrev LaunchedNear : Option Launched → Type 0
   LaunchedNear None = Unit {0}
@@ -200,18 +179,13 @@ module _ (few : FramesAreFew) where
       replies_at_fit (subject_in past l) (position past) (at l.program (position past)) question b near refl says
 
   effect_fits : (s : Situation) (past : History) (bs : List Breakpoint) → EventsFit (effect_in s past bs).events
-  effect_fits Configuring past bs = tt
-  effect_fits _ past bs = tt
+  effect_fits s past bs = grind (arith, common_steps) steps 200000
 
   enters_fit : (past : History) (l : Launched) (why : Option Reason) → EventsFit (enters past l why).events
-  enters_fit past l None = logs_fit _ _
-  enters_fit past l (Some r) = events_fit-append (first_logs past l) (stopped_events _) (logs_fit _ _) (tt, tt)
+  enters_fit past l why = grind (arith, common_steps, logs_fit, events_fit-append) steps 200000
 
   resume_kind_fits : (resume_kind : ResumeKind) → BodyFits (body_of resume_kind)
-  resume_kind_fits resume.Continue = tt
-  resume_kind_fits resume.Next = tt
-  resume_kind_fits resume.StepIn = tt
-  resume_kind_fits resume.StepOut = tt
+  resume_kind_fits resume_kind = grind (arith, common_steps) steps 200000
 
   launched_near : (past : History) (l : Launched) → launched past ≡ Some l → LaunchedNear (launched past)
       → BlockNear l.program
@@ -219,15 +193,10 @@ module _ (few : FramesAreFew) where
 
   calm_fits : (past : History) (s : Situation) (asked : Command) (b : Body) → LaunchedNear (launched past)
       → IsCalm past s asked b → ReplyFits (answered b)
-  calm_fits past s (command.Initialize a) b near calm = grind (arith, common_steps, fits_if, answered) steps 1500000
   calm_fits past s (command.SetBreakpoints a) b near calm =
       fits_if (answered b) (answered (body.Breakpoints (other_source a.breakpoints)))
       (record { result = All-map LineFits _ a.breakpoints (λ k d lt. tt); events = tt }) (ap answered calm.3)
-  calm_fits past s command.Threads b near calm = grind (arith, common_steps, fits_if, answered) steps 1500000
-  calm_fits past s (command.Pause a) b near calm = grind (arith, common_steps, fits_if, answered) steps 1500000
-  calm_fits past s (command.Inspect q) (body.Shown b) near calm =
-      record { result = inspects_fit (launched past) past q (Ok b) near calm.1; events = tt }
-  calm_fits past s _ b near calm = absurd calm
+  calm_fits past s asked b near calm = grind (arith, common_steps, fits_if, inspects_fit) steps 200000
 
   reaction_fits : (past : History) {s : Situation} {asked : Command} {reaction : Reaction}
       → LaunchedNear (launched past) → Reacted past s asked reaction → ReplyFits (reply_of past reaction)
@@ -250,9 +219,7 @@ module _ (few : FramesAreFew) where
 
   launch_fits : (arguments : LaunchArguments) (file : Option (List ℕ)) (reply : Reply) → Launches arguments file reply
       → ReplyFits reply
-  launch_fits arguments None reply says = fits_if reply _ (refused_fits _) says
-  launch_fits arguments (Some text) reply (inl says) = fits_if reply _ (refused_fits _) says.reply_is
-  launch_fits arguments (Some text) reply (inr says) = grind (arith, common_steps, fits_if) steps 1500000
+  launch_fits arguments file reply says = grind (arith, common_steps, fits_if, refused_fits) steps 200000
 
   -- ---- reports
 
@@ -264,19 +231,10 @@ module _ (few : FramesAreFew) where
   outputs_fit past r = events_fit-append (map event.Output _) (log_events r.plan r.logs) (numbers_fit _) (logs_fit _ _)
 
   held_fits : (past : History) (r : PlainReport) (pauses : Bool) → EventsFit (held_effect past r pauses).events
-  held_fits past r true = events_fit-append (outputs past r) (stopped_events _) (outputs_fit past r) (tt, tt)
-  held_fits past r false = outputs_fit past r
+  held_fits past r pauses = grind (arith, common_steps, events_fit-append, outputs_fit) steps 200000
 
   report_fits : (past : History) (r : PlainReport) (o : SliceOutcome) → EventsFit (report_effect past r o).events
-  report_fits past r slice.More = outputs_fit past r
-  report_fits past r (slice.Due reason) = events_fit-append (outputs past r) (stopped_events _) (outputs_fit past r)
-      (tt, tt)
-  report_fits past r slice.Held = held_fits past r (waiting_pause past)
-  report_fits past r slice.Done =
-      events_fit-append (outputs past r) (exited_events 0) (outputs_fit past r) (near_small 0 (lit≤ tt), (tt, tt))
-  report_fits past r (slice.Fault fault) = events_fit-append (outputs past r) (stopped_events _) (outputs_fit past r)
-      (tt, tt)
-  report_fits past r slice.NoMemory = tt
+  report_fits past r o = grind (arith, common_steps, outputs_fit, events_fit-append, held_fits, near_small) steps 200000
 
   -- ---- steps
 
@@ -292,36 +250,27 @@ module _ (few : FramesAreFew) where
       → Causes past item step → MessagesFit (messages step)
   step_fits past (Content (Some request)) step near small causes =
       answer_step step request.seq _ causes.0 causes.2 small (command_fits _ past request.body causes.0 near causes.1)
-  step_fits past (Loaded launch file) step near small causes =
-      answer_step step launch.seq _ causes.0 causes.2 small (launch_fits launch.arguments file causes.0 causes.1)
-  step_fits past (Accepted r) step near small causes = effect_step step _ causes (report_fits past r r.outcome)
-  step_fits past InputEnd step near small causes = effect_step step (only_orders _) causes tt
-  step_fits past ReadFailure step near small causes = effect_step step (only_orders _) causes tt
-  step_fits past _ step near small causes = effect_step step nothing causes tt
+  step_fits past item step near small causes =
+      grind (arith, common_steps, answer_step, launch_fits, effect_step, report_fits, nothing) steps 200000
 
   -- ---- what is launched
 
   later_near : (o before : Option Launched) → LaunchedNear o → LaunchedNear before → LaunchedNear (or_else o before)
-  later_near None before a b = b
-  later_near (Some l) before a b = a
+  later_near o before a b = grind (arith, common_steps) steps 200000
 
   none_near : (o : Option Launched) → o ≡ None → LaunchedNear o
   none_near o is = subst LaunchedNear (sym is) tt
 
   launch_near : (arguments : LaunchArguments) (file : Option (List ℕ)) (reply : Reply) → Launches arguments file reply
       → LaunchedNear reply.effect.launched
-  launch_near arguments None reply says = none_near _ (ap (λ (r : Reply). r.effect.launched) says)
-  launch_near arguments (Some text) reply (inl says) = none_near _ (ap (λ (r : Reply). r.effect.launched) says.reply_is)
-  launch_near arguments (Some text) reply (inr says) = grind (arith, common_steps, read_near) steps 1500000
+  launch_near arguments file reply says = grind (arith, common_steps, none_near, read_near) steps 200000
 
   step_launches_near : (past : History) (item : Item) (step : Step) → Causes past item step
       → LaunchedNear step.effect.launched
   step_launches_near past (Content (Some request)) step causes =
       grind (arith, common_steps, none_near, all_silent) steps 1500000
-  step_launches_near past (Loaded launch file) step causes = grind (arith, common_steps, launch_near) steps 1500000
-  step_launches_near past (Accepted r) step causes =
-      none_near _ (ap (λ (e : Effect). e.launched) causes.effect_is ∙ report_launches past r r.outcome)
-  step_launches_near past _ step causes = none_near _ (ap (λ (e : Effect). e.launched) causes.effect_is)
+  step_launches_near past item step causes =
+      grind (arith, common_steps, launch_near, none_near, report_launches) steps 200000
 
   -- ---- histories
 

@@ -1,5 +1,5 @@
 -- A run goes back as asked and is not held, and counts begin anew after it.
-use Rattle.dap_history.proofs.Common.{Accepted, Block, Body, Causes, CommandName, Configuring, Content, Effect, Fault, Faulted, GoesBackBy, Heading, History, Incoming, InputEnd, IsSome, IsStopped, Item, Loaded, MemoryFailure, Mode, None, Ok, Option, PlainOrder, PlainReport, Plan, ReadFailure, Running, Situation, SliceOutcome, Some, Step, StopReason, Stopped, WrittenJoins, [], ap, back_in, end_of, go, goes_back, inl, inr, is_back, last_run, last_such, nothing, option_map_or, or_else, order_mark, plan, refl, report_effect, run_in, situation, step_mark, stop_of_event, subst, sym, unwrap_or, ℕ, ◌++◌, ◌+◌, ◌∙◌, ◌∷◌, ◌≡◌, ◌⊎◌, Went, back_if}
+use Rattle.dap_history.proofs.Common.{Accepted, Block, Body, Causes, CommandName, Configuring, Content, Effect, Fault, Faulted, GoesBackBy, Heading, History, Incoming, InputEnd, IsSome, IsStopped, Item, Loaded, MemoryFailure, Mode, None, Ok, Option, PlainOrder, PlainReport, Plan, ReadFailure, Running, Situation, SliceOutcome, Some, Step, StopReason, Stopped, WrittenJoins, [], ap, back_in, end_of, go, goes_back, inl, inr, is_back, last_run, last_such, nothing, option_map_or, or_else, order_mark, plan, refl, report_effect, run_in, situation, step_mark, stop_of_event, subst, sym, unwrap_or, ℕ, ◌++◌, ◌+◌, ◌∙◌, ◌∷◌, ◌≡◌, ◌⊎◌}
 use Rattle.std.proofs.Common.{List, true, false, arith}
 use Rattle.std.specs.Prelude.{option_map}
 use Rattle.dap_msg.specs.declared.outgoing.Outgoing.TheVariants.{Answer}
@@ -19,7 +19,6 @@ use Rattle.dap_history.proofs.Once.{ordered_last}
 use Rattle.dap_history.proofs.Ordered.{CanRun, PutsIn, all_orders, granted_back}
 use Rattle.dap_history.proofs.Ordering.{IsResumed, is_back_is, item_ordered, ordered_back, ordered_from, item_holds}
 use Rattle.std.proofs.lemmas.Grind.{common_steps}
-use Rattle.dap_history.proofs.Early.{IsEarly}
 
 -- ---- as asked, and not held
 
@@ -35,7 +34,6 @@ granted_by : (past : History) (item : Item) (step : Step) (m : Mode) (seq : ℕ)
 granted_by past (Content (Some request)) step m seq name b is asks answers =
     subst (λ (e : Effect). IsSome (last_such go e.orders)) (sym is.2.effect_is)
     (granted_back (situation past) past request.body is.0 m b is.1 asks (let e = sym is.2.answer_is ∙ answers in cc))
-granted_by past (Content None) step m seq name b is asks answers = absurd cc
 granted_by past _ step m seq name b is asks answers = absurd cc
 
 pub each_goes_back : EachGoesBackAsAsked
@@ -94,9 +92,7 @@ no_run_back past none = ap (λ o. option_map_or (λ (run : Heading). goes_back r
 
 counted_put : (past : History) (put : Option Plan) → PutsIn (situation past) past put → IsStopped (situation past)
     → (plan past).counted_from ≡ position past + 1 → (unwrap_or put (plan past)).counted_from ≡ position past + 1
-counted_put past None puts stands was = was
-counted_put past (Some p) (inl configuring) stands was = absurd (subst IsStopped configuring stands)
-counted_put past (Some p) (inr counts) stands was = counts
+counted_put past put puts stands was = grind (arith, common_steps) steps 200000
 
 stops_configuring : (s : Situation) (past : History) (o : Option StopReason) (r : StopReason) → StopsBy s past o
     → o ≡ Some r → s ≡ Configuring
@@ -107,8 +103,7 @@ module _ (one : OneProgram) (joins : WrittenJoins) where
   -- a step that only has an effect like this reports no stop
   no_stop_by : (step : Step) (effect : Effect) → step.effect ≡ effect → last_such stop_of_event effect.events ≡ None
       → ReportsStop step.effect.events → ⊥
-  no_stop_by step effect is none stops =
-      let e = sym stops.1 ∙ ap (λ (e : Effect). last_such stop_of_event e.events) is ∙ none in cc
+  no_stop_by step effect is none stops = grind (arith, common_steps) steps 200000
 
   -- where a run that goes back has come to its stop
   come : (past : History) (r : PlainReport) (main : Block) (e : SliceOutcome) → goes_back r.mode ≡ true
@@ -129,8 +124,7 @@ module _ (one : OneProgram) (joins : WrittenJoins) where
     still : (item : Item) (effect : Effect) → step.effect ≡ effect → effect.put_in ≡ None
         → last_such stop_of_event effect.events ≡ None → end_of item ≡ None
         → (ReportsStop step.effect.events ⊎ IsStopped (situation past)) → Counted past item step.effect
-    still item effect is none no_stops stays (inl stops) = absurd (no_stop_by step effect is no_stops stops)
-    still item effect is none no_stops stays (inr stands) = cc (stood back stands)
+    still item effect is none no_stops stays here = grind (arith, common_steps, no_stop_by) steps 200000
 
     -- the step leads to where the program stands, or changes no situation
     abbrev IsStoppedAfter : Type 0
@@ -143,8 +137,7 @@ module _ (one : OneProgram) (joins : WrittenJoins) where
 
     counted_by : (item : Item) → IsTaken IsLawfulEvent past item → Causes past item step → IsStoppedAfter
         → Counted past item step.effect
-    counted_by (Content None) taken is leads =
-        still (Content None) nothing is.effect_is refl refl refl (by_stop (Content None) is leads)
+    counted_by (Content None) taken is leads = grind (arith, common_steps, still, nothing, by_stop) steps 200000
     counted_by (Content (Some request)) taken is leads = by_request (by_stop (Content (Some request)) is leads)
       where
         by_request : ReportsStop step.effect.events ⊎ IsStopped (situation past)
@@ -154,30 +147,22 @@ module _ (one : OneProgram) (joins : WrittenJoins) where
             (e : Effect). last_such stop_of_event e.events) (sym is.2.effect_is) ∙ stops.1) in
             absurd (not_begun (ran.configuring (subst IsConfiguring (sym configuring) tt)).0)
         by_request (inr stands) =
-            ap (λ (e : Effect). (unwrap_or e.put_in (plan past)).counted_from) is.2.effect_is
-            ∙ counted_put past is.0.effect.put_in (all_orders (situation past) past request.body is.0 refl is.1).put
-            stands (stood back stands)
-    counted_by (Loaded launch file) taken is leads =
-        absurd (not_begun (let progress = ran.so_far.progress None (ran.so_far.early (subst IsEarly (sym taken) tt)) in
-        progress.1))
+            ap (λ (e : Effect). (unwrap_or e.put_in (plan past)).counted_from) is.2.effect_is ∙ counted_put past _
+            (all_orders _ past _ _ refl is.1).put stands (stood back stands)
+    counted_by (Loaded launch file) taken is leads = grind (arith, common_steps, not_begun) steps 200000
     counted_by (Accepted r) taken is leads = by_mark leads
       where
         goes : goes_back r.mode ≡ true
         goes = sym (is_back_is past r taken.0) ∙ back
 
         by_mark : IsStoppedAfter → Counted past (Accepted r) step.effect
-        by_mark (inl mark) =
-            subst (Counted past (Accepted r)) (sym is.effect_is)
-            (come past r taken.1.program r.outcome goes
-            (subst (λ b. Went taken.1.program r (back_if b)) goes taken.1.lawful.went).outcome
-            (subst (MarkIs IsStopped) (mark_of (report_effect past r r.outcome) step is) mark))
+        by_mark (inl mark) = grind (arith, common_steps, come, mark_of) steps 200000
         by_mark (inr stands) = absurd (subst IsStopped taken.0.running stands.1)
     counted_by (Fault k) taken is leads = still (Fault k) _ is.effect_is refl refl refl (by_stop (Fault k) is leads)
     counted_by InputEnd taken is leads = still InputEnd _ is.effect_is refl refl refl (by_stop InputEnd is leads)
     counted_by ReadFailure taken is leads =
         still ReadFailure _ is.effect_is refl refl refl (by_stop ReadFailure is leads)
-    counted_by MemoryFailure taken is leads =
-        still MemoryFailure _ is.effect_is refl refl refl (by_stop MemoryFailure is leads)
+    counted_by MemoryFailure taken is leads = grind (arith, common_steps, still, by_stop) steps 200000
 
   -- both are kept
   record Back (past : History) : Type 0 where

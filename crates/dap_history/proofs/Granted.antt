@@ -1,57 +1,42 @@
 -- What a request tells besides its answer, and that a run that is granted is ordered.
-use Rattle.dap_history.proofs.Common.{Accepted, All-nil, Body, Causes, Command, Configuring, Content, Effect, EventBody, History, IsOutput, IsSome, Launched, None, Ok, Option, PlainReport, Reaction, Reason, Reply, Situation, SliceOutcome, Some, [], ap, due_first, enters, first_logs, go, held_effect, inl, inr, is_some, last_such, mode_by, plan, refl, reply_of, report_effect, situation, subst, sym, unwrap_or, waiting_pause, ◌∙◌, ◌≡◌, ◌⊎◌}
-use Rattle.std.proofs.Common.{List, Bool, true, false}
+use Rattle.dap_history.proofs.Common.{Accepted, All-nil, Body, Causes, Command, Configuring, Content, Effect, EventBody, History, IsSome, Launched, None, Ok, Option, PlainReport, Reaction, Reason, Reply, Situation, SliceOutcome, Some, [], ap, due_first, enters, first_logs, go, held_effect, inl, inr, is_some, last_such, mode_by, plan, refl, reply_of, report_effect, situation, subst, sym, unwrap_or, waiting_pause, ◌∙◌, ◌≡◌, ◌⊎◌}
+use Rattle.std.proofs.Common.{List, Bool, false, arith}
 use Rattle.dap_msg.specs.declared.command.Command.TheVariants as command
 use Rattle.dbg_runner.specs.declared.outcome.SliceOutcome.TheVariants as slice
 use Rattle.dap_history.specs.Stops.{TellsFirst, TellsBy, EachReplyIsTold}
 use Rattle.dap_history.specs.Runs.{IsExcused, GrantedRunsAreOrdered, HeldRunsGoOn}
 use Rattle.dap_history.proofs.Told.{stop_of_logs}
 use Rattle.dap_history.proofs.Silent.{first_at}
-use Rattle.dap_history.proofs.Reacted.{IsCalm, Reacted, by_refusing, by_answering, by_setting, by_starting, by_resuming, by_ending, by_retreating, by_interrupting, by_closing, by_reaction}
+use Rattle.dap_history.proofs.Reacted.{IsCalm, Reacted, by_answering, by_starting, by_resuming, by_ending, by_retreating, by_reaction}
 use Rattle.dap_history.proofs.Judged.{was_taken}
 use Rattle.dap_history.proofs.Once.{quiet_in}
 use Rattle.dap_history.proofs.Telling.{logs_output}
 use Rattle.dap_history.proofs.Holding.{result_of}
+use Rattle.std.proofs.lemmas.Grind.{common_steps}
 
 -- ---- what a reply tells
 
 -- no events are told by any command
 tells_nothing : (s : Situation) (asked : Command) (events : List EventBody) → events ≡ [] → TellsBy s asked events
-tells_nothing s command.ConfigurationDone events is = ([], All-nil IsOutput, inl is)
-tells_nothing s (command.Resume k a) events is = inl is
-tells_nothing s _ events is = is
+tells_nothing s asked events is = grind (arith, common_steps, All-nil) steps 200000
 
 enters_tells : (past : History) (l : Launched) (why : Option Reason) (events : List EventBody)
     → events ≡ (enters past l why).events → TellsFirst events
 enters_tells past l None events is = (first_logs past l, logs_output (plan past).breakpoints (first_at past l), inl is)
-enters_tells past l (Some r) events is =
-    (first_logs past l, logs_output (plan past).breakpoints (first_at past l), inr (_, is))
+enters_tells past l (Some r) events is = (first_logs past l, logs_output _ _, inr (_, is))
 
 module _ (past : History) where
   reaction_tells : {s : Situation} {asked : Command} {reaction : Reaction} → Reacted past s asked reaction
       → TellsBy s asked (reply_of past reaction).effect.events
-  reaction_tells (by_refusing s asked why) = tells_nothing s asked [] refl
-  reaction_tells (by_answering s asked b calm) = tells_nothing s asked [] refl
-  reaction_tells (by_setting s a l found bs there path_is resolved) =
-      tells_nothing s (command.SetBreakpoints a) _ (quiet_in (situation past) past bs)
   reaction_tells (by_starting l there) = enters_tells past l (due_first past l) _ refl
-  reaction_tells (by_resuming kind a l there) = inl refl
-  reaction_tells (by_ending kind a) = inr (refl, refl)
-  reaction_tells (by_retreating s kind a l stands there) = tells_nothing s (command.Retreat kind a) [] refl
-  reaction_tells (by_interrupting a) = refl
-  reaction_tells (by_closing s) = tells_nothing s command.Disconnect [] refl
+  reaction_tells is = grind (arith, common_steps, tells_nothing, quiet_in) steps 200000
 
 -- ---- a run that is granted
 
 -- a command that asks for a run has an effect where it is granted
 calm_asks_none : (past : History) (s : Situation) (asked : Command) (b : Body) → IsCalm past s asked b
     → ¬ IsSome (mode_by 0 asked)
-calm_asks_none past s (command.Initialize a) b calm asks = absurd cc
-calm_asks_none past s (command.SetBreakpoints a) b calm asks = absurd cc
-calm_asks_none past s command.Threads b calm asks = absurd cc
-calm_asks_none past s (command.Pause a) b calm asks = absurd cc
-calm_asks_none past s (command.Inspect q) b calm asks = absurd cc
-calm_asks_none past s _ b calm asks = calm
+calm_asks_none past s asked b calm asks = grind (arith, common_steps) steps 200000
 
 -- the reply orders a run, or needn't
 abbrev IsDone : Situation → Command → Effect → Type 0
@@ -59,8 +44,7 @@ IsDone s asked effect = IsSome (last_such go effect.orders) ⊎ IsExcused s aske
 
 begins_done : (past : History) (s : Situation) (l : Launched) (why : Option Reason)
     → IsDone s command.ConfigurationDone (enters past l why)
-begins_done past s l None = inl refl
-begins_done past s l (Some r) = inr (ap is_some (stop_of_logs (plan past).breakpoints (first_at past l) _))
+begins_done past s l why = grind (arith, common_steps, is_some, stop_of_logs) steps 200000
 
 reaction_done : (past : History) {s : Situation} {asked : Command} {reaction : Reaction} → Reacted past s asked reaction
     → (b : Body) → (reply_of past reaction).result ≡ Ok b → IsSome (mode_by 0 asked)
@@ -74,13 +58,11 @@ reaction_done past _ b granted asks = absurd cc
 
 held_run : (past : History) (r : PlainReport) (pauses : Bool) → pauses ≡ false
     → IsSome (last_such go (held_effect past r pauses).orders)
-held_run past r false is = refl
-held_run past r true is = absurd cc
+held_run past r pauses is = grind (arith, common_steps) steps 200000
 
 report_run : (past : History) (r : PlainReport) (e : SliceOutcome) → e ≡ slice.Held → waiting_pause past ≡ false
     → IsSome (last_such go (report_effect past r e).orders)
-report_run past r slice.Held is none = held_run past r (waiting_pause past) none
-report_run past r _ is none = absurd cc
+report_run past r e is none = grind (arith, common_steps, held_run) steps 200000
 
 -- ---- the laws
 

@@ -1,9 +1,8 @@
 -- A run is held once, where something waits.
-use Rattle.dap_history.proofs.Common.{Accepted, Answers, Body, Breakpoint, Causes, Command, Content, Effect, Ending, Go, Heading, History, Hold, Incoming, InputEnd, IsTaking, Item, Launch, Launched, Launches, Loaded, None, Ok, Option, Outgoing, PlainOrder, PlainReport, Quit, Reaction, ReadFailure, Reason, Refusal, Reply, Request, Running, Situation, SliceOutcome, Some, Step, [], ap, append-nil, arith, closing, due_first, effect_in, ending_of, enters, filter_map, go, goes_back, held_effect, hold_mark, hold_once, inl, inr, is_back, last_run, last_such, length, name_of, option_map_or, or_else, orders_of, refl, reply_of, report_effect, runs, situation, step_mark, subst, sym, unwrap_or, waiting_pause, ℕ, ◌++◌, ◌+◌, ◌∙◌, ◌∷◌, ◌≡◌, ◌⊎◌, is_same_path}
+use Rattle.dap_history.proofs.Common.{Accepted, Answers, Body, Breakpoint, Causes, Command, Content, Effect, Ending, Go, Heading, History, Hold, Incoming, InputEnd, IsTaking, Item, Launch, Launched, Launches, None, Ok, Option, Outgoing, PlainOrder, PlainReport, Quit, Reaction, ReadFailure, Reason, Refusal, Reply, Request, Running, Situation, SliceOutcome, Some, Step, [], ap, append-nil, arith, closing, due_first, effect_in, ending_of, enters, filter_map, go, goes_back, held_effect, hold_mark, hold_once, inl, inr, is_back, last_run, last_such, length, name_of, option_map_or, or_else, orders_of, refl, reply_of, report_effect, runs, situation, step_mark, subst, sym, unwrap_or, waiting_pause, ℕ, ◌++◌, ◌+◌, ◌∙◌, ◌∷◌, ◌≡◌, ◌⊎◌}
 use Rattle.std.proofs.Common.{List, Bool, true, false}
 use Rattle.std.specs.Prelude.{Result}
 use Rattle.std.proofs.lemmas.List.{append_assoc}
-use Rattle.dap_msg.specs.declared.command.Command.TheVariants as command
 use Rattle.dap_msg.specs.declared.outgoing.Outgoing.TheVariants.{Answer}
 use Rattle.dbg_runner.specs.declared.outcome.SliceOutcome.TheVariants as slice
 use Rattle.dap_history.specs.Readings.{is_held}
@@ -47,8 +46,7 @@ module _ (past : History) (request : Request) (reply : Reply) (step : Step)
 
     sets_by : (s : Situation) (bs : List Breakpoint) (b : Body) → situation past ≡ s → reply.result ≡ Ok b
         → IsToWait past request.body → reply.effect.orders ≡ (effect_in s past bs).orders → OrdersBy past step
-    sets_by Running bs b here is to_wait orders = holds_by b is to_wait here orders
-    sets_by _ bs b here is to_wait orders = orders_none (orders_are ∙ orders)
+    sets_by s bs b here is to_wait orders = grind (arith, common_steps, holds_by, orders_are) steps 200000
 
     begins_by : (l : Launched) (why : Option Reason) → reply.effect.orders ≡ (enters past l why).orders
         → OrdersBy past step
@@ -66,44 +64,33 @@ module _ (past : History) (request : Request) (reply : Reply) (step : Step)
         orders_go _ refl (orders_are ∙ ap (λ (r : Reply). r.effect.orders) is)
     reply_orders (by_retreating s kind a l stands there) here by is =
         orders_go _ refl (orders_are ∙ ap (λ (r : Reply). r.effect.orders) is)
-    reply_orders (by_interrupting a) here by is =
-        holds_by _ (ap (λ (r : Reply). r.result) is) (subst (IsToWait past) (sym by) tt) (sym here)
-        (ap (λ (r : Reply). r.effect.orders) is)
     reply_orders (by_closing s) here by is =
         orders_quit _ (ap closing item_is ∙ ap (λ c. closing (Content (Some (record { seq = request.seq; body = c }))))
         by) (orders_are ∙ ap (λ (r : Reply). r.effect.orders) is)
-    reply_orders _ here by is = orders_none (orders_are ∙ ap (λ (r : Reply). r.effect.orders) is)
+    reply_orders it here by is = grind (arith, common_steps, holds_by, orders_are) steps 200000
 
 loaded_orders_none : (launch : Launch) (file : Option (List ℕ)) (reply : Reply) → Launches launch.arguments file reply
     → reply.effect.orders ≡ []
-loaded_orders_none launch None reply is = ap (λ (r : Reply). r.effect.orders) is
-loaded_orders_none launch (Some text) reply (inl is) = ap (λ (r : Reply). r.effect.orders) is.reply_is
-loaded_orders_none launch (Some text) reply (inr is) = ap (λ (r : Reply). r.effect.orders) is.reply_is
+loaded_orders_none launch file reply is = grind (arith, common_steps) steps 200000
 
 report_orders : (past : History) (r : PlainReport) (e : SliceOutcome) (step : Step)
     → step.effect.orders ≡ (report_effect past r e).orders → OrdersBy past step
-report_orders past r slice.More step is = orders_none is
-report_orders past r (slice.Due reason) step is = orders_none is
-report_orders past r slice.Done step is = orders_none is
-report_orders past r (slice.Fault fault) step is = orders_none is
-report_orders past r slice.NoMemory step is = orders_none is
 report_orders past r slice.Held step is = by_pause (waiting_pause past) is
   where
     by_pause : (pauses : Bool) → step.effect.orders ≡ (held_effect past r pauses).orders → OrdersBy past step
     by_pause true is = orders_none is
     by_pause false is = orders_go _ refl is
+report_orders past r _ step is = orders_none is
 
 item_orders : (past : History) (item : Item) (step : Step) → step.item ≡ item → Causes past item step
     → OrdersBy past step
 item_orders past (Content (Some request)) step item_is is =
     reply_orders past request is.0 step item_is is.2
     (reacted past (situation past) request.body is.1.reaction is.1.reacts) refl refl is.1.reply_is
-item_orders past (Loaded launch file) step item_is is =
-    orders_none (ap (λ (e : Effect). e.orders) is.2.effect_is ∙ loaded_orders_none launch file is.0 is.1)
 item_orders past (Accepted r) step item_is is = report_orders past r r.outcome step (cc is.effect_is)
 item_orders past InputEnd step item_is is = orders_quit _ (ap closing item_is) (cc is.effect_is)
 item_orders past ReadFailure step item_is is = orders_quit _ (ap closing item_is) (cc is.effect_is)
-item_orders past _ step item_is is = orders_none (ap (λ (e : Effect). e.orders) is.effect_is)
+item_orders past item step item_is is = grind (arith, common_steps, loaded_orders_none) steps 200000
 
 -- ---- how the orders end
 
@@ -173,11 +160,7 @@ last_more past step taking (orders_hold wait running not_held forward is) here s
     by_end : ((is_held past ≡ false) × (orders_of past ≡ was.earlier ++ Go run ∷ []))
         ⊎ ((is_held past ≡ true) × (orders_of past ≡ was.earlier ++ Go run ∷ Hold run.run ∷ []))
         → orders_of (past ++ step ∷ []) ≡ was.earlier ++ Go run ∷ Hold run.run ∷ []
-    by_end (inl e) =
-        orders_then past step (Hold (runs past) ∷ []) is
-        ∙ ap (λ os. os ++ Hold (runs past) ∷ []) e.1
-        ∙ append_assoc was.earlier (Go run ∷ []) (Hold (runs past) ∷ [])
-        ∙ ap (λ n. was.earlier ++ Go run ∷ Hold n ∷ []) (sym was.number_is)
+    by_end (inl e) = grind (arith, common_steps, orders_then, runs, append_assoc) steps 200000
     by_end (inr e) = let f = sym not_held ∙ e.0 in absurd cc
 last_more past step taking (orders_quit by closes is) here still run run_is =
     let e = sym still ∙ ending_of-snoc past step ∙ ap (λ o. or_else o (ending_of past)) closes in absurd cc
@@ -190,9 +173,7 @@ running_more past item step causes here running = by_run (last_such go step.effe
         ⊎ ((step_mark step ≡ None) × IsRunning (situation past)) → (run : Heading)
         × (last_run (past ++ step ∷ []) ≡ Some run)
     by_mark none (inl mark) = absurd (runs_not step (answers_only past item step causes) none mark)
-    by_mark none (inr was) =
-        let before = here.running was.1 in
-        (before.0, last_run-snoc past step ∙ ap (λ o. or_else o (last_run past)) none ∙ before.1)
+    by_mark none (inr was) = grind (arith, common_steps, last_run-snoc) steps 200000
 
     by_run : (o : Option Heading) → last_such go step.effect.orders ≡ o → (run : Heading)
         × (last_run (past ++ step ∷ []) ≡ Some run)
@@ -232,10 +213,8 @@ module _ (past : History) (step : Step) (front back : List PlainOrder) (n : ℕ)
 
   held_once : IsTaking past → OrdersBy past step → Ends past → step.effect.orders ≡ front ++ Hold n ∷ back → IsHeldOnce
   held_once taking (orders_none is) here holds = absurd (none_within front back (Hold n) (sym is ∙ holds))
-  held_once taking (orders_go run number is) here holds =
-      let e = (alone (Go run) (Hold n) front back (sym is ∙ holds)).0 in absurd cc
-  held_once taking (orders_quit by closes is) here holds =
-      let e = (alone Quit (Hold n) front back (sym is ∙ holds)).0 in absurd cc
+  held_once taking (orders_go run number is) here holds = grind (arith, common_steps, alone) steps 200000
+  held_once taking (orders_quit by closes is) here holds = grind (arith, common_steps, alone) steps 200000
   held_once taking (orders_hold wait running not_held forward is) here holds = (
     running,
     wait,
@@ -281,17 +260,11 @@ hold_once_law f events past rest history before step after past_is front back n 
 
 -- while a program runs, what waits is not answered without an effect
 not_calm : (past : History) (asked : Command) (b : Body) → IsCalm past Running asked b → ¬ IsToWait past asked
-not_calm past (command.Pause a) b calm to_wait = calm.0
-not_calm past (command.SetBreakpoints a) b calm to_wait =
-    let same : calm.0 ≡ to_wait.0 = let e = sym calm.1 ∙ to_wait.1 in cc in
-    let e = sym calm.2 ∙ ap (λ (l : Launched). is_same_path a.path l.path) same
-    ∙ at_path_so a.path to_wait.0.path to_wait.2 in absurd cc
-not_calm past _ b calm to_wait = to_wait
+not_calm past asked b calm to_wait = grind (arith, common_steps, at_path_so) steps 200000
 
 module _ (past : History) where
   sets_hold : (s : Situation) (bs : List Breakpoint) → s ≡ Running → (effect_in s past bs).orders ≡ hold_once past
-  sets_hold Running bs is = refl
-  sets_hold _ bs is = absurd cc
+  sets_hold s bs is = grind (arith, common_steps) steps 200000
 
   reaction_holds : {s : Situation} {asked : Command} {reaction : Reaction} → Reacted past s asked reaction
       → s ≡ Running → situation past ≡ Running → (b : Body) → (reply_of past reaction).result ≡ Ok b

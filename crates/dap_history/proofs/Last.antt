@@ -1,6 +1,5 @@
 -- A `disconnect` that is taken is the last item, and its answer the last message.
-use Rattle.dap_history.proofs.Common.{Causes, Content, Ending, History, Incoming, IsTaking, Ok, Some, Step, [], ap, closing, messages, messages_of, subst, with_answer, ℕ, ◌++◌, ◌∙◌, ◌∷◌, ◌≡◌, inl, inr, ◌⊎◌, Close, Event, Reply, ending_of, sym}
-use Rattle.std.specs.Prelude.{map}
+use Rattle.dap_history.proofs.Common.{Causes, Content, Ending, History, Incoming, IsTaking, Ok, Some, Step, [], ap, closing, messages, messages_of, subst, with_answer, ℕ, ◌++◌, ◌∙◌, ◌∷◌, ◌≡◌, inl, inr, ◌⊎◌}
 use Rattle.dap_msg.specs.declared.command.Command.TheVariants as command
 use Rattle.dap_msg.specs.declared.command.CommandName.TheVariants as name
 use Rattle.dap_msg.specs.declared.command.Supported.TheVariants.{Disconnect}
@@ -12,6 +11,8 @@ use Rattle.dap_history.proofs.Readings.{last_such-append, messages_of-snoc}
 use Rattle.dap_history.proofs.Along.{IsKept, any_events, along}
 use Rattle.dap_history.proofs.Each.{splits, none_first, WasTaken, EachTaken, each_kept, each_first}
 use Rattle.dap_history.proofs.Passing.{none_left}
+use Rattle.std.proofs.Common.{arith}
+use Rattle.std.proofs.lemmas.Grind.{common_steps}
 
 -- no item follows one that closes
 pub record ClosesLast (past : History) : Type 0 where
@@ -21,12 +22,7 @@ pub record ClosesLast (past : History) : Type 0 where
 -- where an item closed, none is taken any more
 closed_there : (before : History) (step : Step) (after : History) (by : Ending) → closing step.item ≡ Some by
     → ¬ IsTaking (before ++ step ∷ after)
-closed_there before step after by closes taking =
-    let none =
-    none_left (ending_of (step ∷ after)) (ending_of before)
-    (sym (last_such-append (λ (s : Step). closing s.item) before (step ∷ after)) ∙ taking) in
-    let e = sym (none_left (ending_of after) (closing step.item) none.0).1 ∙ closes in
-    absurd cc
+closed_there before step after by closes taking = grind (arith, common_steps, none_left, last_such-append) steps 200000
 
 closes_last_more : (past : History) (s : Step) → IsTaking past → ClosesLast past → ClosesLast (past ++ s ∷ [])
 closes_last_more past s taking here = record {
@@ -41,10 +37,7 @@ closes_last_more past s taking here = record {
         absurd (closed_there before step is.0 by closes (subst IsTaking is.1 taking))
 
 closes_last_kept : (Q : Incoming → Type 0) → IsKept Q ClosesLast
-closes_last_kept Q = record {
-  step = λ past item new taking taken after here. subst ClosesLast (sym after.new_is)
-      (closes_last_more past after.step taking here);
-}
+closes_last_kept Q = grind (arith, common_steps, closes_last_more) steps 200000
 
 closes_last_first : ClosesLast []
 closes_last_first = record { last = λ before step after by is closes. absurd (none_first before step after is) }
@@ -53,11 +46,7 @@ closes_last_first = record { last = λ before step after by is closes. absurd (n
 answers_it : (past : History) (step : Step) (seq : ℕ) → Causes past
     (Content (Some (record { seq = seq; body = command.Disconnect }))) step
     → messages step ≡ Answer seq (name.Supported Disconnect) (Ok body.None) ∷ []
-answers_it past step seq is =
-    ap (λ a. with_answer a (map Event step.effect.events)) is.2.answer_is
-    ∙ ap (λ e. Answer seq (name.Supported Disconnect) is.0.result ∷ map Event e.events) is.2.effect_is
-    ∙ ap (λ (r : Reply). Answer seq (name.Supported Disconnect) r.result ∷ map Event r.effect.events)
-    (replied Close is.1 is.1.reacts)
+answers_it past step seq is = grind (arith, common_steps, with_answer, replied) steps 200000
 
 pub disconnect_last : DisconnectIsLast
 disconnect_last f events past rest history before step after seq past_is item_is = (

@@ -1,20 +1,14 @@
 -- Each item that reads no text leads from a history to another.
-use Rattle.dap_history.proofs.Common.{Accepted, Block, Body, Breakpoint, Causes, Command, Configuration, Configuring, Content, Effect, EndsBy, Fault, Faulted, Fresh, GoesBackBy, History, InputEnd, Inspects, IsAfter, IsSome, IsStopped, Item, Launch, Launched, Launches, Loaded, MemoryFailure, Mode, None, OfProgram, Ok, Option, Outgoing, PlainReport, Question, Quit, Reaction, Reacts, ReadFailure, Ready, Reason, RepliesAt, RepliesFrom, RepliesIn, Reply, Resume, Retreat, Situation, SliceOutcome, Some, Start, Step, Stop, Stopped, Went, WrittenJoins, [], ap, arith, at, end_of, faults, for_thread, goal_of, goes_back, has_come, has_no_memory, inl, inr, is_due, is_some, is_spent, lacks_memory, last_due, launched, length, nothing, only_orders, or_else, refl, refused, reply_of, situation, step_mark, stop_at, subject_in, subst, suc, sym, takes_all, unwrap_or, zero, ℕ, ◌++◌, ◌<◌, ◌∙◌, ◌∷◌, ◌≡◌, ◌≤◌, ◌⊎◌, back_if, due, if◌then◌else◌, option_map_or, ◌-◌}
+use Rattle.dap_history.proofs.Common.{Accepted, Block, Body, Breakpoint, Causes, Command, Configuration, Configuring, Content, Effect, EndsBy, Fault, Faulted, GoesBackBy, History, InputEnd, Inspects, IsAfter, IsSome, IsStopped, Item, Launch, Launched, Launches, Loaded, MemoryFailure, Mode, None, OfProgram, Ok, Option, Outgoing, PlainReport, Question, Reaction, Reacts, ReadFailure, Reason, RepliesAt, RepliesFrom, RepliesIn, Reply, Resume, Retreat, Situation, SliceOutcome, Some, Start, Step, Stopped, Went, WrittenJoins, [], ap, arith, at, end_of, for_thread, goal_of, goes_back, inl, inr, is_some, last_due, launched, nothing, or_else, refl, refused, reply_of, situation, step_mark, stop_at, subject_in, subst, suc, sym, unwrap_or, zero, ℕ, ◌++◌, ◌∙◌, ◌∷◌, ◌≡◌, ◌≤◌, ◌⊎◌, back_if}
 use Rattle.std.proofs.Common.{List, Bool, true, false}
 use Rattle.std.specs.Prelude.{Result}
 use Rattle.dap_msg.specs.declared.question.Question.TheVariants as question
 use Rattle.dap_msg.specs.declared.question.Shown.{Shown}
 use Rattle.dap_msg.specs.declared.outgoing.Refusal.{Refusal}
 use Rattle.dap_msg.specs.declared.command.Command.TheVariants as command
-use Rattle.dap_msg.specs.declared.command.CommandName.TheVariants as name
-use Rattle.dap_msg.specs.declared.command.Supported.TheVariants as supported
-use Rattle.dap_msg.specs.declared.outgoing.Outgoing.TheVariants.{Answer}
 use Rattle.dap_msg.specs.declared.outgoing.Refusal.TheVariants as refusal
 use Rattle.pl0_meaning.specs.Laws.{RunsHaveNoGaps}
-use Rattle.pl0_machine.specs.Machine.{frames_of}
-use Rattle.dbg_plan.specs.declared.mode.Mode.TheVariants as mode
-use Rattle.dbg_runner.specs.declared.outcome.SliceOutcome.TheVariants as slice
-use Rattle.dbg_runner.specs.Lawful.{RunsAt, is_over as is_ended, is_held}
+use Rattle.dbg_runner.specs.Lawful.{RunsAt}
 use Rattle.dap_history.specs.Readings.{position}
 use Rattle.dap_history.specs.Laws.{IsPlain, IsPlainItem, EachItemLeads}
 use Rattle.dap_history.proofs.Readings.{situation-snoc, position-snoc, launched-snoc}
@@ -29,54 +23,32 @@ use Rattle.dap_history.proofs.Progress.{report_program}
 use Rattle.dap_history.proofs.Passing.{Ran}
 use Rattle.dap_history.proofs.Stopping.{ran_more, ran_first}
 use Rattle.dap_history.proofs.Lines.{step_of, answering, launching, same_step}
+use Rattle.std.proofs.lemmas.Grind.{common_steps}
 
 -- ---- where a report ends the program runs
 
 -- a position that is due lies below
 last_due_below : (main : Block) (bs : List Breakpoint) (n m : ℕ) → last_due main bs n ≡ Some m → m ≤ n
 last_due_below main bs zero m is = absurd cc
-last_due_below main bs (suc n) m is = by_test (is_some (due main bs 0 mode.Continue n)) is (last_due_below main bs n m)
-  where
-    by_test : (there : Bool) → (if there then Some n else last_due main bs n) ≡ Some m
-        → (last_due main bs n ≡ Some m → m ≤ n) → m ≤ suc n
-    by_test true is below = let same : n ≡ m = cc in omega (arith, same)
-    by_test false is below = let lower = below is in omega (arith, lower)
+last_due_below main bs (suc n) m is = grind (arith, common_steps, is_some, last_due_below main bs n m) steps 200000
 
 stop_below : (n : ℕ) (o : Option ℕ) → ((m : ℕ) → o ≡ Some m → m ≤ n) → (stop_at o).position ≤ n
-stop_below n None below = omega arith
-stop_below n (Some m) below = below m refl
+stop_below n o below = grind (arith, common_steps) steps 200000
 
 -- going back leads no further
 pub goal_below : (main : Block) (bs : List Breakpoint) (m : Mode) (n e : ℕ) (why : Reason)
     → goal_of main bs m n ≡ Some (record { position = e; reason = why }) → e ≤ n
-goal_below main bs mode.StepBack n e why is =
-    let there : n - 1 ≡ e = ap (λ o. option_map_or (λ (s : Stop). s.position) o 0) is in omega (arith, there)
-goal_below main bs mode.Reverse n e why is =
-    let there : (stop_at (last_due main bs n)).position ≡ e =
-    ap (λ o. option_map_or (λ (s : Stop). s.position) o 0) is in
-    subst (λ k. k ≤ n) there (stop_below n (last_due main bs n) (last_due_below main bs n))
-goal_below main bs _ n e why is = absurd cc
+goal_below main bs m n e why is = grind (arith, common_steps, stop_below, last_due_below) steps 200000
 
 runs_some : (main : Block) (n : ℕ) (o : Option Configuration) → at main n ≡ o → RunsAt main n → IsSome (at main n)
-runs_some main n (Some c) is runs = ap is_some is
-runs_some main n None is runs = absurd (let e = subst (λ o. 0 < length (frames_of o)) is runs in omega (arith, e))
+runs_some main n o is runs = grind (arith, common_steps, is_some) steps 200000
 
 module _ (main : Block) (r : PlainReport) (no_gaps : RunsHaveNoGaps) where
   ends_alive : (e : SliceOutcome) → EndsBy main r e → IsSome (at main r.end)
-  ends_alive slice.More (takes_all spent undue runs) = runs_some main r.end (at main r.end) refl runs
-  ends_alive (slice.Due why) (is_due on there runs) = runs_some main r.end (at main r.end) refl runs
-  ends_alive slice.Done (is_ended on there) = ap is_some there
-  ends_alive (slice.Fault fault) (faults early passed fails runs) = runs_some main r.end (at main r.end) refl runs
-  ends_alive slice.Held (is_held stays runs) = runs_some main r.end (at main r.end) refl runs
-  ends_alive slice.NoMemory (lacks_memory stays runs) = runs_some main r.end (at main r.end) refl runs
+  ends_alive e is = grind (arith, common_steps, runs_some, at, is_some) steps 200000
 
   back_below : (e : SliceOutcome) → GoesBackBy main r e → r.end ≤ r.start
-  back_below slice.More (is_spent stays spent) = omega (arith, stays)
-  back_below (slice.Due why) (has_come comes) = goal_below main r.plan r.mode r.start r.end why comes
-  back_below slice.NoMemory (has_no_memory stays) = omega (arith, stays)
-  back_below slice.Held by = elim by [ ]
-  back_below slice.Done by = elim by [ ]
-  back_below (slice.Fault fault) by = elim by [ ]
+  back_below e by = grind (arith, common_steps, goal_below) steps 200000
 
   went_alive : (b : Bool) → Went main r (back_if b) → IsSome (at main r.end)
   went_alive false went = ends_alive r.outcome went.outcome
@@ -92,17 +64,10 @@ EarlyOr s step = IsEarly (unwrap_or (step_mark step) s) ⊎ ((l : Launched) × (
 
 calm_early : (past : History) (s : Situation) (seq : ℕ) (asked : Command) (b : Body) → IsEarly s
     → IsCalm past s asked b → EarlyOr s (answering seq asked (Ok b) nothing)
-calm_early past s seq (command.Initialize a) b early calm = inl tt
-calm_early past s seq (command.SetBreakpoints a) b early calm = inl early
-calm_early past s seq command.Threads b early calm = inl early
-calm_early past s seq (command.Pause a) b early calm = inl early
-calm_early past s seq (command.Inspect q) b early calm = inl early
-calm_early past s seq _ b early calm = absurd calm
+calm_early past s seq asked b early calm = grind (arith, common_steps) steps 200000
 
 standing_late : (s : Situation) → IsStopped s → ¬ IsEarly s
-standing_late Stopped stands early = early
-standing_late Faulted stands early = early
-standing_late _ stands early = stands
+standing_late s stands early = grind (arith, common_steps) steps 200000
 
 reaction_early : (past : History) (seq : ℕ) → launched past ≡ None → {s : Situation} {asked : Command}
     {reaction : Reaction} → IsEarly s → Reacted past s asked reaction
@@ -123,32 +88,18 @@ launch_early s launch (Some text) reply early (inr is) = rw is.reply_is (inr (_,
 
 item_early : (past : History) (item : Item) (step : Step) → step.item ≡ item → IsTaken IsLawfulEvent past item
     → Causes past item step → launched past ≡ None → IsEarly (situation past) → EarlyOr (situation past) step
-item_early past (Content None) step item_is taken is none early =
-    rw (same_step step (Content None) None nothing item_is is.answer_is is.effect_is) (inl early)
 item_early past (Content (Some request)) step item_is taken is none early =
     subst (EarlyOr (situation past)) (sym (same_step step _ _ is.0.effect item_is is.2.answer_is is.2.effect_is))
     (by_reaction (λ (r : Reply). EarlyOr (situation past) (answering request.seq request.body r.result r.effect)) (λ
     reaction reacted. reaction_early past request.seq none early reacted) is.1)
-item_early past (Loaded launch file) step item_is taken is none early =
-    rw (same_step step (Loaded launch file) (Some (Answer launch.seq (name.Supported supported.Launch) is.0.result))
-    is.0.effect item_is is.2.answer_is is.2.effect_is) (launch_early (situation past) launch file is.0 early is.1)
-item_early past (Accepted r) step item_is taken is none early = absurd (subst IsEarly taken.0.running early)
-item_early past (Fault k) step item_is taken is none early =
-    rw (same_step step (Fault k) None nothing item_is is.answer_is is.effect_is) (inl early)
-item_early past InputEnd step item_is taken is none early =
-    rw (same_step step InputEnd None (only_orders (Quit ∷ [])) item_is is.answer_is is.effect_is) (inl early)
-item_early past ReadFailure step item_is taken is none early =
-    rw (same_step step ReadFailure None (only_orders (Quit ∷ [])) item_is is.answer_is is.effect_is) (inl early)
-item_early past MemoryFailure step item_is taken is none early =
-    rw (same_step step MemoryFailure None nothing item_is is.answer_is is.effect_is) (inl early)
+item_early past item step item_is taken is none early =
+    grind (arith, common_steps, same_step, nothing, launch_early) steps 200000
 
 -- ---- along a history
 
 -- a situation is early, or not
 early_or_late : (s : Situation) → IsEarly s ⊎ ¬ IsEarly s
-early_or_late Fresh = inl tt
-early_or_late Ready = inl tt
-early_or_late _ = inr (λ x. x)
+early_or_late s = grind (arith, common_steps) steps 200000
 
 -- a program is launched
 abbrev pub IsLaunched : History → Type 0
@@ -254,11 +205,10 @@ module _ (one : OneProgram) (joins : WrittenJoins) (no_gaps : RunsHaveNoGaps) wh
 
       at_program : IsLaunched past → (reaction : Reaction) × Inspects past asked reaction
       at_program there =
-          let a = at_some there.0 (at there.0.program (position past)) (here.alive there.0 there.1) in (
+          let a = at_some there.0 _ (here.alive there.0 there.1) in (
             reaction_with a.0,
-            reaction_there past asked a.0
-                (of_program there.0 there.1 (λ l. RepliesAt (subject_in past l) (at l.program
-                (position past)) asked a.0) a.1),
+            reaction_there past asked a.0 (of_program there.0 there.1 (λ l. RepliesAt (subject_in past
+                l) (at l.program (position past)) asked a.0) a.1),
           )
 
     asked_there : (q : Question) → IsPlain (command.Inspect q) → IsLaunched past

@@ -1,6 +1,6 @@
 -- Each line of a granted `setBreakpoints` is answered from the program, in the client's own counting.
-use Rattle.dap_history.proofs.Common.{FirstSeq, Accepted, At, BadCondition, BadHitCondition, BadLogMessage, Block, Body, Breakpoint, BreakpointAnswer, Causes, Command, Content, Fresh, GiveBreakpoints, History, Incoming, InitializeArguments, IsHistoryOf, IsResolved, IsResolvedTo, Item, Launched, Loaded, NoStep, None, Ok, Option, Reaction, RepliesIn, Reply, Resolution, Rest, SetBreakpointsArguments, Situation, Some, SourceBreakpoint, Step, StepAt, [], after_step, answer_to_line, ap, arith, asked_as, get_or, inl, inr, item_leads, launched, length, less_by, line_offset, offset, option_map_or, refl, reply_of, settings, settings_by, situation, slice_get, step_from, steps, stop_in, subst, sym, unwrap_or, ℕ, ◌++◌, ◌<◌, ◌∙◌, ◌∷◌, ◌≡◌, ◌≤◌, ◌⊎◌}
-use Rattle.std.proofs.Common.{List, map, Bool, true, false}
+use Rattle.dap_history.proofs.Common.{FirstSeq, At, Block, Body, Breakpoint, BreakpointAnswer, Causes, Command, Content, Fresh, GiveBreakpoints, History, Incoming, InitializeArguments, IsHistoryOf, IsResolved, IsResolvedTo, Item, Launched, None, Ok, Option, Reaction, RepliesIn, Reply, Resolution, Rest, SetBreakpointsArguments, Situation, Some, SourceBreakpoint, Step, StepAt, [], answer_to_line, ap, arith, asked_as, get_or, inl, inr, item_leads, launched, length, less_by, line_offset, offset, option_map_or, refl, reply_of, settings, settings_by, situation, slice_get, step_from, steps, stop_in, subst, sym, unwrap_or, ℕ, ◌++◌, ◌<◌, ◌∙◌, ◌∷◌, ◌≡◌, ◌≤◌, ◌⊎◌}
+use Rattle.std.proofs.Common.{List, map, Bool}
 use Rattle.std.specs.List.{position, position_or_len}
 use Rattle.std.proofs.lemmas.Grind.{common_steps}
 use Rattle.std.proofs.lemmas.Option.{slice_get_cases}
@@ -30,8 +30,7 @@ abbrev pub IsCounted : History → Type 0
 IsCounted past = (situation past ≡ Fresh) ⊎ IsInitializedBy past (settings past)
 
 pub offset_is : (b : Bool) → offset b ≡ less_by b
-offset_is true = refl
-offset_is false = refl
+offset_is _ = refl
 
 module _ (past : History) (step : Step) (taken : IsTaken Any past step.item) (causes : Causes past step.item step) where
   settings_after : (o : Option InitializeArguments) → settings_by step.item step.answer ≡ o
@@ -52,25 +51,17 @@ module _ (past : History) (step : Step) (taken : IsTaken Any past step.item) (ca
   stays_fresh : (item : Item) → step.item ≡ item → IsTaken Any past item → Causes past item step
       → settings_by item step.answer ≡ None → situation past ≡ Fresh
       → item_leads item step.answer (stop_in step) Fresh ≡ Fresh
-  stays_fresh (Content (Some request)) item_is taken_ is none fresh =
-      grind (arith, common_steps, item_leads) steps 1500000
-  stays_fresh (Loaded launch file) item_is ready is none fresh = let e = sym ready ∙ fresh in absurd cc
-  stays_fresh (Accepted r) item_is accepted is none fresh = let e = sym accepted.0.running ∙ fresh in absurd cc
-  stays_fresh _ item_is taken_ is none fresh = refl
+  stays_fresh item item_is taken_ is none fresh = grind (arith, common_steps, item_leads, steps) steps 200000
 
   counted_more : IsCounted past → IsCounted (past ++ step ∷ [])
   counted_more here = by_says (settings_by step.item step.answer) refl here
     where
       by_says : (o : Option InitializeArguments) → settings_by step.item step.answer ≡ o → IsCounted past
           → IsCounted (past ++ step ∷ [])
-      by_says (Some a) says here =
-          inr (subst (IsInitializedBy (past ++ step ∷ [])) (sym (settings_after (Some a) says))
-          (begins_to_count step.item refl causes a says))
-      by_says None none (inr was) =
-          inr (subst (IsInitializedBy (past ++ step ∷ [])) (sym (settings_after None none)) (counts_on was))
+      by_says (Some a) says here = inr (rw (settings_after _ says) (begins_to_count step.item refl causes a says))
+      by_says None none (inr was) = inr (rw (settings_after None none) (counts_on was))
       by_says None none (inl fresh) =
-          inl (step_leads past step taken causes ∙ ap (λ s. after_step s step) fresh
-          ∙ stays_fresh step.item refl taken causes none fresh)
+          inl (cc (step_leads past step taken causes, stays_fresh step.item refl taken causes none fresh))
 
 pub counted_kept : IsKept Any IsCounted
 counted_kept = grind (arith, common_steps, counted_more) steps 1500000
@@ -90,9 +81,7 @@ module _ (main : Block) (less : ℕ) where
           ⊎ ((length (steps main) ≤ i) × (slice_get (steps main) i ≡ None))
           → (s : StepAt) × (slice_get (steps main) i ≡ Some s)
       by_cases (inl there) = (there.0, there.2)
-      by_cases (inr past_) =
-          let within = inside _ (steps main) i is in
-          let beyond = past_.0 in absurd (omega (arith, within, beyond))
+      by_cases (inr past_) = grind (arith, common_steps, inside, steps) steps 200000
 
   line_at : (i : ℕ) (s : StepAt) → slice_get (steps main) i ≡ Some s → step_line main i ≡ s.place.line
   line_at i s is = ap (λ o. option_map_or (λ (x : StepAt). x.place.line) o 0) is
@@ -101,24 +90,16 @@ module _ (main : Block) (less : ℕ) where
     answers_line : (r : Resolution) (mine : List Breakpoint) → IsResolvedTo main (asked_as less b) r mine
         → AnswersLine main less b (answer_to_line main less r)
     answers_line (At n) mine is = grind (arith, common_steps, step_there, line_at) steps 1500000
-    answers_line NoStep mine is = is.0
-    answers_line BadCondition mine is = is.1
-    answers_line BadHitCondition mine is = (is.2.0, is.2.1, is.2.2, is.1)
-    answers_line BadLogMessage mine is = (is.2.0, is.2.1, is.2.2, is.1, is.2.3)
+    answers_line r mine is = grind (arith, common_steps) steps 200000
 
     gives_line : (r : Resolution) (mine : List Breakpoint) → IsResolvedTo main (asked_as less b) r mine
         → GivesBreakpoint main less b (answer_to_line main less r) mine
-    gives_line (At n) mine is = grind (arith, common_steps) steps 1500000
-    gives_line NoStep mine is = is.1
-    gives_line BadCondition mine is = is.0
-    gives_line BadHitCondition mine is = is.0
-    gives_line BadLogMessage mine is = is.0
+    gives_line r mine is = grind (arith, common_steps, steps) steps 200000
 
   -- the breakpoints of lines
   pub give_lines : (lines : List SourceBreakpoint) (answers : List Resolution) (bs : List Breakpoint)
       → IsResolved main less lines answers bs
       → GiveBreakpoints main less lines (map (answer_to_line main less) answers) bs
-  give_lines [] [] bs are = are
   give_lines (b ∷ lines) (r ∷ answers) bs are = (
     are.0,
     are.1,
@@ -127,17 +108,14 @@ module _ (main : Block) (less : ℕ) where
     gives_line b r are.0 are.3,
     give_lines lines answers are.1 are.4,
   )
-  give_lines [] (r ∷ answers) bs are = absurd are
-  give_lines (b ∷ lines) [] bs are = absurd are
+  give_lines lines answers bs are = grind (arith, common_steps) steps 200000
 
   answers_lines : (lines : List SourceBreakpoint) (answers : List Resolution) (bs : List Breakpoint)
       → IsResolved main less lines answers bs
       → AnswersLines main less lines (map (answer_to_line main less) answers)
-  answers_lines [] [] bs are = tt
   answers_lines (b ∷ lines) (r ∷ answers) bs are =
       (answers_line b r are.0 are.3, answers_lines lines answers are.1 are.4)
-  answers_lines [] (r ∷ answers) bs are = absurd are
-  answers_lines (b ∷ lines) [] bs are = absurd are
+  answers_lines lines answers bs are = grind (arith, common_steps) steps 200000
 
 -- what a granted `setBreakpoints` is answered with
 record AnswersSet (past : History) (asked : SetBreakpointsArguments) (reply : Reply) : Type 0 where
@@ -161,8 +139,7 @@ reaction_answers past _ a b asks granted = absurd cc
 -- lines are set after `initialize`
 not_fresh : (s : Situation) (past : History) (a : SetBreakpointsArguments) (reply : Reply) (b : Body)
     → RepliesIn s past (command.SetBreakpoints a) reply → reply.result ≡ Ok b → ¬ (s ≡ Fresh)
-not_fresh Fresh past a reply b is granted fresh = grind (arith, common_steps, replied) steps 1500000
-not_fresh _ past a reply b is granted fresh = absurd cc
+not_fresh s past a reply b is granted fresh = grind (arith, common_steps, replied, steps) steps 200000
 
 -- ---- the law
 
@@ -181,8 +158,7 @@ module _ (f : FirstSeq) (events : List Incoming) (past : History) (rest : Rest)
   counted_before before step after past_is = (each_counted.each before step after past_is).held
 
 pub counts_so : (past : History) → ¬ (situation past ≡ Fresh) → IsCounted past → IsInitializedBy past (settings past)
-counts_so past not (inl fresh) = absurd (not fresh)
-counts_so past not (inr is) = is
+counts_so past not is = grind (arith, common_steps) steps 200000
 
 pub lines_answered : LinesAreAnswered
 lines_answered f events past rest history before step after request asked past_is granted asked_is = (

@@ -1,5 +1,5 @@
 -- Each run is under the breakpoints of the lines that were set last, and counts from where they were set.
-use Rattle.dap_history.proofs.Common.{FirstSeq, Accepted, Accepts, AreLawful, Body, Breakpoint, Causes, Command, Configuring, Content, Effect, Event, Fault, Faulted, Fresh, Go, Heading, History, Hold, Incoming, InitializeArguments, InputEnd, IsHistoryOf, IsResolved, IsStopped, Item, Launch, Launched, Launches, Loaded, MemoryFailure, Mode, None, Ok, Option, Orders, Outgoing, PlainOrder, PlainReport, Plan, Quit, Reaction, ReadFailure, Ready, Reason, Refusal, Reply, Resolution, Rest, Running, SetBreakpointsArguments, Situation, SliceOutcome, Some, SourceBreakpoint, Step, Stopped, ThreadArguments, WrittenJoins, [], ap, effect_in, end_of, enters, from_next, go, goes_back, held_effect, if◌then◌else◌, inl, inr, is_back, is_same_path, is_some, last_run, last_such, launched, launches, line_offset, message_mark, name_of, no_plan, nothing, offset, only_orders, option_map_or, or_else, plan, put_in_at, refl, refused, reply_of, reply_with, report_effect, resumes, run_in, runs, settings, settings_by, situation, starts_by, step_mark, subst, sym, unwrap_or, waiting_pause, waiting_plan, waits_by, ℕ, ◌++◌, ◌||◌, ◌∙◌, ◌∷◌, ◌≡◌, answer_to_line, Ended, body_of, exception_of, exited_events, hold_once, order_mark, stop_of, stopped_events}
+use Rattle.dap_history.proofs.Common.{FirstSeq, Accepted, Accepts, AreLawful, Body, Breakpoint, Causes, Command, Configuring, Content, Effect, Event, Fault, Faulted, Fresh, Go, Heading, History, Hold, Incoming, InitializeArguments, InputEnd, IsHistoryOf, IsResolved, IsStopped, Item, Launch, Launched, Launches, Loaded, MemoryFailure, Mode, None, Ok, Option, Orders, Outgoing, PlainOrder, PlainReport, Plan, Quit, Reaction, ReadFailure, Ready, Reason, Refusal, Reply, Resolution, Rest, Running, SetBreakpointsArguments, Situation, SliceOutcome, Some, SourceBreakpoint, Step, Stopped, ThreadArguments, WrittenJoins, [], ap, effect_in, end_of, enters, from_next, go, goes_back, held_effect, if◌then◌else◌, inl, inr, is_back, is_same_path, is_some, last_run, last_such, launched, launches, line_offset, message_mark, name_of, no_plan, nothing, offset, only_orders, option_map_or, or_else, plan, put_in_at, refl, refused, reply_of, reply_with, report_effect, resumes, run_in, runs, settings, settings_by, situation, starts_by, step_mark, subst, sym, unwrap_or, waiting_pause, waiting_plan, waits_by, ℕ, ◌++◌, ◌||◌, ◌∙◌, ◌∷◌, ◌≡◌, answer_to_line, body_of}
 use Rattle.std.proofs.Common.{List, Bool, true, false, Result, arith}
 use Rattle.std.specs.Prelude.{map, option_map}
 use Rattle.dap_msg.specs.declared.command.Command.TheVariants as command
@@ -17,8 +17,8 @@ use Rattle.dap_history.proofs.Along.{IsTaken, IsKept, IsLawfulEvent, lawful_even
 use Rattle.dap_history.proofs.Each.{WasTaken, EachTaken, each_kept, each_first}
 use Rattle.dap_history.proofs.Early.{IsEarly}
 use Rattle.dap_history.proofs.Told.{mark_of_logs, stop_marks}
-use Rattle.dap_history.proofs.Silent.{all_silent, first_at}
-use Rattle.dap_history.proofs.Reacted.{IsCalm, Reacted, by_refusing, by_answering, by_setting, by_starting, by_resuming, by_ending, by_retreating, by_interrupting, by_closing, by_reaction}
+use Rattle.dap_history.proofs.Silent.{all_silent}
+use Rattle.dap_history.proofs.Reacted.{IsCalm, Reacted, by_answering, by_setting, by_starting, by_resuming, by_ending, by_retreating, by_interrupting, by_reaction}
 use Rattle.dap_history.proofs.Outputs.{outputs_mark, report_launches, outputs_unmarked}
 use Rattle.dap_history.proofs.Passing.{Ran, loaded_orders}
 use Rattle.dap_history.proofs.Stopping.{ran_more, ran_first}
@@ -27,7 +27,6 @@ use Rattle.dap_history.proofs.Once.{ordered_last}
 use Rattle.dap_history.proofs.Asked.{no_go_in, no_go_held}
 use Rattle.dap_history.proofs.LineAnswers.{offset_is, give_lines, counts_so, counted_now, counted_before}
 use Rattle.std.proofs.lemmas.Grind.{common_steps}
-use Rattle.dap_msg.specs.declared.outgoing.StopReason.TheVariants as stop
 
 -- ---- what is read of a history in which this program is launched
 
@@ -40,9 +39,7 @@ AreOfLines l less (Some lines) breakpoints =
 -- as the laws spell it
 spelled : (l : Launched) (counting : InitializeArguments) (lines : Option (List SourceBreakpoint))
     (bs : List Breakpoint) → AreOfLines l (offset counting.lines_start_at_1) lines bs → AreSpelled l counting lines bs
-spelled l counting None bs is = is
-spelled l counting (Some lines) bs is =
-    rw (← (offset_is counting.lines_start_at_1)) (map _ is.0, give_lines l.program _ lines is.0 bs is.1)
+spelled l counting lines bs is = grind (arith, common_steps, offset_is, give_lines) steps 200000
 
 record View : Type 0 where
   settings : InitializeArguments
@@ -133,9 +130,7 @@ answering seq asked result effect =
 
 pub same_step : (step : Step) (item : Item) (answer : Option Outgoing) (effect : Effect) → step.item ≡ item
     → step.answer ≡ answer → step.effect ≡ effect → step ≡ step_of item answer effect
-same_step step item answer effect a b c =
-    ap (λ i. step_of i step.answer step.effect) a ∙ ap (λ x. step_of item x step.effect) b
-    ∙ ap (λ e. step_of item answer e) c
+same_step step item answer effect a b c = grind (arith, common_steps) steps 200000
 
 -- ---- replies
 
@@ -147,43 +142,28 @@ IsGoing _ = ⊥
 
 module _ (l : Launched) (v : View) where
   stands_there : (s : Situation) → IsStopped s → Planned l s v → Stands l v
-  stands_there Stopped stands here = here
-  stands_there Faulted stands here = here
-  stands_there _ stands here = absurd stands
+  stands_there s stands here = grind (arith, common_steps) steps 200000
 
   -- a run is ordered where the program stands
   goes_planned : (seq : ℕ) (asked : Command) → IsGoing asked → (b : Body) (s : Situation) (run : Heading)
       → run.counted_from ≡ v.now.counted_from → Stands l v → After l s
       (answering seq asked (Ok b) (only_orders (Go run ∷ []))) v
-  goes_planned seq (command.Resume k a) going b s run counted here = (here.0, run, refl, sym counted, refl)
-  goes_planned seq (command.Retreat k a) going b s run counted here = (here.0, run, refl, sym counted, refl)
-  goes_planned seq _ going b s run counted here = absurd going
+  goes_planned seq asked going b s run counted here = grind (arith, common_steps) steps 200000
 
   other_lines : (s : Situation) (bs : List SourceBreakpoint) (same : Bool) → same ≡ false → Planned l s v
       → Planned l s (view_of v.settings (or_else (if same then Some bs else None) v.lines) v.now v.waits v.last v.here
       (unwrap_or (option_map (λ (lines : List SourceBreakpoint). true) (if same then Some bs else None)) v.anew))
-  other_lines s bs false is here = here
-  other_lines s bs true is here = absurd cc
+  other_lines s bs same is here = grind (arith, common_steps) steps 200000
 
   -- a command that has no effect
   calm_planned : (past : History) (seq : ℕ) (s : Situation) (asked : Command) (b : Body) → launched past ≡ Some l
       → IsCalm past s asked b → Planned l s v → After l s (answering seq asked (Ok b) nothing) v
-  calm_planned past seq s (command.Initialize a) b there calm here = tt
-  calm_planned past seq s (command.SetBreakpoints a) b there calm here =
-      let same : calm.0 ≡ l = let e = sym calm.1 ∙ there in cc in
-      other_lines s a.breakpoints (is_same_path a.path l.path)
-      (ap (λ (k : Launched). is_same_path a.path k.path) (sym same) ∙ calm.2)
-      here
-  calm_planned past seq s command.Threads b there calm here = here
-  calm_planned past seq s (command.Pause a) b there calm here = here
-  calm_planned past seq s (command.Inspect q) b there calm here = here
-  calm_planned past seq s _ b there calm here = absurd calm
+  calm_planned past seq s asked b there calm here = grind (arith, common_steps, other_lines) steps 200000
 
   -- a pause, which may hold the run
   pause_planned : (seq n : ℕ) (a : ThreadArguments) (t : Bool) → Planned l Running v
       → After l Running (answering seq (command.Pause a) (Ok body.None) (only_orders (if t then [] else Hold n ∷ []))) v
-  pause_planned seq n a true here = here
-  pause_planned seq n a false here = here
+  pause_planned seq n a t here = grind (arith, common_steps) steps 200000
 
   -- lines that are set
   module _ (seq : ℕ) (a : SetBreakpointsArguments) (same : is_same_path a.path l.path ≡ true) (b : Body)
@@ -205,27 +185,18 @@ module _ (l : Launched) (v : View) where
     sets_running : (n : ℕ) (t : Bool) → Planned l Running v → After l Running
         (answering seq (command.SetBreakpoints a) (Ok b)
         (record nothing { waits = Some bs; orders = if t then [] else Hold n ∷ [] })) v
-    sets_running n true here = waits_planned here
-    sets_running n false here = waits_planned here
+    sets_running n t here = grind (arith, common_steps, waits_planned) steps 200000
 
     sets_planned : (past : History) (s : Situation) → position past ≡ v.here → Planned l s v
         → After l s (answering seq (command.SetBreakpoints a) (Ok b) (effect_in s past bs)) v
-    sets_planned past Configuring stands here = rw same (are, refl, here.2)
-    sets_planned past Stopped stands here = rw same (are, cc)
-    sets_planned past Faulted stands here = rw same (are, cc)
-    sets_planned past Running stands here = sets_running (runs past) (is_held past || is_back past) here
-    sets_planned past _ stands here = tt
+    sets_planned past s stands here = grind (arith, common_steps, sets_running, runs) steps 200000
 
   -- the program is started
   begins_planned : (past : History) (seq : ℕ) (l' : Launched) (why : Option Reason) → plan past ≡ v.now
       → Planned l Configuring v → After l Configuring
       (answering seq command.ConfigurationDone (Ok body.None) (enters past l' why)) v
-  begins_planned past seq l' None plan_is here = (here.0, _, refl, cc, refl)
-  begins_planned past seq l' (Some r) plan_is here =
-      subst (λ o. Planned l (unwrap_or (or_else o None) Configuring)
-      (next l (answering seq command.ConfigurationDone (Ok body.None) (enters past l' (Some r))) v))
-      (sym (mark_of_logs (plan past).breakpoints (first_at past l') (stopped_events (stop_of r)) ∙ stop_marks r))
-      (here.0, here.1 ∙ ap (λ o. next_counted (goes_back_last o) o v.here) (sym here.2))
+  begins_planned past seq l' why plan_is here =
+      grind (arith, common_steps, enters, mark_of_logs, stop_marks) steps 200000
 
 -- what holds where the program l is launched, after a reply
 module _ (past : History) (l : Launched) (there : launched past ≡ Some l) (seq : ℕ) where
@@ -238,7 +209,6 @@ module _ (past : History) (l : Launched) (there : launched past ≡ Some l) (seq
 
   reaction_planned : {s : Situation} {asked : Command} {reaction : Reaction} → Reacted past s asked reaction
       → s ≡ situation past → Planned l s (view l past) → Replied s asked (reply_of past reaction)
-  reaction_planned (by_refusing s asked why) is here = here
   reaction_planned (by_answering s asked b calm) is here = calm_planned l _ past seq s asked b there calm here
   reaction_planned (by_setting s a k found bs there' path_is resolved) is here =
       let one = same_program k there' in
@@ -258,7 +228,7 @@ module _ (past : History) (l : Launched) (there : launched past ≡ Some l) (seq
       goes_planned l (view l past) seq (command.Retreat kind a) tt body.None s _ refl
       (stands_there l (view l past) s stands here)
   reaction_planned (by_interrupting a) is here = pause_planned l _ seq (runs past) a (is_held past || is_back past) here
-  reaction_planned (by_closing s) is here = here
+  reaction_planned _ is here = here
 
 -- ---- reports
 
@@ -266,18 +236,13 @@ module _ (past : History) (l : Launched) (there : launched past ≡ Some l) (seq
 lines_put : (back : Bool) (n : ℕ) (waits : Option (List Breakpoint)) (now : Plan)
     → (unwrap_or (if back then Some (from_next n (unwrap_or waits now.breakpoints)) else put_in_at n waits)
     now).breakpoints ≡ unwrap_or waits now.breakpoints
-lines_put true n waits now = refl
-lines_put false n None now = refl
-lines_put false n (Some bs) now = refl
+lines_put back n waits now = grind (arith, common_steps) steps 200000
 
 counted_put : (back : Bool) (n : ℕ) (waits : Option (List Breakpoint)) (now : Plan) (run : Heading)
     → now.counted_from ≡ run.counted_from
     → (unwrap_or (if back then Some (from_next n (unwrap_or waits now.breakpoints)) else put_in_at n waits)
     now).counted_from ≡ next_counted (is_some waits || back) (Some run) n
-counted_put true n None now run is = refl
-counted_put true n (Some bs) now run is = refl
-counted_put false n None now run is = is
-counted_put false n (Some bs) now run is = refl
+counted_put back n waits now run is = grind (arith, common_steps) steps 200000
 
 module _ (past : History) (r : PlainReport) (accepts : Accepts past r) (l : Launched)
     (here : Planned l Running (view l past)) where
@@ -288,11 +253,7 @@ module _ (past : History) (r : PlainReport) (accepts : Accepts past r) (l : Laun
   are_put = rw (lines_put (goes_back r.mode) r.end (waiting_plan past) (plan past)) here.0
 
   put_counts : plan_put.counted_from ≡ next_counted (are_anew l.path past || is_back past) (last_run past) r.end
-  put_counts =
-      counted_put (goes_back r.mode) r.end (waiting_plan past) (plan past) here.1 here.3
-      ∙ ap (λ b. next_counted (is_some (waiting_plan past) || b) (Some here.1) r.end) (sym (is_back_is past r accepts))
-      ∙ ap (λ a. next_counted (a || is_back past) (Some here.1) r.end) here.4
-      ∙ ap (λ o. next_counted (are_anew l.path past || is_back past) o r.end) (sym here.2)
+  put_counts = grind (arith, common_steps, counted_put, is_some, is_back_is) steps 200000
 
   abbrev Reported : SliceOutcome → Effect → Type 0
   Reported e effect = After l Running (step_of (Accepted r) None effect) (view l past)
@@ -301,27 +262,20 @@ module _ (past : History) (r : PlainReport) (accepts : Accepts past r) (l : Laun
   by_mark : (e : SliceOutcome) (effect : Effect) (m : Option Situation) → effect.orders ≡ []
       → last_such message_mark (map Event effect.events) ≡ m
       → Planned l (unwrap_or m Running) (next l (step_of (Accepted r) None effect) (view l past)) → Reported e effect
-  by_mark e effect m none is planned =
-      subst (λ o. Planned l (unwrap_or o Running) (next l (step_of (Accepted r) None effect) (view l past)))
-      (sym (ap (λ os. or_else (last_such order_mark os) (last_such message_mark (map Event effect.events))) none ∙ is))
-      planned
+  by_mark e effect m none is planned = grind (arith, common_steps) steps 200000
 
   held_planned : (pauses : Bool) → Reported slice.Held (held_effect past r pauses)
   held_planned true = by_mark slice.Held (held_effect past r true) _ refl (outputs_mark past r _) (are_put, put_counts)
   held_planned false = (are_put, _, refl, refl, refl)
 
   report_planned : (e : SliceOutcome) → Reported e (report_effect past r e)
-  report_planned slice.More =
-      by_mark slice.More (report_effect past r slice.More) None refl (outputs_unmarked past r) here
+  report_planned slice.More = grind (arith, common_steps, by_mark, outputs_unmarked) steps 200000
   report_planned (slice.Due why) =
-      by_mark (slice.Due why) (report_effect past r (slice.Due why)) (Some Stopped) refl
-      (outputs_mark past r (stopped_events (stop_of why)) ∙ stop_marks why) (are_put, put_counts)
+      grind (arith, common_steps, by_mark, outputs_mark, stop_marks, are_put, put_counts) steps 200000
   report_planned slice.Held = held_planned (waiting_pause past)
-  report_planned slice.Done =
-      by_mark slice.Done (report_effect past r slice.Done) (Some Ended) refl (outputs_mark past r (exited_events 0)) tt
+  report_planned slice.Done = grind (arith, common_steps, by_mark, outputs_mark) steps 200000
   report_planned (slice.Fault fault) =
-      by_mark (slice.Fault fault) (report_effect past r (slice.Fault fault)) (Some Faulted) refl
-      (outputs_mark past r (stopped_events (stop.Exception (exception_of fault)))) (are_put, put_counts)
+      grind (arith, common_steps, by_mark, outputs_mark, are_put, put_counts) steps 200000
   report_planned slice.NoMemory = here
 
 -- ---- before a launch
@@ -337,11 +291,7 @@ record SetsNone (step : Step) : Type 0 where
   put_in : step.effect.put_in ≡ None
 
 unset_more : (past : History) (step : Step) → SetsNone step → Unset past → Unset (past ++ step ∷ [])
-unset_more past step none here = record {
-  lines = λ path. lines_set-snoc path past step ∙ ap (λ o. or_else o (lines_set path past)) (none.lines path)
-      ∙ here.lines path;
-  plan_is = plan-snoc past step ∙ ap (λ o. unwrap_or o (plan past)) none.put_in ∙ here.plan_is;
-}
+unset_more past step none here = grind (arith, common_steps, lines_set-snoc, plan-snoc) steps 200000
 
 module _ (past : History) (none : launched past ≡ None) where
   not_launched : (l : Launched) → ¬ (launched past ≡ Some l)
@@ -349,12 +299,7 @@ module _ (past : History) (none : launched past ≡ None) where
 
   calm_none : (path : List ℕ) (s : Situation) (asked : Command) (b : Body) → IsCalm past s asked b
       → lines_at path asked ≡ None
-  calm_none path s (command.SetBreakpoints a) b calm = absurd (not_launched calm.0 calm.1)
-  calm_none path s (command.Pause a) b calm = refl
-  calm_none path s (command.Initialize a) b calm = refl
-  calm_none path s command.Threads b calm = refl
-  calm_none path s (command.Inspect q) b calm = refl
-  calm_none path s _ b calm = absurd calm
+  calm_none path s asked b calm = grind (arith, common_steps, not_launched) steps 200000
 
   reaction_none : (seq : ℕ) {s : Situation} {asked : Command} {reaction : Reaction} → Reacted past s asked reaction
       → SetsNone (answering seq asked (reply_of past reaction).result (reply_of past reaction).effect)
@@ -401,8 +346,7 @@ module _ (one : OneProgram) (joins : WrittenJoins) where
       → After l (situation past) (step_of item None (only_orders orders)) (view l past)) → Kept past
       → Both (past ++ step_of item None effect ∷ [])
   aside past item orders lines effect is after here =
-      subst (λ e. Both (past ++ step_of item None e ∷ [])) (sym is)
-      (still past (step_of item None (only_orders orders)) refl (λ none. record { lines = lines; put_in = refl })
+      rw is (still past (step_of item None (only_orders orders)) refl (λ none. record { lines = lines; put_in = refl })
       (λ l there. after l (here.planned l there)) here)
 
   launch_both : (past : History) (launch : Launch) (file : Option (List ℕ)) (reply : Reply) → situation past ≡ Ready
@@ -415,11 +359,7 @@ module _ (one : OneProgram) (joins : WrittenJoins) where
 
       refused_so : (file : Option (List ℕ)) (why : Refusal) → reply ≡ refused why
           → Both (past ++ launching launch file reply ∷ [])
-      refused_so file why is =
-          subst (λ r. Both (past ++ launching launch file r ∷ [])) (sym is)
-          (still past (launching launch file (refused why)) refl
-          (λ none. record { lines = λ path. refl; put_in = refl })
-          (λ l there. absurd (not_launched past not_yet l there)) here)
+      refused_so file why is = grind (arith, common_steps, still, refused, not_launched) steps 200000
 
       by_file : (file : Option (List ℕ)) → Launches launch.arguments file reply
           → Both (past ++ launching launch file reply ∷ [])
@@ -458,8 +398,7 @@ module _ (one : OneProgram) (joins : WrittenJoins) where
       request.seq) is.1) (λ l there. by_reaction (Replied past l there request.seq (situation past) request.body) (λ
       reaction reacted. reaction_planned past l there request.seq reacted refl (here.planned l there)) is.1) here)
   both_more past (Loaded launch file) step item_is taken is here =
-      rw (same_step step (Loaded launch file) (Some (Answer launch.seq (name.Supported supported.Launch) is.0.result))
-      is.0.effect item_is is.2.answer_is is.2.effect_is) (launch_both past launch file is.0 taken is.1 here)
+      rw (same_step step _ _ _ item_is is.2.answer_is is.2.effect_is) (launch_both past launch file _ taken is.1 here)
   both_more past (Accepted r) step item_is taken is here =
       rw (same_step step (Accepted r) None (report_effect past r r.outcome) item_is is.answer_is is.effect_is) (still
       past (step_of (Accepted r) None (report_effect past r r.outcome)) (report_launches past r r.outcome) (λ none.
@@ -513,9 +452,7 @@ module _ (one : OneProgram) (joins : WrittenJoins) where
 
   not_a_start : (seq : ℕ) (asked : Command) (b : Body) → IsGoing asked
       → starts_by (Some (Answer seq (name_of asked) (Ok b))) ≡ false
-  not_a_start seq (command.Resume k a) b going = refl
-  not_a_start seq (command.Retreat k a) b going = refl
-  not_a_start seq _ b going = absurd going
+  not_a_start seq asked b going = grind (arith, common_steps) steps 200000
 
   -- a run from where the program stands
   from_there : (past : History) (l : Launched) (seq : ℕ) (asked : Command) (b : Body) (m : Mode)
@@ -527,12 +464,8 @@ module _ (one : OneProgram) (joins : WrittenJoins) where
       → Planned l Configuring (view l past) → (run : Heading) → last_such go (enters past l why).orders ≡ Some run
       → RunsSo past (Some (Answer seq (name_of command.ConfigurationDone) (Ok body.None))) run
   begins_so past l seq None there planned run goes =
-      let same = ap (λ o. unwrap_or o run) goes in (
-        l,
-        there,
-        subst (AreOfLines l (line_offset past) (lines_set l.path past)) (ap (λ (h : Heading). h.plan) same) planned.0,
-        ap (λ (h : Heading). h.counted_from) (sym same) ∙ planned.1,
-      )
+      let same = ap (λ o. unwrap_or o run) goes in
+      (l, there, rw (← (ap (λ (h : Heading). h.plan) same)) planned.0, cc planned.1)
   begins_so past l seq (Some r) there planned run goes = absurd cc
 
   -- a reply that orders no run
@@ -544,10 +477,6 @@ module _ (one : OneProgram) (joins : WrittenJoins) where
       → Reacted past s asked reaction → s ≡ situation past → (run : Heading)
       → last_such go (reply_of past reaction).effect.orders ≡ Some run
       → RunsSo past (Some (Answer seq (name_of asked) (reply_of past reaction).result)) run
-  reaction_so past here seq (by_setting s a l found bs there path_is resolved) is run goes =
-      none_so past (Some (Answer seq (name_of (command.SetBreakpoints a))
-      (Ok (body.Breakpoints (map (answer_to_line l.program (line_offset past)) found))))) run
-      (effect_in (situation past) past bs).orders _ refl (no_go_in (situation past) past bs) goes
   reaction_so past here seq (by_starting l there) is run goes =
       begins_so past l seq _ there (subst (λ s. Planned l s (view l past)) (sym is) (here.planned l there)) run goes
   reaction_so past here seq (by_resuming kind a l there) is run goes =
@@ -556,19 +485,13 @@ module _ (one : OneProgram) (joins : WrittenJoins) where
   reaction_so past here seq (by_retreating s kind a l stands there) is run goes =
       from_there past l seq (command.Retreat kind a) body.None _ there tt (stands_there l (view l past) s stands (rw is
       (here.planned l there))) run goes
-  reaction_so past here seq (by_interrupting a) is run goes =
-      none_so past (Some (Answer seq (name_of (command.Pause a)) (Ok body.None))) run (hold_once past) _ refl
-      (no_go_held past) goes
-  reaction_so past here seq _ is run goes = absurd cc
+  reaction_so past here seq it is run goes = grind (arith, common_steps, none_so, no_go_in, no_go_held) steps 200000
 
   -- a run that follows one that was held
   held_so : (past : History) (r : PlainReport) → Accepts past r → (l : Launched) → launched past ≡ Some l
       → Planned l Running (view l past) → (e : SliceOutcome) (run : Heading)
       → last_such go (report_effect past r e).orders ≡ Some run → RunsSo past None run
-  held_so past r accepts l there planned slice.Held run goes =
-      grind (arith, common_steps, go, true, false, are_put, put_counts) steps 200000
-  held_so past r accepts l there planned slice.More run goes = absurd cc
-  held_so past r accepts l there planned _ run goes = absurd cc
+  held_so past r accepts l there planned e run goes = grind (arith, common_steps, go, are_put, put_counts) steps 200000
 
   report_so : (past : History) (r : PlainReport) → Accepts past r → Kept past → (o : Option Launched)
       → launched past ≡ o → (run : Heading) → last_such go (report_effect past r r.outcome).orders ≡ Some run
@@ -585,13 +508,9 @@ module _ (one : OneProgram) (joins : WrittenJoins) where
       rw is.2.answer_is (by_reaction (λ (r : Reply). last_such go r.effect.orders ≡ Some run → RunsSo past (Some (Answer
       request.seq (name_of request.body) r.result)) run) (λ reaction reacted goes. reaction_so past here request.seq
       reacted refl run goes) is.1 (cc is.2.effect_is))
-  item_so past (Loaded launch file) step taken is here run goes =
-      none_so past step.answer run step.effect.orders _ (ap (λ (e : Effect). e.orders) is.2.effect_is)
-      (loaded_orders launch file is.0 is.1) goes
   item_so past (Accepted r) step taken is here run goes =
       rw is.answer_is (report_so past r taken.0 here (launched past) refl run (cc is.effect_is))
-  item_so past _ step taken is here run goes =
-      none_so past step.answer run step.effect.orders _ (ap (λ (e : Effect). e.orders) is.effect_is) refl goes
+  item_so past item step taken is here run goes = grind (arith, common_steps, none_so, loaded_orders) steps 200000
 
   module _ (f : FirstSeq) (events : List Incoming) (past : History) (rest : Rest) (lawful : AreLawful events)
       (history : IsHistoryOf f events past rest) (before : History) (step : Step) (after : History) (run : Heading)
@@ -609,8 +528,7 @@ module _ (one : OneProgram) (joins : WrittenJoins) where
 
   -- nothing is launched in Fresh
   not_fresh : (past : History) → Kept past → (l : Launched) → launched past ≡ Some l → ¬ (situation past ≡ Fresh)
-  not_fresh past here l there fresh =
-      let none = here.ran.so_far.early (subst IsEarly (sym fresh) tt) in let e = sym there ∙ none in cc
+  not_fresh past here l there fresh = grind (arith, common_steps) steps 200000
 
   pub has_its_lines : EachRunHasItsLines
   has_its_lines f events past rest lawful history before step after past_is run orders =
@@ -635,10 +553,7 @@ module _ (one : OneProgram) (joins : WrittenJoins) where
 
   in_force : (l : Launched) (v : View) (s : Situation) → HasDebuggee s → Planned l s v
       → AreOfLines l (less v) v.lines v.now.breakpoints × (s ≡ Configuring → v.now.counted_from ≡ 0)
-  in_force l v Configuring has planned = (planned.0, λ is. planned.1)
-  in_force l v Stopped has planned = (planned.0, λ is. absurd cc)
-  in_force l v Faulted has planned = (planned.0, λ is. absurd cc)
-  in_force l v _ has planned = absurd has
+  in_force l v s has planned = grind (arith, common_steps) steps 200000
 
   pub plan_of_lines : PlanIsOfLines
   plan_of_lines f events past rest lawful history has l there = (

@@ -1,10 +1,10 @@
 -- The logs reported are those of the positions considered.
-use Rattle.dap_history.proofs.Common.{Accepted, Accepts, Block, Breakpoint, Causes, EndsBy, Heading, History, Incoming, IsLawfulReport, Launched, LogsAreSaid, None, PlainReport, SliceOutcome, Some, Step, Went, WentOn, WrittenJoins, [], all_runs, ap, append-nil, arith, at, cases_lt, end_in, faults, filter_map, flat_map, flat_map-append, go, goes_back, if◌then◌else◌, is_due, lacks_memory, launched, logs_told, range_with_len, refl, run_end, run_texts, runs, subst, sym, takes_all, text_of_log, ℕ, ◌++◌, ◌+◌, ◌-◌, ◌<◌, ◌∙◌, ◌∷◌, ◌≡◌, back_if, inl, inr, unwrap_or, ◌⊎◌}
-use Rattle.std.proofs.Common.{List, Bool, true, false, append_assoc}
+use Rattle.dap_history.proofs.Common.{Accepted, Accepts, Block, Breakpoint, Causes, EndsBy, Heading, History, Incoming, IsLawfulReport, Launched, LogsAreSaid, None, PlainReport, SliceOutcome, Some, Step, Went, WentOn, WrittenJoins, [], all_runs, ap, append-nil, arith, at, cases_lt, end_in, faults, filter_map, flat_map, flat_map-append, go, if◌then◌else◌, is_due, lacks_memory, launched, logs_told, range_with_len, refl, run_end, run_texts, runs, subst, sym, takes_all, text_of_log, ℕ, ◌++◌, ◌+◌, ◌-◌, ◌<◌, ◌∙◌, ◌∷◌, ◌≡◌, back_if}
+use Rattle.std.proofs.Common.{List, Bool, false, append_assoc}
 use Rattle.std.specs.Prelude.{map, ◌&&◌}
 use Rattle.std.specs.List.{enumerate_from}
 use Rattle.dbg_plan.specs.Due.{is_hit, arrives_in, accepts, arrivals}
-use Rattle.dbg_plan.specs.Logs.{log_at, logs as position_logs}
+use Rattle.dbg_plan.specs.Logs.{log_at}
 use Rattle.dbg_runner.specs.declared.outcome.SliceOutcome.TheVariants as slice
 use Rattle.dbg_runner.specs.Lawful.{is_over, is_held, logs_in}
 use Rattle.dap_history.specs.Considered.{texts_at}
@@ -50,21 +50,14 @@ module _ (main : Block) (r : PlainReport) where
       (omega (arith, below, last))).silent)) ∙ append-nil _ ∙ ap texts_in_run last
 
   nothing_after : r.end ≡ r.start → after_start ≡ []
-  nothing_after stays =
-      let none : r.end - r.start ≡ 0 = omega (arith, stays) in
-      ap (λ k. flat_map texts_in_run (range_with_len (r.start + 1) k)) none
+  nothing_after stays = grind (arith, common_steps, flat_map, range_with_len) steps 200000
 
   by_outcome : WentOn main r → (e : SliceOutcome) → EndsBy main r e
       → after_start ≡ map (text_of_log r.plan) (logs_told main r e)
-  by_outcome went slice.More (takes_all spent undue runs) = last_alone went (moved spent)
-    where
-      moved : (r.end ≡ r.start + 256) ⊎ ((r.start < r.end) × (¬ (logs_in main r r.end ≡ []))) → r.start < r.end
-      moved (inl all) = omega (arith, all)
-      moved (inr some) = some.0
+  by_outcome went slice.More (takes_all spent undue runs) = grind (arith, common_steps, last_alone) steps 200000
   by_outcome went (slice.Due reason) (is_due moved due runs) = last_alone went moved
   by_outcome went slice.Held (is_held stays runs) = nothing_after stays
-  by_outcome went slice.Done (is_over moved over) =
-      last_alone went moved ∙ ap (map (text_of_log r.plan)) (over_unlogged main r.plan r.counted_from r.end 0 over)
+  by_outcome went slice.Done (is_over moved over) = cc (last_alone went moved, over_unlogged main _ _ _ 0 over)
   by_outcome went (slice.Fault fault) (faults early passed fails runs) =
       grind (arith, common_steps, cases_lt, nothing_after, last_alone, map) steps 200000
   by_outcome went slice.NoMemory (lacks_memory stays runs) = nothing_after stays
@@ -95,24 +88,12 @@ aside_same past step none (run ∷ rs) = (cc (run_end-snoc past step run, none r
 later_same : (past : History) (step : Step) (r : PlainReport) → step.item ≡ Accepted r → (rs : List Heading)
     → AreBelow r.run rs → SameEnds past step rs
 later_same past step r is [] below = tt
-later_same past step r is (run ∷ rs) below = (
-  run_end-snoc past step run
-      ∙ ap (λ i. unwrap_or (end_in run.run i) (run_end past run)) is
-      ∙ ap (λ o. unwrap_or o (run_end past run))
-      (if_other r.run run.run (Some r.end) (λ same. let less = below.0 in omega (arith, same, less))),
-  later_same past step r is rs below.1,
-)
+later_same past step r is (run ∷ rs) below =
+    grind (arith, common_steps, run_end-snoc, if_other, later_same past step r is rs below.1) steps 200000
 
 -- a run that begins has logged nothing
 none_yet : (l : Launched) (past : History) (run : Heading) → run_end past run ≡ run.start → run_texts l past run ≡ []
-none_yet l past run begins = by_mode (goes_back run.mode)
-  where
-    by_mode : (b : Bool) → flat_map (texts_at l run.plan run.counted_from)
-        (if b then [] else range_with_len (run.start + 1) (run_end past run - run.start)) ≡ []
-    by_mode true = refl
-    by_mode false =
-        let none : run_end past run - run.start ≡ 0 = omega (arith, begins) in
-        ap (λ n. flat_map (texts_at l run.plan run.counted_from) (range_with_len (run.start + 1) n)) none
+none_yet l past run begins = grind (arith, common_steps, flat_map, range_with_len) steps 200000
 
 module _ (Q : Incoming → Type 0) (past : History) (step : Step) (taken : IsTaken Q past step.item)
     (causes : Causes past step.item step) (counted : Counted past) (l : Launched) where
@@ -152,10 +133,7 @@ module _ (one : OneProgram) (joins : WrittenJoins) (said : LogsAreSaid) where
 
     -- what positions log in the run is what they log for the report
     run_is : texts ≡ texts_in_run lawful.program r
-    run_is =
-        sym (ap (λ (h : Heading). texts_at l h.plan h.counted_from) accepts.expected)
-        ∙ (λ i. λ m. sym (said l.program r.plan r.counted_from m) i)
-        ∙ ap (λ (p : Block). λ m. map (text_of_log r.plan) (position_logs p r.plan r.counted_from m)) (sym same_program)
+    run_is = grind (arith, common_steps, same_program) steps 200000
 
     stood : run_end past run ≡ r.start
     stood = counted.stands run accepts.run_is ∙ sym (starts_here one joins past r accepts lawful ran l is)
@@ -184,17 +162,11 @@ module _ (one : OneProgram) (joins : WrittenJoins) (said : LogsAreSaid) where
     texts_by b n = flat_map texts (if b then [] else range_with_len (run.start + 1) (n - run.start))
 
     by_went : (b : Bool) → Went lawful.program r (back_if b) → texts_by b r.end ≡ texts_by b r.start ++ told_texts r
-    by_went false went = going_on_adds_texts went
-    by_went true went = sym (ap (map (text_of_log r.plan)) went.logs)
+    by_went b went = grind (arith, common_steps, going_on_adds_texts) steps 200000
 
     -- the run has logged what the report tells
     run_more : run_texts l (past ++ step ∷ []) run ≡ run_texts l past run ++ told_texts r
-    run_more =
-        let mode = ap (λ (h : Heading). goes_back h.mode) accepts.expected in
-        ap (texts_by (goes_back run.mode)) comes
-        ∙ subst (λ b. texts_by b r.end ≡ texts_by b r.start ++ told_texts r) mode
-        (by_went (goes_back r.mode) lawful.lawful.went)
-        ∙ ap (λ n. texts_by (goes_back run.mode) n ++ told_texts r) (sym stood)
+    run_more = grind (arith, common_steps, comes, by_went, stood) steps 200000
 
     pub report_texts_more : flat_map (run_texts l (past ++ step ∷ [])) (all_runs past) ≡ flat_map (run_texts l past)
         (all_runs past) ++ told_texts r

@@ -1,5 +1,5 @@
 -- The logs reported are those of the positions considered, step by step.
-use Rattle.dap_history.proofs.Common.{Accepted, Causes, Content, Effect, EventBody, Fault, HasEffect, Heading, History, InputEnd, Item, Launch, Launched, Launches, Loaded, LogsAreSaid, MemoryFailure, None, Option, PlainOrder, PlainReport, ReadFailure, Ready, Reply, Some, Step, WrittenJoins, [], all_runs, ap, append-nil, before_start, end_in, filter_map-append, flat_map, go, inl, inr, last_run, launched, log_of, log_texts, messages, messages_of, or_else, orders_of, refl, run_texts, situation, starts_by, subst, sym, ℕ, ◌++◌, ◌∙◌, ◌∷◌, ◌≡◌, ◌⊎◌}
+use Rattle.dap_history.proofs.Common.{Accepted, Causes, Content, Effect, EventBody, HasEffect, Heading, History, Item, Launch, Launched, Launches, Loaded, LogsAreSaid, None, Option, PlainOrder, PlainReport, Ready, Reply, Some, Step, WrittenJoins, [], all_runs, ap, append-nil, before_start, end_in, filter_map-append, flat_map, go, inl, inr, last_run, launched, log_of, log_texts, messages, messages_of, or_else, orders_of, refl, run_texts, situation, starts_by, subst, sym, ℕ, ◌++◌, ◌∙◌, ◌∷◌, ◌≡◌, ◌⊎◌}
 use Rattle.std.proofs.Common.{List, Bool, true, false, append_assoc}
 use Rattle.dap_history.specs.Considered.{first_texts, logged}
 use Rattle.dap_history.specs.Laws.{LogsAreOfPositions, StopsFollowLogs}
@@ -7,7 +7,7 @@ use Rattle.dap_history.proofs.Readings.{messages_of-snoc, launched-snoc}
 use Rattle.dap_history.proofs.Along.{IsTaken, IsKept, IsLawfulEvent, lawful_events, along}
 use Rattle.dap_history.proofs.Each.{each_kept, each_first}
 use Rattle.dap_history.proofs.Told.{texts_in, texts_of_logs}
-use Rattle.dap_history.proofs.Silent.{LogsBy, no_logs, logs_first, all_silent}
+use Rattle.dap_history.proofs.Silent.{LogsBy, all_silent}
 use Rattle.dap_history.proofs.Outputs.{answer_unlogged, no_answer_unlogged, told_texts, report_texts, report_launches}
 use Rattle.dap_history.proofs.Went.{nothing_told}
 use Rattle.dap_history.proofs.Texts.{OneProgram}
@@ -36,11 +36,7 @@ item_texts _ = []
 
 by_logs : LogsAreSaid → (past : History) (events : List EventBody) (b : Bool) (l : Option Launched) → launched past ≡ l
     → LogsBy (situation past) past events b → texts_in events ≡ start_texts b l past
-by_logs said past events false l is (no_logs none) = none
-by_logs said past events true None is (logs_first k more configuring there events_are none) =
-    absurd (let e = sym is ∙ there in cc)
-by_logs said past events true (Some l) is (logs_first k more configuring there events_are none) =
-    grind (arith, common_steps, texts_of_logs, append-nil) steps 1500000
+by_logs said past events b l is here = grind (arith, common_steps, texts_of_logs, append-nil) steps 200000
 
 unlogged : (past : History) (step : Step) (effect : Effect) (l : Option Launched) → HasEffect effect step
     → texts_in effect.events ≡ [] → log_texts (messages step) ≡ start_texts (starts_by step.answer) l past
@@ -48,9 +44,7 @@ unlogged past step effect l has none = grind (arith, common_steps, no_answer_unl
 
 launch_texts : (launch : Launch) (file : Option (List ℕ)) (reply : Reply) → Launches launch.arguments file reply
     → texts_in reply.effect.events ≡ []
-launch_texts launch None reply is = ap (λ (r : Reply). texts_in r.effect.events) is
-launch_texts launch (Some text) reply (inl is) = ap (λ (r : Reply). texts_in r.effect.events) is.reply_is
-launch_texts launch (Some text) reply (inr is) = ap (λ (r : Reply). texts_in r.effect.events) is.reply_is
+launch_texts launch file reply is = grind (arith, common_steps) steps 200000
 
 no_start : (b : Bool) (l : Option Launched) (past : History) (step : Step) → StartsBy past step b
     → situation past ≡ Ready → start_texts b l past ≡ []
@@ -61,39 +55,27 @@ no_start true l past step (starts_here k configuring there effect_is leads) read
 step_texts : LogsAreSaid → (past : History) (item : Item) (step : Step) (l : Option Launched) → launched past ≡ l
     → IsTaken IsLawfulEvent past item → Causes past item step
     → log_texts (messages step) ≡ start_texts (starts_by step.answer) l past ++ item_texts item
-step_texts said past (Content None) step l is taken causes = unlogged past step _ l causes refl ∙ sym (append-nil _)
 step_texts said past (Content (Some request)) step l is taken causes =
     grind (arith, common_steps, answer_unlogged, by_logs, all_silent, append-nil) steps 1500000
 step_texts said past (Loaded launch file) step l is ready causes =
     grind (arith, common_steps, answer_unlogged, launch_texts, no_start, whether_starts, append-nil) steps 1500000
 step_texts said past (Accepted r) step l is taken causes =
     grind (arith, common_steps, no_answer_unlogged, report_texts, nothing_told) steps 1500000
-step_texts said past (Fault k) step l is taken causes = unlogged past step _ l causes refl ∙ sym (append-nil _)
-step_texts said past InputEnd step l is taken causes = unlogged past step _ l causes refl ∙ sym (append-nil _)
-step_texts said past ReadFailure step l is taken causes = unlogged past step _ l causes refl ∙ sym (append-nil _)
-step_texts said past MemoryFailure step l is taken causes = unlogged past step _ l causes refl ∙ sym (append-nil _)
+step_texts said past _ step l is taken causes = unlogged past step _ l causes refl ∙ sym (append-nil _)
 
 -- ---- what is launched
 
 launches_once : (past : History) (item : Item) (step : Step) (l : Launched) → Progress past → launched past ≡ Some l
     → IsTaken IsLawfulEvent past item → Causes past item step → step.effect.launched ≡ None
-launches_once past (Content None) step l so_far is taken causes = ap (λ (e : Effect). e.launched) causes.effect_is
-launches_once past (Content (Some request)) step l so_far is taken causes =
-    grind (arith, common_steps, all_silent) steps 1500000
-launches_once past (Loaded launch file) step l so_far is ready causes = grind (arith, common_steps) steps 1500000
-launches_once past (Accepted r) step l so_far is taken causes = cc (causes.effect_is, report_launches past r r.outcome)
-launches_once past (Fault k) step l so_far is taken causes = ap (λ (e : Effect). e.launched) causes.effect_is
-launches_once past InputEnd step l so_far is taken causes = ap (λ (e : Effect). e.launched) causes.effect_is
-launches_once past ReadFailure step l so_far is taken causes = ap (λ (e : Effect). e.launched) causes.effect_is
-launches_once past MemoryFailure step l so_far is taken causes = ap (λ (e : Effect). e.launched) causes.effect_is
+launches_once past item step l so_far is taken causes =
+    grind (arith, common_steps, all_silent, report_launches) steps 200000
 
 -- a report, or an item that reports of no run
 abbrev Reports : Item → Type 0
 Reports item = ((r : PlainReport) × (item ≡ Accepted r)) ⊎ (((n : ℕ) → end_in n item ≡ None) × (item_texts item ≡ []))
 
 reports_or_not : (item : Item) → Reports item
-reports_or_not (Accepted r) = inl (r, refl)
-reports_or_not _ = inr ((λ n. refl), refl)
+reports_or_not item = grind (arith, common_steps) steps 200000
 
 logs-snoc : (past : History) (step : Step) → log_texts (messages_of (past ++ step ∷ [])) ≡ log_texts (messages_of past)
     ++ log_texts (messages step)
@@ -131,17 +113,13 @@ module _ (one : OneProgram) (joins : WrittenJoins) (said : LogsAreSaid) where
     starts_none true (starts_here l configuring there effect_is leads) none = absurd (let e = sym none ∙ there in cc)
 
     unlaunched_more : launched past ≡ None → before_start new ≡ None
-    unlaunched_more none =
-        start_is ∙ ap (λ o. or_else o (here_if (starts_by step.answer) past)) (so_far.unlaunched none)
-        ∙ starts_none (starts_by step.answer) starts none
+    unlaunched_more none = grind (arith, common_steps, start_is, starts_none, starts) steps 200000
 
     none_texts : (b : Bool) → start_texts b None past ≡ []
-    none_texts true = refl
-    none_texts false = refl
+    none_texts b = grind (arith, common_steps) steps 200000
 
     item_none : (item : Item) → IsTaken IsLawfulEvent past item → last_run past ≡ None → item_texts item ≡ []
-    item_none (Accepted r) taken none = absurd (let e = sym none ∙ taken.0.run_is in cc)
-    item_none _ taken none = refl
+    item_none item taken none = grind (arith, common_steps) steps 200000
 
     none_told : launched past ≡ None → log_texts (messages_of new) ≡ []
     none_told is =
@@ -210,30 +188,25 @@ module _ (one : OneProgram) (joins : WrittenJoins) (said : LogsAreSaid) where
           let i = item_texts step.item in
           logs-snoc past step
           ∙ ap (λ ts. ts ++ log_texts (messages step)) (so_far.told (Some l) is)
-          ∙ ap (λ ts. (first_before ++ runs_before) ++ ts)
-          (step_texts said past step.item step (Some l) is taken causes)
-          ∙ shuffle first_before runs_before s i (apart (starts_by step.answer) starts)
-          ∙ ap (λ ts. ts ++ (runs_before ++ i))
-          (sym (ap (first_texts l) start_is ∙ first_more (starts_by step.answer) starts))
+          ∙ ap (λ ts. (first_before ++ runs_before) ++ ts) (step_texts said past step.item step _ is taken causes)
+          ∙ shuffle first_before runs_before s i (apart _ starts)
+          ∙ ap (λ ts. ts ++ (runs_before ++ i)) (sym (ap (first_texts l) start_is ∙ first_more _ starts))
           ∙ ap (λ ts. first_texts l (before_start new) ++ ts) (sym (runs_more (reports_or_not step.item)))
         where
           shuffle : (f r s i : List (List ℕ)) → r ++ s ≡ s ++ r → (f ++ r) ++ (s ++ i) ≡ (f ++ s) ++ (r ++ i)
           shuffle f r s i commute =
-              append_assoc f r (s ++ i)
-              ∙ ap (λ ts. f ++ ts) (sym (append_assoc r s i) ∙ ap (λ ts. ts ++ i) commute ∙ append_assoc s r i)
-              ∙ sym (append_assoc f s (r ++ i))
+              cc (append_assoc f r (s ++ i), append_assoc r s i, append_assoc s r i, append_assoc f s (r ++ i))
 
     told_more : (before : Option Launched) → launched past ≡ before → (l : Option Launched) → launched new ≡ l
         → ToldOf new l
-    told_more None is None there = none_told is
-    told_more None is (Some l) there = first_told l is
-    told_more (Some k) is None there = grind (arith, common_steps, launched-snoc, launches_once) steps 1500000
     told_more (Some k) is (Some l) there =
         let same : k ≡ l =
         let e = sym is ∙ sym (ap (λ o. or_else o (launched past))
         (launches_once past step.item step k so_far.ran.so_far is taken causes)) ∙ sym (launched-snoc past step)
         ∙ there in cc in
         told_on l (is ∙ ap Some same)
+    told_more before is l there =
+        grind (arith, common_steps, none_told, first_told, launched-snoc, launches_once) steps 200000
 
     pub logging_more : Logging new
     logging_more =

@@ -1,8 +1,9 @@
 -- A text reads as one list of parts.
 use Rattle.dap_history.proofs.Common.{AtMostOne, Expression, [], ap, refl, subst, sym, ℕ, ◌++◌, ◌∙◌, ◌∷◌, ◌≡◌, ◌≢◌}
-use Rattle.std.proofs.Common.{List}
+use Rattle.std.proofs.Common.{List, arith}
 use Rattle.std.proofs.lemmas.List.Elements.{All-head, All-tail}
 use Rattle.dbg_plan.specs.Messages.{Part, Text, Value, Lacks, ReadsParts}
+use Rattle.std.proofs.lemmas.Grind.{common_steps}
 
 abbrev head_of : List ℕ → ℕ
 head_of [] = 0
@@ -33,15 +34,10 @@ not_among b (x ∷ xs) r lacks = not_among b xs r (lacks_rest b x (xs ++ b ∷ r
 
 module _ (Is : List ℕ → Expression → Type 0) (one : (text : List ℕ) → AtMostOne (Is text)) where
   pub one_parts : (text : List ℕ) (ps qs : List Part) → ReadsParts Is text ps → ReadsParts Is text qs → ps ≡ qs
-  one_parts text (Text t ∷ []) (Text u ∷ []) a b = ap (λ x. Text x ∷ []) (a.0 ∙ sym b.0)
-  one_parts text (Text t ∷ []) (Text u ∷ Value f ∷ qs) a b = absurd (not_among 123 u _ (subst (Lacks 123) b.2 a.1))
-  one_parts text (Text t ∷ Value e ∷ ps) (Text u ∷ []) a b = absurd (not_among 123 t _ (subst (Lacks 123) a.2 b.1))
   one_parts text (Text t ∷ Value e ∷ ps) (Text u ∷ Value f ∷ qs) a b =
       let front = first_split 123 t u (a.0 ++ 125 ∷ a.1) (b.0 ++ 125 ∷ b.1) a.3 b.3 (sym a.2 ∙ b.2) in
       let closed = first_split 125 a.0 b.0 a.1 b.1 a.4 b.4 front.1 in
       let value = one b.0 e f (subst (λ x. Is x e) closed.0 a.5) b.5 in
       let more = one_parts b.1 ps qs (subst (λ x. ReadsParts Is x ps) closed.1 a.6) b.6 in
       cc front.0
-  one_parts text (Text t ∷ []) _ a b = absurd b
-  one_parts text (Text t ∷ Value e ∷ ps) _ a b = absurd b
-  one_parts text _ qs a b = absurd a
+  one_parts text ps qs a b = grind (arith, common_steps, not_among) steps 200000

@@ -1,5 +1,5 @@
 -- The message numbered n is the nth.
-use Rattle.dap_history.proofs.Common.{Accepted, AreReadAs, Content, ContentsAreOfTheStream, FirstSeq, FramesAreFew, History, IsRequestFrom, Item, Loaded, None, Option, Outgoing, Request, Some, Step, [], ap, arith, filter_map, messages_of, read_as, refl, slice_get, suc, waiting, zero, ℕ, ◌++◌, ◌+◌, ◌<◌, ◌^◌, ◌∙◌, ◌∷◌, ◌≡◌, sym}
+use Rattle.dap_history.proofs.Common.{AreReadAs, Content, ContentsAreOfTheStream, FirstSeq, FramesAreFew, History, IsRequestFrom, Item, Loaded, None, Option, Outgoing, Request, Some, Step, [], ap, arith, filter_map, messages_of, read_as, refl, slice_get, suc, waiting, zero, ℕ, ◌++◌, ◌+◌, ◌<◌, ◌^◌, ◌∙◌, ◌∷◌, ◌≡◌, sym}
 use Rattle.std.proofs.Common.{List, map}
 use Rattle.std.specs.Prelude.{option_map}
 use Rattle.dap_frame.specs.Frame.{frame_of}
@@ -41,7 +41,6 @@ item_small echo f (Content (Some request)) others waits [] are = absurd are
 item_small echo f (Content (Some request)) others waits (c ∷ cs) are = (seq_small echo f c request are.0, (cs, are.1))
 item_small echo f (Loaded launch file) others waits [] are = absurd are
 item_small echo f (Loaded launch file) others waits (c ∷ cs) are = (seq_small echo f c _ are.0, (cs, are.1))
-item_small echo f (Accepted r) others waits contents are = (tt, (contents, are))
 item_small echo f _ others waits contents are = (tt, (contents, are))
 
 items_small : RequestsEcho → (f : FirstSeq) (past : History) (waits : List (Option Request)) (contents : List (List ℕ))

@@ -1,10 +1,9 @@
 -- A list of events has one history, where an item has one effect.
-use Rattle.dap_history.proofs.Common.{Accepted, Content, Err, Fault, File, FirstSeq, History, Incoming, InputEnd, IsAfter, IsInFront, IsTaking, Item, Launch, LeadsByEvent, LeadsByEvents, LeadsByFile, LeadsByPiece, LeadsByReport, LoadFault, Loaded, Loads, MayTake, MemoryFailure, NoMemory, None, Ok, Option, Piece, PlainReport, ReadFailed, ReadFailure, Report, Request, Rest, Some, Rests, Takes, TakesSome, [], ap, closed, faulty, inl, inr, no_content, one_content, open_ended, refl, situation, sym, waits, wanted_in, ℕ, ◌++◌, ◌∙◌, ◌∷◌, ◌≡◌, ◌⊎◌}
+use Rattle.dap_history.proofs.Common.{Content, Err, Fault, FirstSeq, History, Incoming, IsAfter, IsInFront, IsTaking, Item, Launch, LeadsByEvent, LeadsByEvents, LeadsByFile, LeadsByPiece, LeadsByReport, LoadFault, Loaded, Loads, MayTake, None, Ok, Option, PlainReport, Request, Rest, Some, Rests, Takes, TakesSome, [], ap, closed, faulty, inl, inr, no_content, one_content, open_ended, refl, situation, sym, waits, wanted_in, ℕ, ◌∙◌, ◌∷◌, ◌≡◌, ◌⊎◌}
 use Rattle.std.proofs.Common.{List, Result}
 use Rattle.dap_frame.specs.Laws.{FramesAreUnique, FaultsAreUnique, NeverBoth}
 use Rattle.dap_msg.specs.Laws.{OneReading}
 use Rattle.dap_history.specs.declared.fault.LoadFault.TheVariants as load_fault
-use Rattle.dap_history.specs.Events.{End}
 use Rattle.std.proofs.Common.{arith}
 use Rattle.std.proofs.lemmas.Grind.{common_steps}
 
@@ -140,34 +139,22 @@ module _ (once : IsReadOnce) where
       (new other : History) (rest left : Rest)
       → LeadsByFile first past before launch file new rest → LeadsByFile first past before launch file other left
       → Same new rest other left
-  one_file first past before None file new other rest left a b = (a.0 ∙ sym b.0, a.1 ∙ sym b.1)
   one_file first past before (Some launch) (Ok file) new other rest left a b =
       one_may_load first past before launch (Some file) new other rest left a b
   one_file first past before (Some launch) (Err load_fault.CannotRead) new other rest left a b =
       one_may_load first past before launch None new other rest left a b
-  one_file first past before (Some launch) (Err load_fault.NoMemory) new other rest left a b =
-      (one_may past MemoryFailure new other a.0 b.0, a.1 ∙ sym b.1)
+  one_file first past before launch file new other rest left a b = grind (arith, common_steps, one_may) steps 200000
 
   one_report : (past : History) (r : PlainReport) (new other : History) → LeadsByReport past r new
       → LeadsByReport past r other → new ≡ other
-  one_report past r new other (inl a) (inl b) = a.1 ∙ sym b.1
-  one_report past r new other (inl a) (inr b) = absurd (a.0 (b.0, b.1))
-  one_report past r new other (inr a) (inl b) = absurd (b.0 (a.0, a.1))
-  one_report past r new other (inr a) (inr b) = once.one_after past (Accepted r) new other a.2 b.2
+  one_report past r new other is here = grind (arith, common_steps) steps 200000
 
   one_event : (first : FirstSeq) (past : History) (before : Rest) (event : Incoming) (new other : History)
       (rest left : Rest)
       → LeadsByEvent first past before event new rest → LeadsByEvent first past before event other left
       → Same new rest other left
-  one_event first past before (Piece piece) new other rest left a b =
-      one_piece first past before.launch (before.bytes ++ piece) new other rest left a b
-  one_event first past before End new other rest left a b = (one_may past InputEnd new other a.0 b.0, a.1 ∙ sym b.1)
-  one_event first past before ReadFailed new other rest left a b =
-      (one_may past ReadFailure new other a.0 b.0, a.1 ∙ sym b.1)
-  one_event first past before NoMemory new other rest left a b =
-      (one_may past MemoryFailure new other a.0 b.0, a.1 ∙ sym b.1)
-  one_event first past before (File file) new other rest left a b = grind (arith, common_steps, one_file) steps 1500000
-  one_event first past before (Report r) new other rest left a b = (one_report past r new other a.0 b.0, a.1 ∙ sym b.1)
+  one_event first past before event new other rest left a b =
+      grind (arith, common_steps, one_piece, one_may, one_file, one_report) steps 200000
 
   pub one_history : (first : FirstSeq) (past : History) (before : Rest) (events : List Incoming) (new other : History)
       (rest left : Rest)

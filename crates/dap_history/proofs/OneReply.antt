@@ -1,10 +1,8 @@
 -- A command and a launch each have at most one reply, and so an item has at most one step.
-use Rattle.dap_history.proofs.Common.{Accepted, Answers, AreResolved, At, AtMostOne, BadCondition, BadHitCondition, BadLogMessage, Block, Breakpoint, Causes, Command, CommandName, Configuration, Configuring, Content, DivideByZero, Effect, Err, EvalFault, EvaluatesIn, Faulted, Frame, Fresh, HasConditionAt, HasEffect, HasRule, History, Inspects, InspectsAs, IsAfter, IsResolvedTo, IsTreeOf, Item, LaunchArguments, Launched, Launches, Loaded, NoStep, None, OfProgram, Ok, Option, Overflow, Path, Question, Reaction, Reacts, ReadsConditionAt, ReadsMessageAt, ReadsRule, Ready, RepliesAt, RepliesFrom, RepliesIn, Reply, Resolution, Resume, Retreat, SetBreakpointsArguments, SetsOf, Situation, Some, SourceBreakpoint, Start, Step, Stopped, Subject, [], ap, arith, at, for_thread, get_or, inl, inr, refl, refused, reply_of, result_answer, situation, step_from, subst, sym, value, ℕ, ∥∥₁_elim, ◌<◌, ◌^◌, ◌∙◌, ◌∷◌, ◌≡◌, is_same_path, launched, SetBreakpoints, answer_to_line, asked_as, line_offset, subject_in, ◌++◌}
+use Rattle.dap_history.proofs.Common.{Answers, AreResolved, At, AtMostOne, BadCondition, BadHitCondition, BadLogMessage, Block, Breakpoint, Causes, Command, CommandName, Configuration, Configuring, Content, Effect, EvalFault, EvaluatesIn, Faulted, Frame, Fresh, HasConditionAt, HasEffect, HasRule, History, Inspects, InspectsAs, IsAfter, IsResolvedTo, IsTreeOf, Item, LaunchArguments, Launched, Launches, NoStep, None, OfProgram, Option, Path, Question, Reaction, Reacts, ReadsConditionAt, ReadsMessageAt, ReadsRule, Ready, RepliesAt, RepliesFrom, RepliesIn, Reply, Resolution, Resume, Retreat, SetBreakpointsArguments, SetsOf, Situation, Some, SourceBreakpoint, Start, Step, Stopped, Subject, [], ap, arith, at, for_thread, get_or, inl, inr, refl, refused, reply_of, situation, step_from, subst, sym, value, ℕ, ∥∥₁_elim, ◌<◌, ◌^◌, ◌∙◌, ◌∷◌, ◌≡◌, is_same_path}
 use Rattle.std.proofs.Common.{Bool, true, false, ℤ, List, Result}
-use Rattle.std.specs.Prelude.{map}
 use Rattle.std.specs.Fmt.{decimal}
 use Rattle.std.proofs.lemmas.Fmt.{decimal_injective, first_decimal}
-use Rattle.dap_msg.specs.declared.question.Question.TheVariants as question
 use Rattle.dap_msg.specs.declared.question.Shown.{Shown}
 use Rattle.dap_msg.specs.declared.outgoing.Refusal.{Refusal}
 use Rattle.dap_msg.specs.declared.command.Command.TheVariants as command
@@ -12,17 +10,15 @@ use Rattle.pl0_tree.specs.Steps.{step_path}
 use Rattle.pl0_tree.specs.Faults.{IsFirstFault, IsConditionOf, IsExpressionOf}
 use Rattle.pl0_syntax.specs.Laws.{OneFault, FaultExcludesTrees}
 use Rattle.dbg_plan.specs.declared.breakpoint.Rule.{Rule}
-use Rattle.dbg_plan.specs.declared.breakpoint.Rule.TheVariants.{From, Every}
 use Rattle.dbg_plan.specs.Messages.{Message}
 use Rattle.dbg_plan.specs.Resolutions.{AskedLine, HasMessageAt, IsBreakpointOf}
 use Rattle.dbg_plan.specs.Values.{answered as evaluated}
 use Rattle.dbg_plan.specs.Breakpoints.{TextCondition}
-use Rattle.dap_history.specs.Readings.{position}
 use Rattle.dap_history.specs.Reactions.{Resolves, Sets}
 use Rattle.dap_history.proofs.Texts.{one_program}
 use Rattle.dap_history.proofs.MessageParts.{one_parts}
-use Rattle.dap_history.proofs.Questions.{inspects_there, reaction_with}
-use Rattle.dap_history.specs.Launching.{syntax}
+use Rattle.dap_history.proofs.Questions.{inspects_there}
+use Rattle.std.proofs.lemmas.Grind.{common_steps}
 
 -- a text reads in one way, or has one first fault; so does an editor's
 pub record IsTextOnce : Type 0 where
@@ -52,56 +48,32 @@ not_empty_decimal k some fits is =
     let at = ap (λ t. get_or t 0 0) is in
     omega (arith, first, at)
 
-abbrev tail_of : List ℕ → List ℕ
-tail_of [] = []
-tail_of (x ∷ xs) = xs
-
 one_rule : (text : List ℕ) (a b : Option Rule) → ReadsRule text a → ReadsRule text b → a ≡ b
-one_rule text None None x y = refl
-one_rule text None (Some (From k)) x y = absurd (not_empty_decimal k y.1 y.2 (sym x ∙ y.0))
-one_rule text None (Some (Every k)) x y = absurd (let e = sym x ∙ y.0 in cc)
-one_rule text (Some (From k)) None x y = absurd (not_empty_decimal k x.1 x.2 (sym y ∙ x.0))
-one_rule text (Some (Every k)) None x y = absurd (let e = sym y ∙ x.0 in cc)
-one_rule text (Some (From j)) (Some (From k)) x y = ap (λ n. Some (From n)) (same_number j k x.2 y.2 (sym x.0 ∙ y.0))
-one_rule text (Some (From j)) (Some (Every k)) x y = absurd (rule_first j (decimal k) x.1 x.2 (sym y.0 ∙ x.0))
-one_rule text (Some (Every j)) (Some (From k)) x y = absurd (rule_first k (decimal j) y.1 y.2 (sym x.0 ∙ y.0))
-one_rule text (Some (Every j)) (Some (Every k)) x y = cc (same_number j k x.2 y.2 (ap tail_of (sym x.0 ∙ y.0)))
+one_rule text a b x y = grind (arith, common_steps, not_empty_decimal, same_number, rule_first) steps 200000
 
 module _ (once : IsTextOnce) where
   -- ---- breakpoints
 
   one_text : (main : Block) (n : ℕ) (text : List ℕ) (a b : Option TextCondition) → ReadsConditionAt main n text a
       → ReadsConditionAt main n text b → a ≡ b
-  one_text main n text None None x y = refl
-  one_text main n text None (Some t) x y = absurd (y.0 x)
-  one_text main n text (Some t) None x y = absurd (x.0 y)
   one_text main n text (Some t) (Some u) x y =
       ap (λ s. Some (record { text = s; condition = t.condition })) (x.1 ∙ sym y.1)
       ∙ ap (λ c. Some (record { text = u.text; condition = c }))
       (once.one_condition main (step_path main n) text t.condition u.condition x.2 y.2)
+  one_text main n text a b x y = grind (arith, common_steps) steps 200000
 
   one_message : (main : Block) (n : ℕ) (text : List ℕ) (a b : Option Message) → ReadsMessageAt main n text a
       → ReadsMessageAt main n text b → a ≡ b
-  one_message main n text None None x y = refl
-  one_message main n text None (Some t) x y = absurd (y.0 x)
-  one_message main n text (Some t) None x y = absurd (x.0 y)
   one_message main n text (Some t) (Some u) x y =
       ap (λ s. Some (record { text = s; parts = t.parts })) (x.1 ∙ sym y.1)
       ∙ ap (λ ps. Some (record { text = u.text; parts = ps }))
       (one_parts (IsExpressionOf main (step_path main n)) (once.one_expression main (step_path main n)) text t.parts
       u.parts x.2.reads y.2.reads)
+  one_message main n text a b x y = grind (arith, common_steps) steps 200000
 
   one_breakpoint : (main : Block) (x : AskedLine) (n : ℕ) (a b : Breakpoint) → IsBreakpointOf main x n a
       → IsBreakpointOf main x n b → a ≡ b
-  one_breakpoint main x n a b here there =
-      ap (λ s. record { step = s; condition = a.condition; rule = a.rule; message = a.message })
-      (here.step ∙ sym there.step)
-      ∙ ap (λ c. record { step = b.step; condition = c; rule = a.rule; message = a.message })
-      (one_text main n x.condition a.condition b.condition here.condition there.condition)
-      ∙ ap (λ r. record { step = b.step; condition = b.condition; rule = r; message = a.message })
-      (one_rule x.hit_condition a.rule b.rule here.rule there.rule)
-      ∙ ap (λ m. record { step = b.step; condition = b.condition; rule = b.rule; message = m })
-      (one_message main n x.log_message a.message b.message here.message there.message)
+  one_breakpoint main x n a b here there = grind (arith, common_steps, one_text, one_rule, one_message) steps 200000
 
   -- A line is resolved to the first of these that fails of it, or to its step.
   module _ (main : Block) (x : AskedLine) where
@@ -126,25 +98,11 @@ module _ (once : IsTextOnce) where
     one_step n k here there = let e = sym here ∙ there in cc
 
     fails : (a : Resolution) (bs : List Breakpoint) → IsResolvedTo main x a bs → ¬ Passes a
-    fails NoStep bs is p = let e = sym is.0 ∙ p.1 in absurd cc
-    fails BadCondition bs is p = is.1.2 (rw (← (one_step p.0 is.1.0 p.1 is.1.1)) p.2)
-    fails BadHitCondition bs is p = is.1 p
-    fails BadLogMessage bs is p = is.2.3 (rw (← (one_step p.0 is.2.0 p.1 is.2.1)) p.2)
-    fails (At n) bs is p = p
+    fails a bs is p = grind (arith, common_steps, one_step) steps 200000
 
     passes : (b a : Resolution) (bs : List Breakpoint) → rank a < rank b → IsResolvedTo main x b bs → Passes a
     passes BadCondition NoStep bs lt is = (is.1.0, is.1.1, tt)
-    passes BadHitCondition NoStep bs lt is = (is.2.0, is.2.1, tt)
-    passes BadLogMessage NoStep bs lt is = (is.2.0, is.2.1, tt)
-    passes (At n) NoStep bs lt is = (n, is.0, tt)
-    passes BadHitCondition BadCondition bs lt is = is.2
-    passes BadLogMessage BadCondition bs lt is = (is.2.0, is.2.1, is.2.2)
-    passes (At n) BadCondition bs lt is =
-        (n, is.0, record { condition = is.1.0.condition; reads = is.1.2.condition })
-    passes BadLogMessage BadHitCondition bs lt is = is.1
-    passes (At n) BadHitCondition bs lt is = record { rule = is.1.0.rule; reads = is.1.2.rule }
-    passes (At n) BadLogMessage bs lt is = (n, is.0, record { message = is.1.0.message; reads = is.1.2.message })
-    passes _ _ bs lt is = absurd (omega (arith, lt))
+    passes b a bs lt is = grind (arith, common_steps) steps 200000
 
     not_before : (a b : Resolution) (bs cs : List Breakpoint) → IsResolvedTo main x a bs → IsResolvedTo main x b cs
         → ¬ (rank a < rank b)
@@ -164,31 +122,19 @@ module _ (once : IsTextOnce) where
               (subst (λ i. IsBreakpointOf main x i there.1.0) at there.1.2))
               ∙ sym there.1.1,
         )
-    one_line a b bs cs here there =
-        absurd (omega (arith, not_before a b bs cs here there, not_before b a cs bs there here))
+    one_line a b bs cs here there = grind (arith, common_steps, not_before) steps 200000
 
   one_lines : (main : Block) (lines : List AskedLine) (answers others : List Resolution) (bs cs : List Breakpoint)
       → AreResolved main lines answers bs → AreResolved main lines others cs → (answers ≡ others) × (bs ≡ cs)
-  one_lines main [] [] [] bs cs here there = (refl, here ∙ sym there)
-  one_lines main [] [] (b ∷ others) bs cs here there = absurd there
-  one_lines main [] (a ∷ answers) others bs cs here there = absurd here
-  one_lines main (x ∷ lines) [] others bs cs here there = absurd here
-  one_lines main (x ∷ lines) (a ∷ answers) [] bs cs here there = absurd there
   one_lines main (x ∷ lines) (a ∷ answers) (b ∷ others) bs cs here there =
       let first = one_line main x a b here.0 there.0 here.3 there.3 in
       let rest = one_lines main lines answers others here.1 there.1 here.4 there.4 in
       (cc (first.0, rest.0), cc (here.2, first.1, rest.1, there.2))
+  one_lines main lines answers others bs cs here there = grind (arith, common_steps) steps 200000
 
   one_resolves : (past : History) (l : Launched) (lines : List SourceBreakpoint) (r s : Reaction)
       → Resolves past l lines r → Resolves past l lines s → r ≡ s
-  one_resolves past l lines r s a b =
-      let same =
-      one_lines l.program (map (asked_as (line_offset past)) lines) a.answers b.answers a.breakpoints b.breakpoints
-      a.resolved b.resolved in
-      a.reaction_is
-      ∙ ap (λ answers. SetBreakpoints (map (answer_to_line l.program (line_offset past)) answers) a.breakpoints) same.0
-      ∙ ap (λ bs. SetBreakpoints (map (answer_to_line l.program (line_offset past)) b.answers) bs) same.1
-      ∙ sym b.reaction_is
+  one_resolves past l lines r s a b = grind (arith, common_steps, one_lines) steps 200000
 
   one_sets_of : (here : Bool) (past : History) (l : Launched) (lines : List SourceBreakpoint) (r s : Reaction)
       → SetsOf here past l lines r → SetsOf here past l lines s → r ≡ s
@@ -199,15 +145,13 @@ module _ (once : IsTextOnce) where
   one_of_program : {A : Type 0} (o : Option Launched) (says : Launched → A → Type 0) (r s : A)
       → ((l : Launched) → says l r → says l s → r ≡ s)
       → OfProgram o (λ l. says l r) → OfProgram o (λ l. says l s) → r ≡ s
-  one_of_program None says r s one a b = absurd a
-  one_of_program (Some l) says r s one a b = one l a b
+  one_of_program o says r s one a b = grind (arith, common_steps) steps 200000
 
   one_sets : (past : History) (asked : SetBreakpointsArguments) (r s : Reaction) → Sets past asked r
       → Sets past asked s → r ≡ s
   one_sets past asked r s a b =
-      one_of_program (launched past) (λ l reaction. SetsOf
-      (is_same_path asked.path l.path) past l asked.breakpoints reaction) r s
-      (λ l x y. one_sets_of (is_same_path asked.path l.path) past l asked.breakpoints r s x y) a b
+      one_of_program _ (λ l reaction. SetsOf (is_same_path asked.path l.path) past l asked.breakpoints reaction) r s (λ
+      l x y. one_sets_of _ past l asked.breakpoints r s x y) a b
 
   -- the reaction is determined by the program
   one_as : (o : Option Launched) (f : Launched → Reaction) (r s : Reaction) → OfProgram o (λ l. r ≡ f l)
@@ -218,52 +162,35 @@ module _ (once : IsTextOnce) where
   -- ---- questions
 
   evaluated_once : (a b : Result ℤ EvalFault) → evaluated a ≡ evaluated b → a ≡ b
-  evaluated_once (Ok v) (Ok w) is = let e : v ≡ w = cc in ap Ok e
-  evaluated_once (Ok v) (Err Overflow) is = absurd cc
-  evaluated_once (Ok v) (Err DivideByZero) is = absurd cc
-  evaluated_once (Err Overflow) (Ok w) is = absurd cc
-  evaluated_once (Err DivideByZero) (Ok w) is = absurd cc
-  evaluated_once (Err Overflow) (Err Overflow) is = refl
-  evaluated_once (Err Overflow) (Err DivideByZero) is = absurd cc
-  evaluated_once (Err DivideByZero) (Err Overflow) is = absurd cc
-  evaluated_once (Err DivideByZero) (Err DivideByZero) is = refl
+  evaluated_once a b is = grind (arith, common_steps) steps 200000
 
   one_evaluates : (main : Block) (c : Configuration) (id : ℕ) (f : Option Frame) (text : List ℕ)
       (r s : Result Shown Refusal) → EvaluatesIn main c id f text r → EvaluatesIn main c id f text s → r ≡ s
   one_evaluates main c id None text r s a b = a ∙ sym b
   one_evaluates main c id (Some f) text r s (inl a) (inl b) =
       let read = once.one_expression main f.block text a.expression b.expression a.reads b.reads in
-      a.answer_is ∙ ap result_answer (evaluated_once a.result b.result
-      (sym a.result_is ∙ ap (value main c _) read ∙ b.result_is)) ∙ sym b.answer_is
+      cc (a.answer_is, evaluated_once _ _ (sym a.result_is ∙ ap (value main c _) read ∙ b.result_is), b.answer_is)
   one_evaluates main c id (Some f) text r s (inl a) (inr b) = absurd (b.none a.expression a.reads)
   one_evaluates main c id (Some f) text r s (inr a) (inl b) = absurd (a.none b.expression b.reads)
   one_evaluates main c id (Some f) text r s (inr a) (inr b) = a.answer_is ∙ sym b.answer_is
 
   one_from : (of : Subject) (c : Configuration) (question : Question) (r s : Result Shown Refusal)
       → RepliesFrom of c question r → RepliesFrom of c question s → r ≡ s
-  one_from of c (question.Evaluate asked) r s a b = one_evaluates of.program c asked.frame_id _ asked.expression r s a b
-  one_from of c _ r s a b = a ∙ sym b
+  one_from of c question r s a b = grind (arith, common_steps, one_evaluates) steps 200000
 
   one_at : (of : Subject) (c : Option Configuration) (question : Question) (r s : Result Shown Refusal)
       → RepliesAt of c question r → RepliesAt of c question s → r ≡ s
-  one_at of None question r s a b = absurd a
-  one_at of (Some c) question r s a b = one_from of c question r s a b
+  one_at of c question r s a b = grind (arith, common_steps, one_from) steps 200000
 
   one_inspects : (past : History) (question : Question) (r s : Result Shown Refusal) → InspectsAs past question r
       → InspectsAs past question s → r ≡ s
-  one_inspects past question r s a b =
-      one_of_program (launched past) (λ l reply. RepliesAt (subject_in past l) (at l.program (position past)) question
-      reply) r s
-      (λ l x y. one_at (subject_in past l) (at l.program (position past)) question r s x y) a b
+  one_inspects past question r s a b = grind (arith, common_steps, one_of_program, at, one_at) steps 200000
 
   -- ---- commands and launches
 
   one_answer : (past : History) (q : Question) (a b : Reaction) → Inspects past q a → Inspects past q b
       → reply_of past a ≡ reply_of past b
-  one_answer past q a b x y =
-      let here = inspects_there past q a x in
-      let there = inspects_there past q b y in
-      ap (reply_of past) (here.2 ∙ ap reaction_with (one_inspects past q here.0 there.0 here.1 there.1) ∙ sym there.2)
+  one_answer past q a b x y = grind (arith, common_steps, inspects_there, one_inspects) steps 200000
 
   -- the table has one reaction, or those that it has have one reply
   one_reaction : (past : History) (s : Situation) (asked : Command) (a b : Reaction) → Reacts s past asked a
@@ -281,22 +208,17 @@ module _ (once : IsTextOnce) where
 
   one_reply : (s : Situation) (past : History) (asked : Command) (r t : Reply) → RepliesIn s past asked r
       → RepliesIn s past asked t → r ≡ t
-  one_reply s past asked r t x y =
-      x.reply_is ∙ one_reaction past s asked x.reaction y.reaction x.reacts y.reacts ∙ sym y.reply_is
+  one_reply s past asked r t x y = grind (arith, common_steps, one_reaction) steps 200000
 
   one_launch : (arguments : LaunchArguments) (file : Option (List ℕ)) (r s : Reply) → Launches arguments file r
       → Launches arguments file s → r ≡ s
   one_launch arguments None r s a b = a ∙ sym b
-  one_launch arguments (Some text) r s (inl a) (inl b) =
-      let same = once.one_fault text a.kind b.kind a.place b.place a.first b.first in
-      a.reply_is ∙ ap (λ k. refused (syntax k a.place)) same.0 ∙ ap (λ p. refused (syntax b.kind p)) same.1
-      ∙ sym b.reply_is
+  one_launch arguments (Some text) r s (inl a) (inl b) = grind (arith, common_steps, refused) steps 200000
   one_launch arguments (Some text) r s (inl a) (inr b) =
       absurd (∥∥₁_elim b.reads none_prop (λ reads. once.not_both text a.kind a.place b.program a.first reads))
   one_launch arguments (Some text) r s (inr a) (inl b) =
       absurd (∥∥₁_elim a.reads none_prop (λ reads. once.not_both text b.kind b.place a.program b.first reads))
-  one_launch arguments (Some text) r s (inr a) (inr b) =
-      cc (a.reply_is, one_program once.one_tree text a.program b.program a.reads b.reads, b.reply_is)
+  one_launch arguments (Some text) r s (inr a) (inr b) = grind (arith, common_steps, one_program) steps 200000
 
   -- ---- items
 
@@ -311,20 +233,9 @@ module _ (once : IsTextOnce) where
   same_answer seq c r q s t is a b = (cc (a.answer_is, b.answer_is), cc (a.effect_is, b.effect_is))
 
   one_cause : (past : History) (item : Item) (s t : Step) → Causes past item s → Causes past item t → SameCause s t
-  one_cause past (Content None) s t a b = same_effect _ s t a b
   one_cause past (Content (Some request)) s t a b =
       same_answer _ _ a.0 b.0 s t (one_reply (situation past) past request.body a.0 b.0 a.1 b.1) a.2 b.2
-  one_cause past (Loaded launch file) s t a b =
-      same_answer _ _ a.0 b.0 s t (one_launch launch.arguments file a.0 b.0 a.1 b.1) a.2 b.2
-  one_cause past (Accepted r) s t a b = same_effect _ s t a b
-  one_cause past _ s t a b = same_effect _ s t a b
+  one_cause past item s t a b = grind (arith, common_steps, same_effect, same_answer, one_launch) steps 200000
 
   pub one_after : (past : History) (item : Item) (a b : History) → IsAfter past item a → IsAfter past item b → a ≡ b
-  one_after past item a b x y =
-      let same = one_cause past item x.step y.step x.causes y.causes in
-      x.new_is
-      ∙ ap (λ i. past ++ record { item = i; answer = x.step.answer; effect = x.step.effect } ∷ [])
-      (x.item_is ∙ sym y.item_is)
-      ∙ ap (λ o. past ++ record { item = y.step.item; answer = o; effect = x.step.effect } ∷ []) same.0
-      ∙ ap (λ e. past ++ record { item = y.step.item; answer = y.step.answer; effect = e } ∷ []) same.1
-      ∙ sym y.new_is
+  one_after past item a b x y = grind (arith, common_steps, one_cause) steps 200000

@@ -1,11 +1,10 @@
 -- Which run a reply orders, which plan it puts in, and that it holds none that goes back.
-use Rattle.dap_history.proofs.Common.{Body, Breakpoint, Command, Configuring, Effect, Ended, Faulted, Fresh, Heading, History, Hold, IsSome, IsStopped, Launched, Mode, None, Ok, Option, Plan, Reaction, Ready, Reason, RepliesIn, Reply, ResumeKind, RetreatKind, Running, Situation, Some, Stopped, ThreadArguments, [], ap, back_by, back_of, depth_at, due_first, effect_in, enters, go, goes_back, held_by, if◌then◌else◌, inl, inr, is_back, last_such, mode_of, nothing, plan, refl, reply_of, retreat_mode, runs, situation, sym, ℕ, ◌+◌, ◌||◌, ◌∷◌, ◌≡◌, ◌⊎◌}
-use Rattle.std.proofs.Common.{List, Bool, true, false}
+use Rattle.dap_history.proofs.Common.{Body, Breakpoint, Command, Configuring, Effect, Ended, Faulted, Fresh, Heading, History, Hold, IsSome, IsStopped, Launched, Mode, None, Ok, Option, Plan, Reaction, Ready, Reason, RepliesIn, Reply, ResumeKind, RetreatKind, Running, Situation, Some, Stopped, ThreadArguments, [], ap, back_by, back_of, depth_at, effect_in, enters, go, goes_back, held_by, if◌then◌else◌, inl, inr, is_back, last_such, mode_of, nothing, plan, refl, reply_of, retreat_mode, runs, situation, sym, ℕ, ◌+◌, ◌||◌, ◌∷◌, ◌≡◌, ◌⊎◌}
+use Rattle.std.proofs.Common.{List, Bool, true, false, arith}
 use Rattle.dap_msg.specs.declared.command.Command.TheVariants as command
-use Rattle.dap_msg.specs.declared.requests.resume.ResumeKind.TheVariants as resume
-use Rattle.dap_msg.specs.declared.requests.resume.RetreatKind.TheVariants as retreat
 use Rattle.dap_history.specs.Readings.{is_held, position}
-use Rattle.dap_history.proofs.Reacted.{Reacted, by_refusing, by_answering, by_setting, by_starting, by_resuming, by_ending, by_retreating, by_interrupting, by_closing, by_reaction, IsCalm}
+use Rattle.dap_history.proofs.Reacted.{Reacted, by_setting, by_resuming, by_ending, by_retreating, by_closing, by_reaction}
+use Rattle.std.proofs.lemmas.Grind.{common_steps}
 
 -- where a reply may order a run
 abbrev pub CanRun : Situation → Type 0
@@ -46,9 +45,7 @@ hold_runs s past put false = runs_none
 
 holds_none : (past : History) (held back : Bool) → back ≡ true
     → last_such held_by (if held || back then [] else Hold (runs past) ∷ []) ≡ None
-holds_none past true back is = refl
-holds_none past false true is = refl
-holds_none past false false is = absurd cc
+holds_none past held back is = grind (arith, common_steps) steps 200000
 
 effect_orders : {back : Option Mode} (s : Situation) (past : History) (bs : List Breakpoint)
     → OrdersAs back s past (effect_in s past bs)
@@ -72,28 +69,19 @@ enters_orders past l None = record { run = runs_one _ refl refl refl refl refl t
 enters_orders past l (Some r) = record { run = runs_none; put = tt; hold = λ goes. refl }
 
 forward : (resume_kind : ResumeKind) (depth : ℕ) → goes_back (mode_of resume_kind depth) ≡ false
-forward resume.Continue depth = refl
-forward resume.Next depth = refl
-forward resume.StepIn depth = refl
-forward resume.StepOut depth = refl
+forward resume_kind depth = grind (arith, common_steps) steps 200000
 
 can_stand : (s : Situation) → IsStopped s → CanRun s
-can_stand Stopped stands = tt
-can_stand Faulted stands = tt
-can_stand _ stands = absurd stands
+can_stand s stands = grind (arith, common_steps) steps 200000
 
 back_as : (kind : RetreatKind) (a : ThreadArguments)
     → back_by (command.Retreat kind a) ≡ (if goes_back (retreat_mode kind) then Some (retreat_mode kind) else None)
-back_as retreat.StepBack a = refl
-back_as retreat.ReverseContinue a = refl
+back_as kind a = grind (arith, common_steps) steps 200000
 
 module _ (past : History) where
   reaction_orders : {s : Situation} {asked : Command} {reaction : Reaction} → Reacted past s asked reaction
       → s ≡ situation past → OrdersAs (back_by asked) s past (reply_of past reaction).effect
-  reaction_orders (by_refusing s asked why) here = orders_nothing (back_by asked) s past
-  reaction_orders (by_answering s asked b calm) here = orders_nothing (back_by asked) s past
   reaction_orders (by_setting s a l found bs there path_is resolved) here = rw here (effect_orders _ past bs)
-  reaction_orders (by_starting l there) here = enters_orders past l (due_first past l)
   reaction_orders (by_resuming kind a l there) here =
       let m = mode_of kind (depth_at l.program (position past)) in
       let none : (if goes_back m then Some m else None) ≡ None =
@@ -105,24 +93,15 @@ module _ (past : History) where
     put = tt;
     hold = λ goes. refl;
   }
-  reaction_orders (by_interrupting a) here = record {
-    run = hold_runs Running past None (is_held past || is_back past);
-    put = tt;
-    hold = holds_none past (is_held past) (is_back past);
-  }
   reaction_orders (by_closing s) here = record { run = runs_none; put = tt; hold = λ goes. refl }
+  reaction_orders is here =
+      grind (arith, common_steps, orders_nothing, back_by, enters_orders, hold_runs, holds_none) steps 200000
 
   -- where going back is granted, a run is ordered
   granted_run : {s : Situation} {asked : Command} {reaction : Reaction} → Reacted past s asked reaction
       → (m : Mode) (b : Body) → back_by asked ≡ Some m → (reply_of past reaction).result ≡ Ok b
       → IsSome (last_such go (reply_of past reaction).effect.orders)
-  granted_run (by_answering s asked body calm) m b asks granted = absurd (calm_not s asked body calm asks)
-    where
-      calm_not : (s : Situation) (c : Command) (b : Body) → IsCalm past s c b → ¬ (back_by c ≡ Some m)
-      calm_not s (command.Retreat k a) b calm by = calm
-      calm_not s _ b calm by = absurd cc
-  granted_run (by_retreating s kind a l stands there) m b asks granted = refl
-  granted_run _ m b asks granted = absurd cc
+  granted_run is m b asks granted = grind (arith, common_steps, back_by) steps 200000
 
 pub granted_back : (s : Situation) (past : History) (asked : Command) (reply : Reply) (m : Mode) (b : Body)
     → RepliesIn s past asked reply → back_by asked ≡ Some m → reply.result ≡ Ok b

@@ -54,11 +54,7 @@ report_ordered past r slice.NoMemory accepts not = ordered_none
 report_ordered past r slice.Held accepts not = by_pause (waiting_pause past)
   where
     forward : goes_back r.mode ≡ false
-    forward = by_mode (goes_back r.mode) refl
-      where
-        by_mode : (b : Bool) → goes_back r.mode ≡ b → goes_back r.mode ≡ false
-        by_mode false is = is
-        by_mode true is = absurd (not is refl)
+    forward = grind (arith, common_steps) steps 200000
 
     onward : (if goes_back r.mode then Some r.mode else None) ≡ None
     onward = ap (λ b. if b then Some r.mode else None) forward
@@ -106,24 +102,15 @@ ordered_from past back put (Some other) (ordered_one other' goes under counted f
 
 report_holds : (past : History) (r : PlainReport) (e : SliceOutcome)
     → last_such held_by (report_effect past r e).orders ≡ None
-report_holds past r slice.More = refl
-report_holds past r (slice.Due reason) = refl
-report_holds past r slice.Done = refl
-report_holds past r (slice.Fault fault) = refl
-report_holds past r slice.NoMemory = refl
-report_holds past r slice.Held = grind (arith, common_steps, true, false) steps 1500000
+report_holds past r e = grind (arith, common_steps) steps 200000
 
 loaded_holds : (launch : Launch) (file : Option (List ℕ)) (reply : Reply) → Launches launch.arguments file reply
     → last_such held_by reply.effect.orders ≡ None
-loaded_holds launch None reply is = ap (λ (r : Reply). last_such held_by r.effect.orders) is
-loaded_holds launch (Some text) reply (inl is) = ap (λ (r : Reply). last_such held_by r.effect.orders) is.reply_is
-loaded_holds launch (Some text) reply (inr is) = ap (λ (r : Reply). last_such held_by r.effect.orders) is.reply_is
+loaded_holds launch file reply is = grind (arith, common_steps) steps 200000
 
 -- no run that goes back is ordered to hold
 pub item_holds : (past : History) (item : Item) (step : Step) → Causes past item step → is_back past ≡ true
     → last_such held_by step.effect.orders ≡ None
 item_holds past (Content (Some request)) step is back =
     cc (is.2.effect_is, (all_orders (situation past) past request.body is.0 refl is.1).hold back)
-item_holds past (Loaded launch file) step is back = grind (arith, common_steps, loaded_holds) steps 1500000
-item_holds past (Accepted r) step is back = grind (arith, common_steps, report_holds) steps 1500000
-item_holds past _ step is back = ap (λ (e : Effect). last_such held_by e.orders) is.effect_is
+item_holds past item step is back = grind (arith, common_steps, loaded_holds, report_holds) steps 200000

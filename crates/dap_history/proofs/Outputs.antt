@@ -1,6 +1,6 @@
 -- What the events and orders of a report say.
-use Rattle.dap_history.proofs.Common.{Body, CommandName, Effect, Event, EventBody, Heading, History, None, Option, PlainReport, Refusal, SliceOutcome, Some, Step, [], ap, append-nil, drop-nil, exception_of, exited_events, filter_map, go, held_effect, last_such, log_events, log_texts, message_mark, messages, numbers, numbers_told, outputs, refl, report_effect, stop_of, stop_of_event, stopped_events, sym, text_of_log, waiting_pause, with_answer, ℕ, ◌++◌, ◌-◌, ◌∙◌, ◌≡◌}
-use Rattle.std.proofs.Common.{List, ℤ}
+use Rattle.dap_history.proofs.Common.{Body, CommandName, Effect, Event, EventBody, Heading, History, None, Option, PlainReport, Refusal, SliceOutcome, Some, Step, [], ap, append-nil, exception_of, exited_events, filter_map, go, held_effect, last_such, log_events, log_texts, message_mark, messages, numbers, numbers_told, outputs, refl, report_effect, stop_of, stop_of_event, stopped_events, sym, text_of_log, waiting_pause, with_answer, ℕ, ◌++◌, ◌-◌, ◌∙◌, ◌≡◌}
+use Rattle.std.proofs.Common.{List, ℤ, arith}
 use Rattle.std.specs.Prelude.{map, drop, Result, Bool, true, false}
 use Rattle.std.proofs.lemmas.List.{append_assoc}
 use Rattle.dap_msg.specs.declared.outgoing.Outgoing.TheVariants.{Answer}
@@ -9,6 +9,7 @@ use Rattle.dap_msg.specs.declared.outgoing.StopReason.TheVariants as stop
 use Rattle.dbg_runner.specs.declared.outcome.SliceOutcome.TheVariants as slice
 use Rattle.dap_history.proofs.Silent.{NextRuns, no_runs, next_run}
 use Rattle.dap_history.proofs.Told.{numbers_in, texts_in, numbers_of_numbers, texts_of_numbers, stop_of_numbers, mark_of_numbers, numbers_of_logs, texts_of_logs, stop_of_logs, mark_of_logs}
+use Rattle.std.proofs.lemmas.Grind.{common_steps}
 
 -- ---- the numbers and logs of a step
 
@@ -41,14 +42,11 @@ outputs_apart past r es = append_assoc (map event.Output (told_numbers past r)) 
 
 pub outputs_numbers : (past : History) (r : PlainReport) (es : List EventBody)
     → numbers_in (outputs past r ++ es) ≡ told_numbers past r ++ numbers_in es
-outputs_numbers past r es =
-    ap numbers_in (outputs_apart past r es) ∙ numbers_of_numbers (told_numbers past r) _ ∙ ap (λ l. told_numbers past r
-    ++ l) (numbers_of_logs r.plan r.logs es)
+outputs_numbers past r es = grind (arith, common_steps, outputs_apart, numbers_of_numbers, numbers_of_logs) steps 200000
 
 pub outputs_texts : (past : History) (r : PlainReport) (es : List EventBody)
     → texts_in (outputs past r ++ es) ≡ told_texts r ++ texts_in es
-outputs_texts past r es =
-    ap texts_in (outputs_apart past r es) ∙ texts_of_numbers (told_numbers past r) _ ∙ texts_of_logs r.plan r.logs es
+outputs_texts past r es = grind (arith, common_steps, outputs_apart, texts_of_numbers, texts_of_logs) steps 200000
 
 pub outputs_stop : (past : History) (r : PlainReport) (es : List EventBody)
     → last_such stop_of_event (outputs past r ++ es) ≡ last_such stop_of_event es
@@ -85,49 +83,25 @@ following past slice.NoMemory = []
 pub report_events : (past : History) (r : PlainReport) (e : SliceOutcome)
     → (e ≡ slice.NoMemory → (r.numbers ≡ []) × (r.logs ≡ [])) → (report_effect past r e).events ≡ outputs past r
     ++ following past e
-report_events past r slice.More none = sym (append-nil (outputs past r))
-report_events past r (slice.Due reason) none = refl
 report_events past r slice.Held none = by_pause (waiting_pause past)
   where
     by_pause : (pauses : Bool) → (held_effect past r pauses).events ≡ outputs past r ++ if_paused pauses
     by_pause true = refl
     by_pause false = sym (append-nil (outputs past r))
-report_events past r slice.Done none = refl
-report_events past r (slice.Fault fault) none = refl
-report_events past r slice.NoMemory none =
-    cc (append-nil (outputs past r), (none refl).0, drop-nil (numbers_told past - r.numbers_before), (none refl).1)
+report_events past r e none = grind (arith, common_steps, append-nil) steps 200000
 
 pub following_numbers : (past : History) (e : SliceOutcome) → numbers_in (following past e) ≡ []
-following_numbers past slice.More = refl
-following_numbers past (slice.Due reason) = refl
-following_numbers past slice.Held = by_pause (waiting_pause past)
-  where
-    by_pause : (pauses : Bool) → numbers_in (if_paused pauses) ≡ []
-    by_pause true = refl
-    by_pause false = refl
-following_numbers past slice.Done = refl
-following_numbers past (slice.Fault fault) = refl
-following_numbers past slice.NoMemory = refl
+following_numbers past e = grind (arith, common_steps) steps 200000
 
 pub following_texts : (past : History) (e : SliceOutcome) → texts_in (following past e) ≡ []
-following_texts past slice.More = refl
-following_texts past (slice.Due reason) = refl
-following_texts past slice.Held = by_pause (waiting_pause past)
-  where
-    by_pause : (pauses : Bool) → texts_in (if_paused pauses) ≡ []
-    by_pause true = refl
-    by_pause false = refl
-following_texts past slice.Done = refl
-following_texts past (slice.Fault fault) = refl
-following_texts past slice.NoMemory = refl
+following_texts past e = grind (arith, common_steps) steps 200000
 
 module _ (past : History) (r : PlainReport) (e : SliceOutcome)
     (none : e ≡ slice.NoMemory → (r.numbers ≡ []) × (r.logs ≡ [])) where
   -- whatever the report's end, its numbers are reported but for those that were before
   pub report_numbers : numbers_in (report_effect past r e).events ≡ told_numbers past r
   report_numbers =
-      ap numbers_in (report_events past r e none) ∙ outputs_numbers past r _ ∙ ap (λ l. told_numbers past r ++ l)
-      (following_numbers past e) ∙ append-nil _
+      grind (arith, common_steps, report_events, outputs_numbers, following_numbers, append-nil) steps 200000
 
   -- and all its logs
   pub report_texts : texts_in (report_effect past r e).events ≡ told_texts r
@@ -136,16 +110,7 @@ module _ (past : History) (r : PlainReport) (e : SliceOutcome)
       past e) ∙ append-nil _
 
 pub report_launches : (past : History) (r : PlainReport) (e : SliceOutcome) → (report_effect past r e).launched ≡ None
-report_launches past r slice.More = refl
-report_launches past r (slice.Due reason) = refl
-report_launches past r slice.Held = held_launches (waiting_pause past)
-  where
-    held_launches : (pauses : Bool) → (held_effect past r pauses).launched ≡ None
-    held_launches true = refl
-    held_launches false = refl
-report_launches past r slice.Done = refl
-report_launches past r (slice.Fault fault) = refl
-report_launches past r slice.NoMemory = refl
+report_launches past r e = grind (arith, common_steps) steps 200000
 
 -- a run that a report orders is of the report's text, and begins at its end
 pub data GoesAs (text : List ℕ) (finish : ℕ) : Option Heading → Type 0 where
@@ -156,27 +121,14 @@ abbrev pub GoesOn : PlainReport → Effect → Type 0
 GoesOn r effect = GoesAs r.text r.end (last_such go effect.orders)
 
 pub report_goes : (past : History) (r : PlainReport) (e : SliceOutcome) → GoesOn r (report_effect past r e)
-report_goes past r slice.More = no_run
-report_goes past r (slice.Due reason) = no_run
 report_goes past r slice.Held = held_goes (waiting_pause past)
   where
     held_goes : (pauses : Bool) → GoesOn r (held_effect past r pauses)
     held_goes true = no_run
     held_goes false = as_text _ refl refl
-report_goes past r slice.Done = no_run
-report_goes past r (slice.Fault fault) = no_run
-report_goes past r slice.NoMemory = no_run
+report_goes past r _ = no_run
 
 -- it is the next one
 pub report_runs : (past : History) (r : PlainReport) (e : SliceOutcome)
     → NextRuns past (filter_map go (report_effect past r e).orders)
-report_runs past r slice.More = no_runs
-report_runs past r (slice.Due reason) = no_runs
-report_runs past r slice.Held = held_runs (waiting_pause past)
-  where
-    held_runs : (pauses : Bool) → NextRuns past (filter_map go (held_effect past r pauses).orders)
-    held_runs true = no_runs
-    held_runs false = next_run _ refl
-report_runs past r slice.Done = no_runs
-report_runs past r (slice.Fault fault) = no_runs
-report_runs past r slice.NoMemory = no_runs
+report_runs past r e = grind (arith, common_steps, no_runs, filter_map, go, next_run) steps 200000

@@ -1,8 +1,7 @@
 -- A run passes no position that is due, and none was ordered before `configurationDone`.
-use Rattle.dap_history.proofs.Common.{Accepted, Accepts, Block, Body, Causes, Command, CommandName, Configuring, Content, Effect, Ended, EndsBy, Err, Event, EventBody, Faulted, Go, GoesBackBy, HasEffect, Heading, History, Hold, Incoming, IsLawfulReport, IsPassed, Item, Launch, Launched, Launches, Loaded, None, NoneDueBefore, NoneDueUpTo, Ok, Option, Outgoing, PlainOrder, PlainReport, Quit, Reason, Refusal, RepliesIn, Reply, Running, Situation, SliceOutcome, Some, Step, Stopped, WentBack, WentOn, WrittenJoins, [], answer_mark, ap, arith, cases_lt, command_mark, due, due_in_run, end_of, exited_events, faults, go, goes_back, has_come, has_no_memory, inl, inr, is_spent, lacks_memory, last_run, last_such, launched, message_mark, messages, name_of, or_else, order_mark, refl, report_effect, situation, step_mark, subst, sym, takes_all, unwrap_or, with_answer, ℕ, ⊎_elim, ◌<◌, ◌∙◌, ◌∷◌, ◌≡◌, ◌≤◌, ◌⊎◌, stop_of, stopped_events}
+use Rattle.dap_history.proofs.Common.{Accepted, Accepts, Block, Body, Causes, Command, CommandName, Configuring, Content, Effect, Ended, EndsBy, Err, Event, EventBody, Faulted, Go, GoesBackBy, HasEffect, Heading, History, Hold, Incoming, IsLawfulReport, IsPassed, Item, Launch, Launched, Launches, Loaded, None, NoneDueBefore, NoneDueUpTo, Ok, Option, Outgoing, PlainOrder, PlainReport, Quit, Reason, Refusal, RepliesIn, Reply, Running, Situation, SliceOutcome, Some, Step, Stopped, WentBack, WentOn, WrittenJoins, [], answer_mark, ap, arith, cases_lt, command_mark, due, due_in_run, end_of, exited_events, faults, go, goes_back, has_come, has_no_memory, inl, inr, is_spent, lacks_memory, last_run, last_such, launched, message_mark, messages, name_of, or_else, order_mark, refl, report_effect, situation, step_mark, subst, sym, takes_all, unwrap_or, with_answer, ℕ, ⊎_elim, ◌<◌, ◌∙◌, ◌∷◌, ◌≡◌, ◌≤◌, ◌⊎◌}
 use Rattle.std.proofs.Common.{List, true}
 use Rattle.std.specs.Prelude.{map, Result}
-use Rattle.dap_msg.specs.declared.command.Command.TheVariants as command
 use Rattle.dap_msg.specs.declared.command.CommandName.TheVariants as name
 use Rattle.dap_msg.specs.declared.command.Supported.TheVariants as supported
 use Rattle.dap_msg.specs.declared.outgoing.Outgoing.TheVariants.{Answer}
@@ -49,8 +48,7 @@ configured_by step is = by_orders (mark_else IsConfiguring _ _ is)
         (last_such message_mark (with_answer a (map Event step.effect.events)))
         → MarkIs IsConfiguring (last_such message_mark (with_answer a []))
     by_answer None is = events_not IsConfiguring (λ x. x) (λ x. x) (λ x. x) step.effect.events is
-    by_answer (Some a) is =
-        by_events (mark_else IsConfiguring (last_such message_mark (map Event step.effect.events)) (message_mark a) is)
+    by_answer (Some a) is = by_events (mark_else IsConfiguring _ _ is)
       where
         by_events : (MarkIs IsConfiguring (last_such message_mark (map Event step.effect.events))
             ⊎ ((last_such message_mark (map Event step.effect.events) ≡ None) × MarkIs IsConfiguring (message_mark a)))
@@ -68,17 +66,11 @@ configured_by step is = by_orders (mark_else IsConfiguring _ _ is)
 -- no answer to a content does: a `launch` that is answered at once is refused
 result_not : (c : CommandName) → ¬ MarkIs IsConfiguring (command_mark c) → (result : Result Body Refusal)
     → ¬ MarkIs IsConfiguring (answer_mark c result)
-result_not c not (Ok b) is = not is
-result_not c not (Err r) is = is
+result_not c not result is = grind (arith, common_steps) steps 200000
 
 reply_not : (s : Situation) (past : History) (asked : Command) (reply : Reply) → RepliesIn s past asked reply
     → ¬ MarkIs IsConfiguring (answer_mark (name_of asked) reply.result)
-reply_not s past (command.Launch a) reply is mark =
-    subst (λ (r : Reply). MarkIs IsConfiguring (answer_mark (name.Supported supported.Launch) r.result))
-    (replied _ is is.reacts) mark
-reply_not s past (command.BadArguments k) reply is mark =
-    subst (λ (r : Reply). MarkIs IsConfiguring (answer_mark (name.Supported k) r.result)) (replied _ is is.reacts) mark
-reply_not s past asked reply is mark = result_not (name_of asked) (λ x. x) reply.result mark
+reply_not s past asked reply is mark = grind (arith, common_steps, replied, result_not) steps 200000
 
 abbrev pub IsLoaded : Item → Type 0
 IsLoaded (Loaded launch file) = Unit {0}
@@ -104,8 +96,7 @@ answer_runs_not : (a : Option Outgoing) → IsAnswer a → (es : List EventBody)
     → ¬ MarkIs IsRunning (last_such message_mark (with_answer a (map Event es)))
 answer_runs_not None is es mark = events_not IsRunning (λ x. x) (λ x. x) (λ x. x) es mark
 answer_runs_not (Some (Event e)) is es mark = is
-answer_runs_not (Some (Answer seq c result)) is es mark =
-    neither (mark_else IsRunning (last_such message_mark (map Event es)) (answer_mark c result) mark)
+answer_runs_not (Some (Answer seq c result)) is es mark = neither (mark_else IsRunning _ _ mark)
   where
     command_not : (c : CommandName) → ¬ MarkIs IsRunning (command_mark c)
     command_not (name.Supported supported.Initialize) is = is
@@ -123,14 +114,7 @@ answer_runs_not (Some (Answer seq c result)) is es mark =
 
 pub runs_not : (step : Step) → IsAnswer step.answer → last_such go step.effect.orders ≡ None
     → ¬ MarkIs IsRunning (step_mark step)
-runs_not step answer none is =
-    neither (mark_else IsRunning (last_such order_mark step.effect.orders) (last_such message_mark (messages step)) is)
-  where
-    neither : ¬ (MarkIs IsRunning (last_such order_mark step.effect.orders)
-        ⊎ ((last_such order_mark step.effect.orders ≡ None) × MarkIs IsRunning
-        (last_such message_mark (messages step))))
-    neither (inl is) = orders_run step.effect.orders none is
-    neither (inr is) = answer_runs_not step.answer answer step.effect.events is.1
+runs_not step answer none is = grind (arith, common_steps, mark_else, orders_run, answer_runs_not) steps 200000
 
 -- ---- runs begin where the program stands
 
@@ -152,9 +136,7 @@ BeginsHere here effect = BeginsAt here (last_such go effect.orders)
 
 pub loaded_orders : (launch : Launch) (file : Option (List ℕ)) (reply : Reply) → Launches launch.arguments file reply
     → last_such go reply.effect.orders ≡ None
-loaded_orders launch None reply is = ap (λ (r : Reply). last_such go r.effect.orders) is
-loaded_orders launch (Some text) reply (inl is) = ap (λ (r : Reply). last_such go r.effect.orders) is.reply_is
-loaded_orders launch (Some text) reply (inr is) = ap (λ (r : Reply). last_such go r.effect.orders) is.reply_is
+loaded_orders launch file reply is = grind (arith, common_steps, go) steps 200000
 
 loaded_begins : (here : ℕ) (o : Option Heading) → o ≡ None → BeginsAt here o
 loaded_begins here o is = subst (BeginsAt here) (sym is) none_begins
@@ -163,12 +145,8 @@ pub item_begins : (past : History) (item : Item) (step : Step) → Causes past i
     → BeginsHere (unwrap_or (end_of item) (position past)) step.effect
 item_begins past (Content (Some request)) step is =
     rw is.2.effect_is (begins_by past (last_such go is.0.effect.orders) (all_silent _ past request.body is.0 is.1).goes)
-item_begins past (Loaded launch file) step is =
-    subst (BeginsHere (position past)) (sym is.2.effect_is)
-    (loaded_begins (position past) (last_such go is.0.effect.orders) (loaded_orders launch file is.0 is.1))
-item_begins past (Accepted r) step is =
-    subst (BeginsHere r.end) (sym is.effect_is)
-    (begins_on r.text r.end (last_such go (report_effect past r r.outcome).orders) (report_goes past r r.outcome))
+item_begins past (Loaded launch file) step is = rw is.2.effect_is (loaded_begins _ _ (loaded_orders launch file _ is.1))
+item_begins past (Accepted r) step is = rw is.effect_is (begins_on _ _ _ (report_goes past r _))
 item_begins past _ step is = subst (BeginsHere (position past)) (sym is.effect_is) none_begins
 
 -- nothing is launched while a program runs
@@ -176,15 +154,12 @@ pub launches_not : (Q : Incoming → Type 0) (past : History) (item : Item) (ste
     → Causes past item step → IsRunning (situation past) → step.effect.launched ≡ None
 launches_not Q past (Content (Some request)) step taken is running =
     ap (λ (e : Effect). e.launched) is.2.effect_is ∙ (all_silent (situation past) past request.body is.0 is.1).no_launch
-launches_not Q past (Loaded launch file) step taken is running = absurd (subst IsRunning taken running)
-launches_not Q past (Accepted r) step taken is running = cc (is.effect_is, report_launches past r r.outcome)
-launches_not Q past _ step taken is running = ap (λ (e : Effect). e.launched) is.effect_is
+launches_not here past item step taken is running = grind (arith, common_steps, report_launches) steps 200000
 
 -- ---- the marks of a report
 
 pub none_left : {A : Type 0} (a b : Option A) → or_else a b ≡ None → (a ≡ None) × (b ≡ None)
-none_left None b is = (refl, is)
-none_left (Some x) b is = absurd cc
+none_left a b is = grind (arith, common_steps) steps 200000
 
 pub no_mark_no_go : (os : List PlainOrder) → last_such order_mark os ≡ None → last_such go os ≡ None
 no_mark_no_go [] is = refl
@@ -210,8 +185,7 @@ abbrev LeadsNowhere : History → PlainReport → SliceOutcome → Type 0
 LeadsNowhere past r e = mark_of_effect (report_effect past r e) ≡ None
 
 stops_somewhere : (past : History) (r : PlainReport) (reason : Reason) → ¬ LeadsNowhere past r (slice.Due reason)
-stops_somewhere past r reason none = let e = sym (outputs_mark past r (stopped_events (stop_of reason)))
-    ∙ none in absurd cc
+stops_somewhere past r reason none = grind (arith, common_steps, outputs_mark) steps 200000
 
 undue_by : (main : Block) (past : History) (r : PlainReport) (e : SliceOutcome) → EndsBy main r e
     → LeadsNowhere past r e → NotDueAtEnd main r
@@ -236,9 +210,7 @@ stays_by : (main : Block) (past : History) (r : PlainReport) (e : SliceOutcome) 
 stays_by main past r slice.More (is_spent stays spent) none = stays
 stays_by main past r (slice.Due reason) (has_come comes) none = absurd (stops_somewhere past r reason none)
 stays_by main past r slice.NoMemory (has_no_memory stays) none = stays
-stays_by main past r slice.Held is none = elim is [ ]
-stays_by main past r slice.Done is none = elim is [ ]
-stays_by main past r (slice.Fault fault) is none = elim is [ ]
+stays_by main past r _ is none = elim is [ ]
 
 pub stays_end : (main : Block) (past : History) (r : PlainReport) → WentBack main r → LeadsNowhere past r r.outcome
     → r.end ≡ r.start

@@ -1,14 +1,12 @@
 -- A pause that waits stops the program where its run is held, and nothing else stops it with that reason.
-use Rattle.dap_history.proofs.Common.{Accepted, All, Body, Causes, Command, Content, Effect, Err, Event, Grants, Heading, History, Incoming, IsSome, Item, Launch, Launches, Loaded, None, Ok, Option, Outgoing, PlainReport, Reason, Refusal, RepliesIn, Reply, Request, Situation, SliceOutcome, Some, Step, StopReason, ThreadArguments, [], ap, exited_events, go, held_effect, inl, inr, last_such, name_of, or_else, refl, report_effect, run_in, stop_in, stop_of, stop_of_event, stopped_events, subst, sym, unwrap_or, waiting_pause, ℕ, ◌++◌, ◌∙◌, ◌∷◌, ◌≡◌, ◌⊎◌}
+use Rattle.dap_history.proofs.Common.{Accepted, All, Body, Causes, Command, Content, Err, Grants, Heading, History, Incoming, IsSome, Item, Launch, Launches, None, Ok, Option, Outgoing, PlainReport, Reason, Refusal, RepliesIn, Reply, Request, Situation, SliceOutcome, Some, Step, StopReason, ThreadArguments, [], ap, go, held_effect, inl, inr, last_such, name_of, or_else, refl, report_effect, run_in, stop_in, stop_of, stop_of_event, subst, sym, unwrap_or, waiting_pause, ℕ, ◌++◌, ◌∙◌, ◌∷◌, ◌≡◌, ◌⊎◌}
 use Rattle.std.proofs.Common.{List, Bool, true, false}
 use Rattle.std.specs.Prelude.{option_map}
 use Rattle.dap_msg.specs.declared.command.Command.TheVariants as command
 use Rattle.dap_msg.specs.declared.command.Supported.{Supported}
-use Rattle.dap_msg.specs.declared.command.Supported.TheVariants as supported
 use Rattle.dap_msg.specs.declared.command.CommandName.TheVariants as name
 use Rattle.dap_msg.specs.declared.outgoing.Outgoing.TheVariants.{Answer}
 use Rattle.dap_msg.specs.declared.outgoing.StopReason.TheVariants as stop
-use Rattle.dbg_plan.specs.declared.mode.Reason.TheVariants as reason
 use Rattle.dbg_runner.specs.declared.outcome.SliceOutcome.TheVariants as slice
 use Rattle.dap_history.specs.Readings.{is_pause}
 use Rattle.dap_history.specs.Moves.{PauseWaits, PausesStop}
@@ -28,8 +26,7 @@ use Rattle.std.proofs.lemmas.Grind.{common_steps}
 -- a refusal grants none, whatever the command
 refusal_not : (seq : ℕ) (k : Supported) (why : Refusal)
     → is_pause (Some (Answer seq (name.Supported k) (Err why))) ≡ None
-refusal_not seq supported.Pause why = refl
-refusal_not seq _ why = refl
+refusal_not seq k why = grind (arith, common_steps) steps 200000
 
 -- the command is a `pause` that is granted
 abbrev GrantsPause : Command → Reply → Type 0
@@ -37,10 +34,7 @@ GrantsPause asked reply = (a : ThreadArguments) × (asked ≡ command.Pause a) �
 
 paused_by : (s : Situation) (past : History) (seq : ℕ) (asked : Command) (reply : Reply) → RepliesIn s past asked reply
     → is_pause (Some (Answer seq (name_of asked) reply.result)) ≡ Some true → GrantsPause asked reply
-paused_by s past seq (command.Pause a) reply is pauses = grind (arith, common_steps, true) steps 1500000
-paused_by s past seq (command.BadArguments k) reply is pauses =
-    grind (arith, common_steps, replied, refusal_not) steps 1500000
-paused_by s past seq _ reply is pauses = absurd cc
+paused_by s past seq asked reply is pauses = grind (arith, common_steps, replied, refusal_not) steps 200000
 
 -- the step grants a pause
 record PausedBy (step : Step) : Type 0 where
@@ -52,8 +46,7 @@ record PausedBy (step : Step) : Type 0 where
 step_pauses : (past : History) (item : Item) (step : Step) → step.item ≡ item → Causes past item step
     → is_pause step.answer ≡ Some true → PausedBy step
 step_pauses past (Content (Some request)) step item_is is pauses = grind (arith, common_steps, paused_by) steps 1500000
-step_pauses past (Loaded launch file) step item_is is pauses = grind (arith, common_steps) steps 1500000
-step_pauses past _ step item_is is pauses = let e = sym (ap is_pause is.answer_is) ∙ pauses in absurd cc
+step_pauses past item step item_is is pauses = grind (arith, common_steps) steps 200000
 
 pauses_step : (step : Step) (request : Request) (a : ThreadArguments) → Grants step request
     → request.body ≡ command.Pause a → is_pause step.answer ≡ Some true
@@ -72,12 +65,7 @@ IsRead past =
     ((waiting_pause past ≡ true) × PauseWaits past) ⊎ ((waiting_pause past ≡ false) × (¬ PauseWaits past))
 
 only_true : (a : Option Outgoing) (b : Bool) → is_pause a ≡ Some b → b ≡ true
-only_true None b is = absurd cc
-only_true (Some (Event e)) b is = absurd cc
-only_true (Some (Answer seq (name.Unsupported text) r)) b is = absurd cc
-only_true (Some (Answer seq (name.Supported supported.Pause) (Ok body))) b is = cc
-only_true (Some (Answer seq (name.Supported supported.Pause) (Err why))) b is = absurd cc
-only_true (Some (Answer seq (name.Supported _) r)) b is = absurd cc
+only_true a b is = grind (arith, common_steps) steps 200000
 
 module _ (past : History) (step : Step) (causes : Causes past step.item step) where
   -- whether a pause waits after the step
@@ -134,8 +122,7 @@ module _ (past : History) (step : Step) (causes : Causes past step.item step) wh
         where
           by_since : (w : PauseWaits (past ++ step ∷ []))
               → ¬ ((Grants step w.request) ⊎ (PauseWaits past × (run_in step ≡ None)))
-          by_since w (inl granted) = let e = sym (pauses_step step w.request w.asked granted w.pause_is)
-              ∙ unpaused in cc
+          by_since w (inl granted) = grind (arith, common_steps, pauses_step) steps 200000
           by_since w (inr was) = is.1 was.0
 
       by_pause : run_in step ≡ None → (p : Option Bool) → is_pause step.answer ≡ p → IsRead (past ++ step ∷ [])
@@ -164,9 +151,7 @@ read_first = inr (refl, λ w. absurd (none_first w.early w.step w.later w.past_i
 
 -- no position is due for a pause
 no_pause : (why : Reason) → ¬ (Some (stop_of why) ≡ Some stop.Pause)
-no_pause reason.Breakpoint is = absurd cc
-no_pause reason.Entry is = absurd cc
-no_pause reason.Step is = absurd cc
+no_pause why is = grind (arith, common_steps) steps 200000
 
 reply_not : (s : Situation) (past : History) (o : Option StopReason) → StopsBy s past o → ¬ (o ≡ Some stop.Pause)
 reply_not s past None no_stop is = absurd cc
@@ -174,38 +159,28 @@ reply_not s past (Some other) (at_first l r configuring launch due_is) is = no_p
 
 launch_not : (launch : Launch) (file : Option (List ℕ)) (reply : Reply) → Launches launch.arguments file reply
     → ¬ (last_such stop_of_event reply.effect.events ≡ Some stop.Pause)
-launch_not launch None reply is stops_ = grind (arith, common_steps) steps 1500000
-launch_not launch (Some text) reply (inl is) stops_ = grind (arith, common_steps) steps 1500000
-launch_not launch (Some text) reply (inr is) stops_ = grind (arith, common_steps) steps 1500000
+launch_not launch file reply is stops_ = grind (arith, common_steps) steps 200000
 
 module _ (past : History) (r : PlainReport) where
   report_pauses : (e : SliceOutcome) → last_such stop_of_event (report_effect past r e).events ≡ Some stop.Pause
       → (e ≡ slice.Held) × (waiting_pause past ≡ true)
   report_pauses slice.More is = let e = sym (outputs_stop_not past r) ∙ is in absurd cc
-  report_pauses (slice.Due why) is = grind (arith, common_steps, no_pause, outputs_stop) steps 1500000
-  report_pauses slice.Held is = grind (arith, common_steps, true, false, outputs_stop_not) steps 1500000
-  report_pauses slice.Done is = let e = sym (outputs_stop past r (exited_events 0)) ∙ is in absurd cc
-  report_pauses (slice.Fault fault) is = grind (arith, common_steps, outputs_stop) steps 1500000
-  report_pauses slice.NoMemory is = absurd cc
+  report_pauses e is = grind (arith, common_steps, outputs_stop_not, no_pause, outputs_stop) steps 200000
 
   held_stops : (pauses : Bool) → pauses ≡ true → last_such stop_of_event (held_effect past r pauses).events
       ≡ Some stop.Pause
-  held_stops true is = outputs_stop past r (stopped_events stop.Pause)
-  held_stops false is = absurd cc
+  held_stops pauses is = grind (arith, common_steps, outputs_stop) steps 200000
 
   held_goes : (pauses : Bool) → pauses ≡ false → (last_such stop_of_event (held_effect past r pauses).events ≡ None)
       × IsSome (last_such go (held_effect past r pauses).orders)
-  held_goes true is = absurd cc
-  held_goes false is = (outputs_stop_not past r, refl)
+  held_goes pauses is = grind (arith, common_steps, outputs_stop_not) steps 200000
 
 -- a step that stops with that reason is the report of a held run
 stops_so : (past : History) (item : Item) (step : Step) → Causes past item step → stop_in step ≡ Some stop.Pause
     → (r : PlainReport) × (item ≡ Accepted r) × (r.outcome ≡ slice.Held) × (waiting_pause past ≡ true)
 stops_so past (Content (Some request)) step is stops_ =
     absurd (reply_not _ past _ (all_silent _ past request.body is.0 is.1).stops (cc is.2.effect_is))
-stops_so past (Loaded launch file) step is stops_ = grind (arith, common_steps, launch_not) steps 1500000
-stops_so past (Accepted r) step is stops_ = grind (arith, common_steps, report_pauses) steps 1500000
-stops_so past _ step is stops_ = grind (arith, common_steps) steps 1500000
+stops_so past item step is stops_ = grind (arith, common_steps, launch_not, report_pauses) steps 200000
 
 -- ---- the law
 
@@ -215,16 +190,13 @@ held_step : (past : History) (step : Step) (r : PlainReport) → Causes past ste
 held_step past step r causes item_is outcome_is = grind (arith, common_steps) steps 1500000
 
 waits_then : (past : History) → IsRead past → PauseWaits past → waiting_pause past ≡ true
-waits_then past (inl is) w = is.0
-waits_then past (inr is) w = absurd (is.1 w)
+waits_then past is w = grind (arith, common_steps) steps 200000
 
 waits_not : (past : History) → IsRead past → ¬ PauseWaits past → waiting_pause past ≡ false
-waits_not past (inl is) w = absurd (w is.1)
-waits_not past (inr is) w = is.0
+waits_not past is w = grind (arith, common_steps) steps 200000
 
 waits_so : (past : History) → IsRead past → waiting_pause past ≡ true → PauseWaits past
-waits_so past (inl is) true_ = is.1
-waits_so past (inr is) true_ = let e = sym true_ ∙ is.0 in absurd cc
+waits_so past is true_ = grind (arith, common_steps) steps 200000
 
 pub pauses_stop : PausesStop
 pauses_stop f events past rest history before step after past_is = (
@@ -253,6 +225,4 @@ pauses_stop f events past rest history before step after past_is = (
         → (last_such stop_of_event (held_effect before r (waiting_pause before)).events ≡ None)
         × IsSome (last_such go (held_effect before r (waiting_pause before)).orders)
         → (stop_in step ≡ None) × IsSome (run_in step)
-    on_effect r item_is outcome_is is =
-        subst (λ (e : Effect). (last_such stop_of_event e.events ≡ None) × IsSome (last_such go e.orders))
-        (sym (held_step before step r was.causes item_is outcome_is)) is
+    on_effect r item_is outcome_is is = rw (held_step before step r was.causes item_is outcome_is) is

@@ -1,18 +1,19 @@
 -- The steps of a text's program stand within as many lines and columns as a text may have bytes.
-use Rattle.dap_history.proofs.Common.{Block, Configuration, Err, Expression, Frame, IsTreeOf, Name, None, Ok, Option, Path, RunFault, Some, StepAt, [], arith, at, cond, frame_limit, length, next_step, option_map_or, slice_get, steps, subst, suc, value, zero, ℕ, ∥∥₁_elim, ◌++◌, ◌+◌, ◌-◌, ◌∷◌, ◌≡◌, ◌≤◌}
-use Rattle.std.proofs.Common.{Bool, true, false, eqb, nat_eq, nat_lt, List, drop, Result, ℤ, pred}
+use Rattle.dap_history.proofs.Common.{Block, Configuration, Expression, Frame, IsTreeOf, Name, None, Option, Path, RunFault, Some, StepAt, [], arith, at, cond, length, next_step, option_map_or, slice_get, steps, subst, suc, zero, ℕ, ∥∥₁_elim, ◌++◌, ◌+◌, ◌∷◌, ◌≡◌, ◌≤◌}
+use Rattle.std.proofs.Common.{Bool, true, false, nat_eq, List, drop, Result, ℤ, pred}
 use Rattle.std.specs.Prelude.{option_map, option_and_then}
 use Rattle.std.proofs.Math.Bridge.{le_prop}
 use Rattle.pl0_tree.specs.declared.tree.Place.{Place}
-use Rattle.pl0_tree.specs.Tokens.{Token, behind, is_space, front_piece, tokens_from, tokens_of, start_place}
+use Rattle.pl0_tree.specs.Tokens.{Token, behind, front_piece, tokens_from, tokens_of, start_place}
 use Rattle.pl0_tree.specs.Tree.{Condition, Statement, Empty, Then, Assign, Call, Write, If, While, Constant, ABlock, Procedures, NoMore, AProcedure, Procedure, procedure_list, body, end}
-use Rattle.pl0_tree.specs.Reading.{ReadsExpression, unsigned, positive, negative, ReadsMoreTerms, no_term, one_term, ReadsTerm, factors, ReadsMoreFactors, no_factor, one_factor, ReadsFactor, name, number, nested, ReadsCondition, odd, comparison, ReadsStatement, empty, assignment, call, write, sequence, choice, loop, ReadsStatements, last_statement, one_statement, ReadsConstants, last_constant, one_constant, ReadsConstantPart, no_constants, constants, ReadsVariables, last_variable, one_variable, ReadsVariablePart, no_variables, variables, ReadsBlock, block, ReadsProcedures, no_procedure, one_procedure, ReadsProgram, program}
-use Rattle.pl0_tree.specs.Scope.{block_at, procedure_at, Meaning, AConstant, AVariable, AProcedure as ProcedureIndex, Home, home}
+use Rattle.pl0_tree.specs.Reading.{ReadsExpression, unsigned, positive, negative, ReadsMoreTerms, no_term, one_term, ReadsTerm, factors, ReadsMoreFactors, no_factor, one_factor, ReadsFactor, name, number, nested, ReadsCondition, ReadsStatement, empty, assignment, call, write, sequence, choice, loop, ReadsStatements, last_statement, one_statement, ReadsConstants, last_constant, one_constant, ReadsConstantPart, no_constants, constants, ReadsVariables, last_variable, one_variable, ReadsVariablePart, no_variables, variables, ReadsBlock, block, ReadsProcedures, no_procedure, one_procedure, ReadsProgram, program}
+use Rattle.pl0_tree.specs.Scope.{block_at, procedure_at, Meaning, Home}
 use Rattle.pl0_tree.specs.Steps.{statement_steps, block_steps, procedures_steps}
 use Rattle.pl0_tree.specs.Faults.{limit}
-use Rattle.pl0_meaning.specs.Values.{find, truth, return_of, first_step}
+use Rattle.pl0_meaning.specs.Values.{return_of, first_step}
 use Rattle.pl0_meaning.specs.Runs.{opened, Outcome, Goes, Faults, Stuck, on_value, with_number, assigned, new_frame, callee, entered, called, returned, statement_step, frame_step, led_to, last_position, step_at, target}
 use Rattle.pl0_meaning.specs.Runs.{step as run_step}
+use Rattle.std.proofs.lemmas.Grind.{common_steps}
 
 abbrev pub most : ℕ
 most = 65537
@@ -32,8 +33,7 @@ HasRoom p n = (p.line + n ≤ most) × (p.column + n ≤ most)
 
 behind_room : (v : Bool) (p : Place) (n : ℕ) → HasRoom p (suc n)
     → HasRoom (cond v (record { line = p.line + 1; column = 1 }) (record { line = p.line; column = p.column + 1 })) n
-behind_room true p n room = (omega (arith, room.0), omega (arith, room.1))
-behind_room false p n room = (omega (arith, room.0), omega (arith, room.1))
+behind_room v p n room = grind (arith, common_steps) steps 200000
 
 abbrev next_tokens : Bool → Place → ℕ → List ℕ → List Token
 next_tokens space p b bytes = cond space (tokens_from (behind p b) zero bytes)
@@ -51,11 +51,9 @@ near_by_room p n room = (omega (arith, room.0), omega (arith, room.1))
 tokens_near_from : (bytes : List ℕ) (p : Place) (taken : ℕ) → HasRoom p (length bytes)
     → TokensNear (tokens_from p taken bytes)
 tokens_near_from [] p taken room = (near_by_room p 0 room, tt)
-tokens_near_from (b ∷ bytes) p (suc taken) room =
-    tokens_near_from bytes (behind p b) taken (behind_room (eqb b 10) p (length bytes) room)
+tokens_near_from (b ∷ bytes) p (suc taken) room = tokens_near_from bytes _ taken (behind_room _ p _ room)
 tokens_near_from (b ∷ bytes) p zero room =
-    next_near (is_space b) p b bytes (near_by_room p (length (b ∷ bytes)) room)
-    (λ taken. tokens_near_from bytes (behind p b) taken (behind_room (eqb b 10) p (length bytes) room))
+    next_near _ p b bytes (near_by_room p _ room) (λ taken. tokens_near_from bytes _ taken (behind_room _ p _ room))
 
 tokens_near : (text : List ℕ) → length text ≤ limit → TokensNear (tokens_of text)
 tokens_near text short = tokens_near_from text start_place 0 (omega (arith, short), omega (arith, short))
@@ -108,8 +106,7 @@ mutual
 
 condition_left : {n : ℕ} {s : List Token} {c : Condition} {rest : List Token} → ReadsCondition n s c rest → TokensNear s
     → TokensNear rest
-condition_left (odd expression) near = expression_left expression near.1
-condition_left (comparison first comparing second) near = expression_left second (expression_left first near).1
+condition_left is near = grind (arith, common_steps, expression_left) steps 200000
 
 mutual
   statement_near : {n : ℕ} {s : List Token} {x : Statement} {rest : List Token} → ReadsStatement n s x rest
@@ -177,11 +174,9 @@ tree_near text main is = program_near is.reads (tokens_near text is.short)
 statement_near_prop : (x : Statement) → IsProp (StatementNear x)
 statement_near_prop Empty = hlevel
 statement_near_prop (Then x y) = hlevel (statement_near_prop x, statement_near_prop y)
-statement_near_prop (Assign x e) = hlevel le_prop
-statement_near_prop (Call p x) = hlevel le_prop
-statement_near_prop (Write p e) = hlevel le_prop
 statement_near_prop (If p c inner) = hlevel (le_prop, statement_near_prop inner)
 statement_near_prop (While p c inner) = hlevel (le_prop, statement_near_prop inner)
+statement_near_prop _ = hlevel le_prop
 
 mutual
   block_near_prop : (b : Block) → IsProp (BlockNear b)
@@ -206,14 +201,11 @@ steps_near-append [] ts a b = b
 steps_near-append (s ∷ ss) ts a b = (a.0, steps_near-append ss ts a.1 b)
 
 statement_steps_near : (x : Statement) (q : Path) → StatementNear x → StepsNear (statement_steps x q)
-statement_steps_near Empty q near = tt
 statement_steps_near (Then x y) q near =
     steps_near-append _ _ (statement_steps_near x q near.0) (statement_steps_near y q near.1)
-statement_steps_near (Assign x e) q near = (near, tt)
-statement_steps_near (Call p x) q near = (near, tt)
-statement_steps_near (Write p e) q near = (near, tt)
 statement_steps_near (If p c inner) q near = (near.0, statement_steps_near inner q near.1)
 statement_steps_near (While p c inner) q near = (near.0, statement_steps_near inner q near.1)
+statement_steps_near x q near = grind (arith, common_steps) steps 200000
 
 mutual
   block_steps_near : (b : Block) (q : Path) → BlockNear b → StepsNear (block_steps b q)
@@ -231,9 +223,8 @@ MayBeNear None = Unit {0}
 MayBeNear (Some s) = IsNear s.place
 
 step_near : (ss : List StepAt) (n : ℕ) → StepsNear ss → MayBeNear (slice_get ss n)
-step_near [] n near = tt
-step_near (s ∷ ss) zero near = near.0
 step_near (s ∷ ss) (suc n) near = step_near ss n near.1
+step_near ss n near = grind (arith, common_steps) steps 200000
 
 -- each step of a program is near
 pub program_step_near : (main : Block) (n : ℕ) → BlockNear main → MayBeNear (slice_get (steps main) n)
@@ -247,13 +238,11 @@ BlockMayBeNear (Some b) = BlockNear b
 
 procedure_near : (ps : Procedures) (i : ℕ) → ProceduresNear ps
     → BlockMayBeNear (option_map (λ (p : Procedure). p.block) (slice_get (procedure_list ps) i))
-procedure_near NoMore i near = tt
-procedure_near (AProcedure x b more) zero near = near.0
 procedure_near (AProcedure x b more) (suc i) near = procedure_near more i near.1
+procedure_near ps i near = grind (arith, common_steps) steps 200000
 
 inner_near : (i : ℕ) (o : Option Block) → BlockMayBeNear o → BlockMayBeNear (option_and_then (procedure_at i) o)
-inner_near i None near = tt
-inner_near i (Some (ABlock cs xs ps statement ending)) near = procedure_near ps i near.0
+inner_near i o near = grind (arith, common_steps, procedure_near) steps 200000
 
 block_at_near : (main : Block) (q : Path) → BlockNear main → BlockMayBeNear (block_at main q)
 block_at_near main [] near = near
@@ -276,9 +265,8 @@ todo_near-append [] ts a b = b
 todo_near-append (s ∷ ss) ts a b = (a.0, todo_near-append ss ts a.1 b)
 
 opened_near : (s : Statement) → StatementNear s → TodoNear (opened s)
-opened_near Empty near = tt
 opened_near (Then s t) near = todo_near-append (opened s) (opened t) (opened_near s near.0) (opened_near t near.1)
-opened_near _ near = (near, tt)
+opened_near s near = grind (arith, common_steps) steps 200000
 
 abbrev pub FramesNear : Configuration → Type 0
 FramesNear [] = Unit {0}
@@ -291,18 +279,15 @@ OutcomeNear Over = Unit {0}
 
 on_value_near : {A : Type 0} (r : Result A RunFault) (go : A → Outcome) → ((a : A) → OutcomeNear (go a))
     → OutcomeNear (on_value r go)
-on_value_near (Ok a) go near = near a
-on_value_near (Err fault) go near = tt
+on_value_near r go near = grind (arith, common_steps) steps 200000
 
 either_near : (b : Bool) (some other : Configuration) → FramesNear some → FramesNear other
     → FramesNear (cond b some other)
-either_near true some other near far = near
-either_near false some other near far = far
+either_near b some other near far = grind (arith, common_steps) steps 200000
 
 either_outcome : (b : Bool) (some other : Outcome) → OutcomeNear some → OutcomeNear other
     → OutcomeNear (cond b some other)
-either_outcome true some other near far = near
-either_outcome false some other near far = far
+either_outcome b some other near far = grind (arith, common_steps) steps 200000
 
 with_number_near : (c : Configuration) (i k : ℕ) (v : ℤ) → FramesNear c → FramesNear (with_number c i k v)
 with_number_near [] i k v near = tt
@@ -311,8 +296,7 @@ with_number_near (f ∷ below) i k v near =
 
 number_near : (c : Configuration) (o : Option (ℕ × ℕ)) (v : ℤ) → FramesNear c
     → FramesNear (option_map_or (λ (i, k). with_number c i k v) o c)
-number_near c None v near = near
-number_near c (Some (i, k)) v near = with_number_near c i k v near
+number_near c o v near = grind (arith, common_steps, with_number_near) steps 200000
 
 assigned_near : (c : Configuration) (o : Option Home) (v : ℤ) → FramesNear c → FramesNear (assigned c o v)
 assigned_near c o v near =
@@ -323,9 +307,7 @@ EntersNear c o = OutcomeNear (option_map_or (entered c) o Stuck)
 
 new_frame_near : (o : Option Block) (q : Path) (link : ℕ) (c : Configuration) → BlockMayBeNear o → FramesNear c
     → EntersNear c (option_map (λ b. new_frame b q link) o)
-new_frame_near None q link c near frames = tt
-new_frame_near (Some b) q link c near frames =
-    either_outcome (nat_lt (length c) frame_limit) _ _ (opened_near (body b) (body_near b near), frames) tt
+new_frame_near o q link c near frames = grind (arith, common_steps, either_outcome, opened_near, body_near) steps 200000
 
 module _ (main : Block) (near : BlockNear main) where
   linked_near : (c : Configuration) (q : Path) (k : ℕ) (o : Option ℕ) → FramesNear c
@@ -335,52 +317,34 @@ module _ (main : Block) (near : BlockNear main) where
       new_frame_near (block_at main (k ∷ q)) (k ∷ q) link c (block_at_near main (k ∷ q) near) frames
 
   callee_near : (c : Configuration) (q : Path) (m : Meaning) → FramesNear c → EntersNear c (callee main c q m)
-  callee_near c q (ProcedureIndex k) frames = linked_near c q k (find c (length c - 1) q) frames
-  callee_near c q (AConstant k) frames = tt
-  callee_near c q (AVariable k) frames = tt
+  callee_near c q m frames = grind (arith, common_steps, linked_near) steps 200000
 
   called_near : (c : Configuration) (o : Option Home) → FramesNear c → OutcomeNear (called main c o)
-  called_near c None frames = tt
-  called_near c (Some h) frames = callee_near c h.path h.declaration.meaning frames
+  called_near c o frames = grind (arith, common_steps, callee_near) steps 200000
 
   chosen_near : (f : Frame) (below : Configuration) (b : Bool) (some other : List Statement) → TodoNear some
       → TodoNear other → FramesNear below → FramesNear (record f { todo = cond b some other } ∷ below)
-  chosen_near f below true some other a b frames = (a, frames)
-  chosen_near f below false some other a b frames = (b, frames)
+  chosen_near f below b some other a is frames = grind (arith, common_steps) steps 200000
 
   statement_step_near : (f : Frame) (below : Configuration) (s : Statement) (rest : List Statement)
       → FramesNear (f ∷ below) → StatementNear s → TodoNear rest → OutcomeNear (statement_step main f below s rest)
-  statement_step_near f below (Assign x e) rest frames here more =
-      on_value_near (value main (f ∷ below) (length below) e) _
-      (λ v. assigned_near (record f { todo = rest } ∷ below) (home main f.block x.word) v (more, frames.1))
-  statement_step_near f below (Write p e) rest frames here more =
-      on_value_near (value main (f ∷ below) (length below) e) _ (λ v. (more, frames.1))
-  statement_step_near f below (If p test s) rest frames here more =
-      on_value_near (truth main (f ∷ below) (length below) test) _ (λ holds. chosen_near f below holds _ rest
-      (todo_near-append _ rest (opened_near s here.1) more) more frames.1)
-  statement_step_near f below (While p test s) rest frames here more =
-      on_value_near (truth main (f ∷ below) (length below) test) _ (λ holds. chosen_near f below holds _ rest
-      (todo_near-append _ _ (opened_near s here.1) (here, more)) more frames.1)
-  statement_step_near f below (Call p x) rest frames here more = called_near (f ∷ below) _ frames
-  statement_step_near f below Empty rest frames here more = tt
-  statement_step_near f below (Then s t) rest frames here more = tt
+  statement_step_near f below s rest frames here more =
+      grind (arith, common_steps, on_value_near, assigned_near, chosen_near, todo_near-append, opened_near, called_near)
+      steps 200000
 
   rest_near : (todo : List Statement) → TodoNear todo → TodoNear (drop 1 todo)
-  rest_near [] near = tt
-  rest_near (s ∷ rest) near = near.1
+  rest_near todo near = grind (arith, common_steps) steps 200000
 
   returned_near : (below : Configuration) → FramesNear below → FramesNear (returned below)
-  returned_near [] frames = tt
-  returned_near (g ∷ below) frames = (rest_near g.todo frames.0, frames.1)
+  returned_near below frames = grind (arith, common_steps, rest_near) steps 200000
 
   frame_step_near : (f : Frame) (below : Configuration) (todo : List Statement) → FramesNear (f ∷ below) → TodoNear todo
       → OutcomeNear (frame_step main f below todo)
-  frame_step_near f below [] frames near = returned_near below frames.1
-  frame_step_near f below (s ∷ rest) frames near = statement_step_near f below s rest frames near.0 near.1
+  frame_step_near f below todo frames near =
+      grind (arith, common_steps, returned_near, statement_step_near) steps 200000
 
   run_step_near : (c : Configuration) → FramesNear c → OutcomeNear (run_step main c)
-  run_step_near [] frames = tt
-  run_step_near (f ∷ below) frames = frame_step_near f below f.todo frames frames.0
+  run_step_near c frames = grind (arith, common_steps, frame_step_near) steps 200000
 
   step_at_near : (n : ℕ) (c : Configuration) → FramesNear c → OutcomeNear (step_at main n c)
   step_at_near n c frames = either_outcome (nat_eq n last_position) _ _ tt (run_step_near c frames)
@@ -390,22 +354,18 @@ module _ (main : Block) (near : BlockNear main) where
   MayBeFramesNear (Some c) = FramesNear c
 
   next_near_of : (o : Outcome) → OutcomeNear o → MayBeFramesNear (led_to o)
-  next_near_of (Goes w c) frames = frames
-  next_near_of (Faults fault) frames = tt
-  next_near_of Stuck frames = tt
+  next_near_of o frames = grind (arith, common_steps) steps 200000
 
   after_step_near : (n : ℕ) (o : Option Configuration) → MayBeFramesNear o
       → MayBeFramesNear (option_and_then (λ c. led_to (step_at main n c)) o)
-  after_step_near n None frames = tt
-  after_step_near n (Some c) frames = next_near_of (step_at main n c) (step_at_near n c frames)
+  after_step_near n o frames = grind (arith, common_steps, next_near_of, step_at_near) steps 200000
 
   at_near : (n : ℕ) → MayBeFramesNear (at main n)
   at_near zero = (opened_near (body main) (body_near main near), tt)
   at_near (suc n) = after_step_near n (at main n) (at_near n)
 
   return_near : (o : Option Block) (q : Path) → BlockMayBeNear o → MayBeNear (return_of o q)
-  return_near None q there = tt
-  return_near (Some b) q there = end_near b there
+  return_near o q there = grind (arith, common_steps, end_near) steps 200000
 
   first_near : (q : Path) (todo : List Statement) → TodoNear todo → MayBeNear (first_step main q todo)
   first_near q [] todo = return_near (block_at main q) q (block_at_near main q near)

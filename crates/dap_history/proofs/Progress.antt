@@ -1,5 +1,5 @@
 -- The numbers reported are those that the program wrote, step by step.
-use Rattle.dap_history.proofs.Common.{Accepted, Accepts, Answers, Causes, Content, Effect, Event, Fault, Fresh, HasEffect, Heading, History, InputEnd, IsLawfulReport, IsTreeOf, Item, Launch, Launched, Launches, Loaded, MemoryFailure, None, Option, PlainReport, Quit, ReadFailure, Ready, Reply, Situation, Some, Step, WrittenJoins, [], answer_mark, ap, append-nil, arith, end_of, filter_map, go, goes_back, inl, inr, last_run, last_such, launched, launches, max, messages, messages_of, name_of, nothing, numbers, only_orders, or_else, output, reached, refl, report_effect, situation, step_mark, subst, sym, unwrap_or, written, ℕ, ◌++◌, ◌∙◌, ◌∷◌, ◌≡◌, ◌≤◌, ◌⊎◌}
+use Rattle.dap_history.proofs.Common.{Accepted, Accepts, Answers, Causes, Content, Effect, Event, Fault, Fresh, HasEffect, Heading, History, InputEnd, IsLawfulReport, IsTreeOf, Item, Launch, Launched, Launches, Loaded, MemoryFailure, None, Option, PlainReport, Quit, ReadFailure, Ready, Reply, Situation, Some, Step, WrittenJoins, [], answer_mark, ap, append-nil, arith, end_of, filter_map, go, inl, inr, last_run, last_such, launched, launches, max, messages, messages_of, name_of, nothing, numbers, only_orders, or_else, output, reached, refl, report_effect, situation, step_mark, subst, sym, written, ℕ, ◌++◌, ◌∙◌, ◌∷◌, ◌≡◌, ◌≤◌}
 use Rattle.std.proofs.Common.{List, Bool}
 use Rattle.std.specs.Prelude.{map}
 use Rattle.dap_msg.specs.declared.command.CommandName.TheVariants as name
@@ -12,7 +12,7 @@ use Rattle.dap_history.proofs.Along.{IsTaken, IsKept, IsLawfulEvent, lawful_even
 use Rattle.dap_history.proofs.Early.{IsEarly, IsEarlyMark, unanswered_late, answered_late, result_late, early_reply, early_unwrap}
 use Rattle.dap_history.proofs.Silent.{GoesBy, no_go, of_text, IsSilent, nothing_silent, quit_silent, all_silent}
 use Rattle.dap_history.proofs.Went.{nothing_told, told_joins}
-use Rattle.dap_history.proofs.Outputs.{answer_aside, no_answer, told_numbers, report_numbers, report_launches, GoesAs, GoesOn, no_run, as_text, report_goes}
+use Rattle.dap_history.proofs.Outputs.{answer_aside, no_answer, told_numbers, report_numbers, report_launches, GoesAs, no_run, as_text, report_goes}
 use Rattle.std.proofs.lemmas.Grind.{common_steps}
 
 -- what is reported before a program is launched, and after
@@ -30,9 +30,7 @@ pub record Progress (past : History) : Type 0 where
 
 -- whether a mark is early can be decided
 pub decided : (o : Option Situation) → ¬ (¬ IsEarlyMark o) → IsEarlyMark o
-decided (Some Fresh) not = tt
-decided (Some Ready) not = tt
-decided _ not = absurd (not (λ x. x))
+decided o not = grind (arith, common_steps) steps 200000
 
 -- ---- a step that reports no number and launches nothing
 
@@ -51,23 +49,16 @@ goes_text : (past : History) (o : Option Heading) (l : Launched) → GoesBy past
     → (run : Heading) → or_else o (last_run past) ≡ Some run → run.text ≡ l.text
 goes_text past None l no_go is before run e = before run e
 goes_text past (Some other) l (of_text run' k there text begins) is before run e =
-    let same : other ≡ run = cc in
-    let launch : k ≡ l = cc in
-    ap (λ (r : Heading). r.text) (sym same) ∙ text ∙ ap (λ (k : Launched). k.text) launch
+    grind (arith, common_steps) steps 200000
 
 reached_still : (past : History) (step : Step) → end_of step.item ≡ None → reached (past ++ step ∷ []) ≡ reached past
-reached_still past step stays =
-    reached-snoc past step ∙ ap (λ o. max (reached past) (unwrap_or o 0)) stays ∙ omega arith
+reached_still past step stays = grind (arith, common_steps, reached-snoc, reached) steps 200000
 
 aside_progress : (past : History) (step : Step) → IsAside past step → (l : Option Launched) → launched past ≡ l
     → ProgressOf past l → ProgressOf (past ++ step ∷ []) l
-aside_progress past step aside None is progress = (
-  cc (numbers-snoc past step, aside.no_numbers, append-nil (numbers (messages_of past)), progress.0),
-  cc (last_run-snoc past step, goes_none past (last_such go step.effect.orders) aside.goes is, progress.1),
-  cc (position-snoc past step, aside.moves_nothing, progress.2),
-  reached_still past step aside.moves_nothing ∙
-      progress.3,
-)
+aside_progress past step aside None is progress =
+    grind (arith, common_steps, numbers-snoc, append-nil, last_run-snoc, goes_none, go, position-snoc, reached_still)
+    steps 200000
 aside_progress past step aside (Some l) is progress = (
   numbers-snoc past step ∙ ap (λ l. numbers (messages_of past) ++ l) aside.no_numbers
       ∙ append-nil (numbers (messages_of past)) ∙ progress.0
@@ -79,61 +70,40 @@ aside_progress past step aside (Some l) is progress = (
 
 was_early : (past : History) (step : Step) → (IsEarlyMark (step_mark step) → situation past ≡ Fresh)
     → IsEarly (situation (past ++ step ∷ [])) → IsEarly (situation past)
-was_early past step marks is =
-    by_mark (early_unwrap (step_mark step) (situation past) (subst IsEarly (situation-snoc past step) is))
-  where
-    by_mark : (IsEarlyMark (step_mark step)) ⊎ ((step_mark step ≡ None) × IsEarly (situation past))
-        → IsEarly (situation past)
-    by_mark (inl m) = subst IsEarly (sym (marks m)) tt
-    by_mark (inr stays) = stays.1
+was_early past step marks is = grind (arith, common_steps, early_unwrap, situation-snoc) steps 200000
 
 aside_keeps : (past : History) (step : Step) → IsAside past step
     → (IsEarlyMark (step_mark step) → situation past ≡ Fresh) → Progress past → Progress (past ++ step ∷ [])
-aside_keeps past step aside marks so_far = record {
-  early = λ is. launch_same ∙ so_far.early (was_early past step marks is);
-  progress = λ l is. aside_progress past step aside l (sym launch_same ∙ is) (so_far.progress l (sym launch_same ∙ is));
-}
-  where
-    launch_same : launched (past ++ step ∷ []) ≡ launched past
-    launch_same = launched-snoc past step ∙ ap (λ o. or_else o (launched past)) aside.no_launch
+aside_keeps past step aside marks so_far =
+    grind (arith, common_steps, was_early, aside_progress, launched-snoc) steps 200000
 
 silent_aside : {starts : Bool} (past : History) (step : Step) (effect : Effect) → step.effect ≡ effect
     → end_of step.item ≡ None → IsSilent starts (situation past) past effect
     → numbers (messages step) ≡ filter_map output (map Event step.effect.events) → IsAside past step
-silent_aside past step effect is stays silent progress = record {
-  no_numbers = progress ∙ ap (λ (e : Effect). filter_map output (map Event e.events)) is ∙ silent.no_numbers;
-  no_launch = ap (λ (e : Effect). e.launched) is ∙ silent.no_launch;
-  moves_nothing = stays;
-  goes = subst (λ (e : Effect). GoesBy past (last_such go e.orders)) (sym is) silent.goes;
-}
+silent_aside past step effect is stays silent progress = grind (arith, common_steps, filter_map, go) steps 200000
 
 nothing_aside : {starts : Bool} (past : History) (item : Item) (step : Step) → step.item ≡ item → end_of item ≡ None
     → (effect : Effect) → IsSilent starts (situation past) past effect → HasEffect effect step → Progress past
     → Progress (past ++ step ∷ [])
 nothing_aside past item step is stays effect silent has so_far =
-    aside_keeps past step (silent_aside past step effect has.effect_is (ap end_of is ∙ stays) silent
-    (no_answer step has.answer_is))
-    (λ m. absurd (unanswered_late step has.answer_is m)) so_far
+    grind (arith, common_steps, aside_keeps, silent_aside, no_answer, unanswered_late) steps 200000
 
 -- ---- a report
 
 module _ (one : OneProgram) (joins : WrittenJoins) where
   pub report_text : (past : History) (r : PlainReport) (l : Launched) → Accepts past r → ProgressOf past (Some l)
       → r.text ≡ l.text
-  report_text past r l accepts progress =
-      ap (λ (h : Heading). h.text) accepts.expected ∙ progress.1 accepts.run accepts.run_is
+  report_text past r l accepts progress = cc (accepts.expected, progress.1 accepts.run accepts.run_is)
 
   pub report_program : (past : History) (r : PlainReport) (lawful : IsLawfulReport r) (l : Launched) → Accepts past r
       → ProgressOf past (Some l) → lawful.program ≡ l.program
-  report_program past r lawful l accepts progress =
-      one l.text _ _ (rw (← (report_text past r l accepts progress)) lawful.reads) progress.2
+  report_program past r lawful l accepts progress = grind (arith, common_steps, report_text) steps 200000
 
   as_run : (text : List ℕ) (finish : ℕ) (o : Option Heading) (before : Option Heading) → GoesAs text finish o
       → ((run : Heading) → before ≡ Some run → run.text ≡ text) → (run : Heading) → or_else o before ≡ Some run
       → run.text ≡ text
   as_run text finish None before no_run was run e = was run e
-  as_run text finish (Some other) before (as_text run' is begins) was run e =
-      let same : other ≡ run = cc in ap (λ (r : Heading). r.text) (sym same) ∙ is
+  as_run text finish (Some other) before (as_text run' is begins) was run e = grind (arith, common_steps) steps 200000
 
   report_progress : (past : History) (r : PlainReport) (step : Step) → step.item ≡ Accepted r
       → HasEffect (report_effect past r r.outcome) step → Accepts past r → IsLawfulReport r
@@ -141,44 +111,30 @@ module _ (one : OneProgram) (joins : WrittenJoins) where
   report_progress past r step is has accepts lawful None progress =
       absurd (let e = sym progress.1 ∙ accepts.run_is in cc)
   report_progress past r step is has accepts lawful (Some l) progress =
-      let here : reached (past ++ step ∷ []) ≡ max (reached past) r.end =
-      reached-snoc past step ∙ ap (λ i. max (reached past) (unwrap_or (end_of i) 0)) is in
+      let here : reached (past ++ step ∷ []) ≡ max (reached past) r.end = cc (reached-snoc past step) in
       let text = report_text past r l accepts progress in
       let same = report_program past r lawful l accepts progress in
       let adds : numbers (messages step) ≡ told_numbers past r =
-      no_answer step has.answer_is ∙ ap (λ (e : Effect). filter_map output (map Event e.events)) has.effect_is
-      ∙ report_numbers past r r.outcome (nothing_told lawful.program r lawful.lawful) in
-      let so_far : numbers (messages_of past) ≡ written lawful.program 0 (reached past) =
-      progress.0 ∙ ap (λ p. written p 0 (reached past)) (sym same) in
-      let begun : r.start ≤ reached past =
-      subst (λ b. b ≤ reached past) (sym (ap (λ (h : Heading). h.start) accepts.expected)) (position_reached past)
+      cc (no_answer step has.answer_is, has.effect_is, report_numbers past r r.outcome (nothing_told _ r lawful.lawful))
+      in
+      let so_far : numbers (messages_of past) ≡ written lawful.program 0 (reached past) = cc progress.0 in
+      let begun : r.start ≤ reached past = rw (ap (λ (h : Heading). h.start) accepts.expected) (position_reached past)
       in (
-        numbers-snoc past step
-            ∙ ap (λ n. numbers (messages_of past) ++ n) adds
-            ∙ told_joins joins lawful.program r lawful.lawful.before (numbers (messages_of past)) (reached past) so_far
-            begun (goes_back r.mode) lawful.lawful.went
-            ∙ ap (λ p. written p 0 (max (reached past) r.end)) same
-            ∙ ap (written l.program 0) (sym here),
-        λ run e. as_run l.text r.end (last_such go step.effect.orders) (last_run past)
-            (subst (λ t. GoesAs t r.end (last_such go step.effect.orders)) text
-            (subst (GoesOn r) (sym has.effect_is) (report_goes past r r.outcome)))
-            progress.1 run (sym (last_run-snoc past step) ∙ e),
+        cc (numbers-snoc past step, told_joins joins _ r lawful.lawful.before _ _ so_far begun _ lawful.lawful.went),
+        λ
+            run e. as_run l.text r.end _ _ (rw (← text) (rw has.effect_is (report_goes past r r.outcome))) progress.1
+            run (sym
+            (last_run-snoc past step)
+            ∙ e),
         progress.2,
       )
 
   report_keeps : (past : History) (r : PlainReport) (step : Step) → step.item ≡ Accepted r
       → HasEffect (report_effect past r r.outcome) step → Accepts past r → IsLawfulReport r → Progress past
       → Progress (past ++ step ∷ [])
-  report_keeps past r step is has accepts lawful so_far = record {
-    early = λ e. launch_same ∙ so_far.early
-        (was_early past step (λ m. absurd (unanswered_late step has.answer_is m)) e);
-    progress = λ l e. report_progress past r step is has accepts lawful l (so_far.progress l (sym launch_same ∙ e));
-  }
-    where
-      launch_same : launched (past ++ step ∷ []) ≡ launched past
-      launch_same =
-          launched-snoc past step ∙ ap (λ (e : Effect). or_else e.launched (launched past)) has.effect_is
-          ∙ ap (λ o. or_else o (launched past)) (report_launches past r r.outcome)
+  report_keeps past r step is has accepts lawful so_far =
+      grind (arith, common_steps, was_early, unanswered_late, report_progress, launched-snoc, report_launches) steps
+      200000
 
   -- ---- a launch
 
@@ -228,10 +184,6 @@ module _ (one : OneProgram) (joins : WrittenJoins) where
     where
       by_answer : ¬ (¬ IsEarlyMark (answer_mark (name_of request.body) causes.0.result)) → situation past ≡ Fresh
       by_answer not = early_reply _ past request.body causes.0 causes.1 (decided _ not)
-  progress_more past (Loaded launch file) step is ready causes so_far =
-      launch_keeps past launch file step is ready causes.0 causes.1 causes.2 so_far
-  progress_more past (Accepted r) step is taken causes so_far =
-      report_keeps past r step is causes taken.0 taken.1 so_far
   progress_more past (Fault k) step is taken causes so_far =
       nothing_aside past (Fault k) step is refl nothing (nothing_silent past) causes so_far
   progress_more past InputEnd step is taken causes so_far =
@@ -240,19 +192,14 @@ module _ (one : OneProgram) (joins : WrittenJoins) where
       nothing_aside past ReadFailure step is refl (only_orders (Quit ∷ [])) (quit_silent past) causes so_far
   progress_more past MemoryFailure step is taken causes so_far =
       nothing_aside past MemoryFailure step is refl nothing (nothing_silent past) causes so_far
+  progress_more past item step is taken causes so_far =
+      grind (arith, common_steps, launch_keeps, report_keeps) steps 200000
 
   pub progress_kept : IsKept IsLawfulEvent Progress
-  progress_kept = record {
-    step = λ past item new taking taken after here.
-        subst Progress (sym after.new_is) (progress_more past item after.step after.item_is taken after.causes here);
-  }
+  progress_kept = grind (arith, common_steps, progress_more) steps 200000
 
   pub progress_first : Progress []
-  progress_first = record { early = λ e. refl; progress = first_progress }
-    where
-      first_progress : (l : Option Launched) → launched [] ≡ l → ProgressOf [] l
-      first_progress None is = (refl, refl, refl, refl)
-      first_progress (Some l) is = absurd cc
+  progress_first = grind (arith, common_steps) steps 200000
 
   pub numbers_written : NumbersAreWritten
   numbers_written f events past rest lawful history =

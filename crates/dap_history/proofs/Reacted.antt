@@ -1,5 +1,5 @@
 -- The table read by reactions: which command has each of them, in which situation, and of which program.
-use Rattle.dap_history.proofs.Common.{Body, Breakpoint, Close, Command, Configuring, Faulted, Fresh, History, Inspects, InspectsAs, Interrupt, IsResolved, IsStopped, Launched, None, OfProgram, Option, Question, Reaction, Reacts, Ready, Refusal, Refuse, RepliesIn, Reply, Resolution, Resume, ResumeKind, Retreat, RetreatKind, Running, SetBreakpoints, SetBreakpointsArguments, SetsOf, Situation, Some, Start, Stopped, ThreadArguments, answer_to_line, ap, if◌then◌else◌, is_same_path, launched, line_offset, other_source, refl, reply_of, subst, sym, ◌∙◌, ◌≡◌}
+use Rattle.dap_history.proofs.Common.{Body, Breakpoint, Close, Command, Configuring, Faulted, Fresh, History, Inspects, InspectsAs, Interrupt, IsResolved, IsStopped, Launched, OfProgram, Option, Question, Reaction, Reacts, Ready, Refusal, Refuse, RepliesIn, Reply, Resolution, Resume, ResumeKind, Retreat, RetreatKind, Running, SetBreakpoints, SetBreakpointsArguments, SetsOf, Situation, Some, Start, Stopped, ThreadArguments, answer_to_line, ap, if◌then◌else◌, is_same_path, launched, line_offset, other_source, refl, reply_of, subst, sym, ◌∙◌, ◌≡◌}
 use Rattle.std.proofs.Common.{Bool, true, false}
 use Rattle.std.specs.Prelude.{List, map, Ok}
 use Rattle.dap_msg.specs.declared.command.Command.TheVariants as command
@@ -41,8 +41,7 @@ pub data Reacted (past : History) : Situation → Command → Reaction → Type 
 -- what is so of each launched program is so of the one that there is
 pub of_program : (past : History) (l : Option Launched) → launched past ≡ l → (says : Launched → Type 0) (P : Type 0)
     → ((l : Launched) → launched past ≡ Some l → says l → P) → OfProgram l says → P
-of_program past None there says P by is = absurd is
-of_program past (Some l) there says P by is = by l there is
+of_program past l there says here by is = grind (arith, common_steps) steps 200000
 
 module _ (past : History) where
   -- this reaction
@@ -61,8 +60,7 @@ module _ (past : History) where
       → Reacted past s (command.SetBreakpoints a) reaction
   sets_of s a reaction l there true path_is is =
       only (by_setting s a l is.answers is.breakpoints there path_is is.resolved) is.reaction_is
-  sets_of s a reaction l there false path_is is =
-      only (by_answering s (command.SetBreakpoints a) _ (l, there, path_is, refl)) is
+  sets_of s a reaction l there false path_is is = only (by_answering s _ _ (l, there, path_is, refl)) is
 
   inspects : (s : Situation) (q : Question) (reaction : Reaction) → IsStopped s → Inspects past q reaction
       → Reacted past s (command.Inspect q) reaction
@@ -74,8 +72,7 @@ module _ (past : History) where
       → OfProgram (launched past) (λ l. reaction ≡ (if is_main_thread a.thread_id then Retreat l kind
       else Refuse refusal.UnknownThread)) → Reacted past s (command.Retreat kind a) reaction
   retreats_there s kind a reaction stands is =
-      of_program past (launched past) refl _ (Reacted past s (command.Retreat kind a) reaction)
-      (λ l there says. by_thread (is_main_thread a.thread_id) (by_retreating s kind a l stands there) says) is
+      of_program past _ refl _ _ (λ l there says. by_thread _ (by_retreating s kind a l stands there) says) is
 
   pub reacted : (s : Situation) (asked : Command) (reaction : Reaction) → Reacts s past asked reaction
       → Reacted past s asked reaction
@@ -89,8 +86,7 @@ module _ (past : History) where
   reacted Fresh command.Threads reaction is = only (by_refusing _ _ _) is
   reacted s command.Threads reaction is = only (by_answering s command.Threads _ refl) is
   reacted Stopped (command.Resume kind a) reaction is =
-      of_program past (launched past) refl _ (Reacted past Stopped (command.Resume kind a) reaction)
-      (λ l there says. by_thread (is_main_thread a.thread_id) (by_resuming kind a l there) says) is
+      of_program past _ refl _ _ (λ l there says. by_thread _ (by_resuming kind a l there) says) is
   reacted Faulted (command.Resume kind a) reaction is = by_thread (is_main_thread a.thread_id) (by_ending kind a) is
   reacted Stopped (command.Retreat kind a) reaction is = retreats_there Stopped kind a reaction tt is
   reacted Faulted (command.Retreat kind a) reaction is = retreats_there Faulted kind a reaction tt is

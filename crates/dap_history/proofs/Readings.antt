@@ -1,17 +1,16 @@
 -- How the readings of a history go on with one more step.
-use Rattle.dap_history.proofs.Common.{Fresh, History, None, Option, Some, Step, [], append-nil, arith, closing, end_of, ending_of, filter_map, filter_map-append, flat_map-append, go, hold_mark, last_run, last_such, launched, length, length-append, max, messages, messages_of, no_plan, numbers, numbers_told, or_else, orders_of, output, plan, reached, refl, runs, settings, settings_by, situation, step_mark, sym, unwrap_or, waiting_pause, waiting_plan, waits_by, ◌++◌, ◌+◌, ◌∷◌, ◌≡◌, ◌≤◌, ap, ℕ, ◌∙◌}
+use Rattle.dap_history.proofs.Common.{Fresh, History, None, Option, Step, [], append-nil, arith, closing, end_of, ending_of, filter_map, filter_map-append, flat_map-append, go, hold_mark, last_run, last_such, launched, length, length-append, max, messages, messages_of, no_plan, numbers, numbers_told, or_else, orders_of, output, plan, reached, runs, settings, settings_by, situation, step_mark, sym, unwrap_or, waiting_pause, waiting_plan, waits_by, ◌++◌, ◌+◌, ◌∷◌, ◌≡◌, ◌≤◌}
 use Rattle.std.proofs.Common.{List}
 use Rattle.std.specs.Prelude.{false}
 use Rattle.dap_history.specs.History.{next_seq}
 use Rattle.dap_history.specs.Readings.{from_one, position, pauses_by, is_held}
+use Rattle.std.proofs.lemmas.Grind.{common_steps}
 
 pub or_else-none : {A : Type 0} (x : Option A) → or_else x None ≡ x
-or_else-none None = refl
-or_else-none (Some x) = refl
+or_else-none x = grind (arith, common_steps) steps 200000
 
 pub or_else_assoc : {A : Type 0} (x y z : Option A) → or_else (or_else x y) z ≡ or_else x (or_else y z)
-or_else_assoc None y z = refl
-or_else_assoc (Some x) y z = refl
+or_else_assoc x y z = grind (arith, common_steps) steps 200000
 
 pub last_such-append : {A B : Type 0} (f : A → Option B) (xs ys : List A)
     → last_such f (xs ++ ys) ≡ or_else (last_such f ys) (last_such f xs)
@@ -38,8 +37,7 @@ ending_of-snoc past step = last_such-snoc (λ (s : Step). closing s.item) past s
 -- a reading with a first value
 pub unwrap_or-else : {A : Type 0} (a b : Option A) (first : A)
     → unwrap_or (or_else a b) first ≡ unwrap_or a (unwrap_or b first)
-unwrap_or-else None b first = refl
-unwrap_or-else (Some x) b first = refl
+unwrap_or-else a b first = grind (arith, common_steps) steps 200000
 
 pub reading-snoc : {A B : Type 0} (f : A → Option B) (xs : List A) (x : A) (first : B)
     → unwrap_or (last_such f (xs ++ x ∷ [])) first ≡ unwrap_or (f x) (unwrap_or (last_such f xs) first)
@@ -77,12 +75,7 @@ reached-snoc (s ∷ past) step = let e = reached-snoc past step in grind (arith,
 -- where the program stands is no further than it has reached
 pub position_reached : (past : History) → position past ≤ reached past
 position_reached [] = omega arith
-position_reached (step ∷ past) = by_last (last_such (λ (s : Step). end_of s.item) past) (position_reached past)
-  where
-    by_last : (o : Option ℕ) → unwrap_or o 0 ≤ reached past → unwrap_or (or_else o (end_of step.item)) 0 ≤ max
-        (unwrap_or (end_of step.item) 0) (reached past)
-    by_last None so_far = omega arith
-    by_last (Some n) so_far = omega (arith, so_far)
+position_reached (step ∷ past) = grind (arith, common_steps, position_reached past, reached) steps 200000
 
 pub plan-snoc : (past : History) (step : Step) → plan (past ++ step ∷ []) ≡ unwrap_or step.effect.put_in (plan past)
 plan-snoc past step = reading-snoc (λ (s : Step). s.effect.put_in) past step no_plan
@@ -94,9 +87,7 @@ last_run-snoc past step = cc (orders_of-snoc past step, last_such-append go (ord
 pub runs-snoc : (past : History) (step : Step) → runs (past ++ step ∷ []) ≡ runs past + length
     (filter_map go step.effect.orders)
 runs-snoc past step =
-    ap (λ os. length (filter_map go os)) (orders_of-snoc past step)
-    ∙ ap length (filter_map-append go (orders_of past) step.effect.orders)
-    ∙ length-append (filter_map go (orders_of past)) (filter_map go step.effect.orders)
+    grind (arith, common_steps, filter_map, go, orders_of-snoc, filter_map-append, length-append) steps 200000
 
 pub waiting_plan-snoc : (past : History) (step : Step) → waiting_plan (past ++ step ∷ []) ≡ unwrap_or (waits_by step)
     (waiting_plan past)
@@ -113,6 +104,4 @@ is_held-snoc past step =
 
 pub next_seq-snoc : (past : History) (step : Step) → next_seq (past ++ step ∷ []) ≡ next_seq past + length
     (messages step)
-next_seq-snoc past step =
-    let e = ap length (messages_of-snoc past step) in
-    let l = length-append (messages_of past) (messages step) in omega (arith, e, l)
+next_seq-snoc past step = grind (arith, common_steps, messages_of-snoc, length-append) steps 200000

@@ -2,12 +2,12 @@
 use Rattle.dap_history.proofs.Common.{Heading, None, Option, Some, [], ap, arith, cons_option, filter_map, flat_map, last_such, length, or_else, range_with_len, refl, suc, zero, ℕ, ◌++◌, ◌+◌, ◌<◌, ◌∙◌, ◌∷◌, ◌≡◌, ◌≤◌}
 use Rattle.std.proofs.Common.{List}
 use Rattle.dap_history.proofs.Passing.{none_left}
+use Rattle.std.proofs.lemmas.Grind.{common_steps}
 
 -- ---- the last of its kind is the last of all that are
 
 cons_append : {B : Type 0} (o : Option B) (xs ys : List B) → cons_option o (xs ++ ys) ≡ cons_option o xs ++ ys
-cons_append None xs ys = refl
-cons_append (Some x) xs ys = refl
+cons_append o xs ys = grind (arith, common_steps) steps 200000
 
 module _ (A B : Type 0) (f : A → Option B) where
   pub none_such : (xs : List A) → last_such f xs ≡ None → filter_map f xs ≡ []
@@ -63,9 +63,7 @@ before_last n (r ∷ front) run are =
 -- ---- positions one after another
 
 pub ranges_join : (a m n : ℕ) → range_with_len a (m + n) ≡ range_with_len a m ++ range_with_len (a + m) n
-ranges_join a zero n =
-    let e : zero + n ≡ n = omega arith in let f : a ≡ a + zero = omega arith in ap (range_with_len a) e
-    ∙ ap (λ b. range_with_len b n) f
+ranges_join a zero n = grind (arith, common_steps, range_with_len) steps 200000
 ranges_join a (suc m) n =
     let e : suc m + n ≡ suc (m + n) = omega arith in
     let f : a + 1 + m ≡ a + suc m = omega arith in

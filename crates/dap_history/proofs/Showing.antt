@@ -1,7 +1,7 @@
 -- What the four questions show is what the program is where it stands.
-use Rattle.dap_history.proofs.Common.{AnswersFrom, Block, Configuration, Counting, DivideByZero, Err, EvalFault, EvaluatesIn, Faulted, Frame, Fresh, InitializeArguments, IsStopped, Launched, Name, None, Ok, Option, Overflow, Path, Question, Refusal, RepliesAt, RepliesFrom, RunFault, Scope, Situation, Some, Stopped, StoppedLastAt, Subject, [], ap, arith, at, at_most, eqb-true, frame_by_id, frame_name, if◌then◌else◌, inl, inr, launched, length, less_by, refl, refused_by, refused_thread, result_answer, scopes, scopes_from, settings, shown_frame, shown_frames, situation, slice_get, subject_in, subst, suc, sym, value, zero, ℕ, ◌+◌, ◌-◌, ◌<◌, ◌∙◌, ◌∷◌, ◌≡◌, ◌≢◌, StepAt, option_map_or, shown_column, shown_line}
-use Rattle.std.proofs.Common.{List, Bool, true, false, Result}
-use Rattle.std.specs.Prelude.{nat_eq, ℤ, option_map, option_and_then, drop, codes}
+use Rattle.dap_history.proofs.Common.{AnswersFrom, Block, Configuration, Counting, Err, EvalFault, EvaluatesIn, Frame, Fresh, InitializeArguments, IsStopped, Launched, Name, None, Ok, Option, Path, Question, Refusal, RepliesAt, RepliesFrom, RunFault, Scope, Situation, Some, Stopped, StoppedLastAt, Subject, [], ap, arith, at, at_most, eqb-true, frame_by_id, frame_name, if◌then◌else◌, inl, inr, launched, length, less_by, refl, refused_by, refused_thread, result_answer, scopes, scopes_from, settings, shown_frame, shown_frames, situation, slice_get, subject_in, subst, suc, sym, zero, ℕ, ◌+◌, ◌-◌, ◌<◌, ◌∙◌, ◌∷◌, ◌≡◌, ◌≢◌}
+use Rattle.std.proofs.Common.{List, Bool, true, Result}
+use Rattle.std.specs.Prelude.{nat_eq, ℤ, option_map, option_and_then, drop}
 use Rattle.dap_msg.specs.declared.command.Command.TheVariants as command
 use Rattle.dap_msg.specs.declared.question.Question.TheVariants as question
 use Rattle.dap_msg.specs.declared.question.Shown.{Shown as WhatIsShown}
@@ -21,6 +21,7 @@ use Rattle.dap_history.proofs.Each.{WasTaken, EachTaken, each_kept, each_first}
 use Rattle.dap_history.proofs.Standing.{questions_answered}
 use Rattle.dap_history.proofs.LineAnswers.{Any, IsCounted, counted_kept, offset_is, counts_so}
 use Rattle.dap_msg.specs.declared.question.Shown.TheVariants as shown_as
+use Rattle.std.proofs.lemmas.Grind.{common_steps}
 
 -- ---- frames
 
@@ -41,10 +42,7 @@ has_name main k q b found = by_around (block_at main q) refl found
         by_procedure (Some p) there found = (p.name, cc)
 
 named_so : (main : Block) (q : Path) (b : Block) → block_at main q ≡ Some b → IsBlockName main q (frame_name main q)
-named_so main [] b found = refl
-named_so main (k ∷ q) b found =
-    let x = has_name main k q b found in
-    (x.0, x.1, ap (λ o. option_map_or (λ (y : Name). y.word) o (codes "main")) x.1)
+named_so main q b found = grind (arith, common_steps, has_name) steps 200000
 
 -- how a client counts, by what it said
 abbrev counting_of : InitializeArguments → Counting
@@ -54,12 +52,8 @@ counting_of asked =
 module _ (main : Block) (asked : InitializeArguments) where
   frame_so : (f : Frame) (id : ℕ) → IsFrameOf main f
       → ShowsFrame main asked f id (shown_frame main (counting_of asked) f id)
-  frame_so f id fits = record {
-    id_is = refl;
-    name_is = named_so main f.block fits.block fits.found;
-    line_is = λ s is. ap (λ o. shown_line (counting_of asked) (option_map (λ (x : StepAt). x.place) o)) is;
-    column_is = λ s is. ap (λ o. shown_column (counting_of asked) (option_map (λ (x : StepAt). x.place) o)) is;
-  }
+  frame_so f id fits =
+      record { id_is = refl; name_is = named_so main _ _ fits.found; line_is = λ s is. cc; column_is = λ s is. cc }
 
   frames_so : (c : Configuration) → AreLinked main c
       → ShowsFrames main asked c (shown_frames main (counting_of asked) c)
@@ -67,18 +61,15 @@ module _ (main : Block) (asked : InitializeArguments) where
   frames_so (f ∷ below) linked = (frame_so f (length below + 1) linked.0, frames_so below linked.2)
 
 page_is : {A : Type 0} (start levels : ℕ) (xs : List A) → at_most levels (drop start xs) ≡ page start levels xs
-page_is start zero xs = refl
-page_is start (suc n) xs = refl
+page_is start levels xs = grind (arith, common_steps) steps 200000
 
 -- ---- the frame with an id
 
 id_so : (c : Configuration) (id : ℕ) (f : Frame) → frame_by_id c id ≡ Some f → HasId c id f
-id_so c zero f is = absurd cc
-id_so c (suc i) f is = is
+id_so c id f is = grind (arith, common_steps) steps 200000
 
 none_so : (c : Configuration) (id : ℕ) → frame_by_id c id ≡ None → HasNone c id
-none_so c zero none f has = has
-none_so c (suc i) none f has = let e = sym none ∙ has in absurd cc
+none_so c id none f has = grind (arith, common_steps) steps 200000
 
 of_frame : (c : Configuration) (id : ℕ) (why : Refusal) (result : Result WhatIsShown Refusal) (says : Frame → Type 0)
     (o : Option Frame) → frame_by_id c id ≡ o → (o ≡ None → result ≡ Err why)
@@ -96,8 +87,7 @@ test_so a b is = eqb-true a b is
 within_by : (g : Frame) (below : Configuration) (i : ℕ) (f : Frame)
     → (frame_at below i ≡ Some f → i < length below) → (b : Bool) → nat_eq (length below) i ≡ b
     → (if b then Some g else frame_at below i) ≡ Some f → i < length (g ∷ below)
-within_by g below i f lower true same is = let e = test_so (length below) i same in omega (arith, e)
-within_by g below i f lower false other is = let h = lower is in omega (arith, h)
+within_by g below i f lower b same is = grind (arith, common_steps, test_so) steps 200000
 
 frame_within : (c : Configuration) (i : ℕ) (f : Frame) → frame_at c i ≡ Some f → i < length c
 frame_within [] i f is = absurd cc
@@ -107,21 +97,14 @@ frame_within (g ∷ below) i f is =
 -- a lower frame is a frame of the whole
 frame_above : (g : Frame) (below : Configuration) (i : ℕ) (f : Frame) → frame_at below i ≡ Some f
     → frame_at (g ∷ below) i ≡ Some f
-frame_above g below i f is = by_test (nat_eq (length below) i) refl
-  where
-    by_test : (b : Bool) → nat_eq (length below) i ≡ b → (if b then Some g else frame_at below i) ≡ Some f
-    by_test true same =
-        let e = test_so (length below) i same in
-        let h = frame_within below i f is in absurd (omega (arith, e, h))
-    by_test false other = is
+frame_above g below i f is = grind (arith, common_steps, test_so, frame_within) steps 200000
 
 -- a frame's scope in front of those of the frame that its link names
 linked_scopes : (main : Block) (whole : Configuration) (f g : Frame) (id : ℕ) (word : List ℕ) (more : List Scope)
     → IsBlockName main f.block word → f.block ≢ [] → HasId whole (f.link + 1) g
     → ShowsScopes main whole g (f.link + 1) more
     → ShowsScopes main whole f id (record { name = word; reference = id } ∷ more)
-linked_scopes main whole f g id word [] named_ inner has shown = absurd shown
-linked_scopes main whole f g id word (t ∷ more) named_ inner has shown = (named_, refl, inner, (g, has, shown))
+linked_scopes main whole f g id word more named_ inner has shown = grind (arith, common_steps) steps 200000
 
 has_next : (c : Configuration) (i : ℕ) (f : Frame) → frame_at c i ≡ Some f → HasId c (i + 1) f
 has_next c i f is = let e : suc i ≡ i + 1 = omega arith in subst (λ n. HasId c n f) e is
@@ -139,18 +122,14 @@ module _ (main : Block) (whole : Configuration) where
         → ShowsScopes main whole g (i + 1) own
     by_block [] block_is fits links = rw links (named_so main g.block fits.block fits.found, refl, block_is)
     by_block (k ∷ q) block_is fits links =
-        linked_scopes main whole g links.0 (i + 1) (frame_name main g.block) (scopes_from main below g.link)
-        (named_so main g.block fits.block fits.found) (λ is. let e = sym block_is ∙ is in absurd cc)
-        (has_next whole g.link links.0 (lower g.link links.0 links.1))
-        (deeper g.link links.0 links.1)
+        linked_scopes main whole g _ _ _ _ (named_so main _ _ fits.found) (λ is.
+        let e = sym block_is ∙ is in
+        absurd cc) (has_next whole _ _ (lower g.link links.0 links.1)) (deeper g.link links.0 links.1)
 
     by_test : IsFrameOf main g → IsLinkedTo g.block g.link below → (f : Frame) (b : Bool)
         → (if b then Some g else frame_at below i) ≡ Some f
         → ShowsScopes main whole f (i + 1) (if b then own else scopes_from main below i)
-    by_test fits links f true is =
-        let same : g ≡ f = cc in
-        subst (λ h. ShowsScopes main whole h (i + 1) own) same (by_block g.block refl fits links)
-    by_test fits links f false is = deeper i f is
+    by_test fits links f b is = grind (arith, common_steps, by_block) steps 200000
 
   scopes_so : (c : Configuration) → AreLinked main c
       → ((j : ℕ) (g : Frame) → frame_at c j ≡ Some g → frame_at whole j ≡ Some g)
@@ -165,41 +144,26 @@ module _ (main : Block) (whole : Configuration) where
 
 numbers_so : (xs : List Name) (numbers : List ℤ) → length numbers ≡ length xs
     → ShowsVariables xs numbers (named xs numbers)
-numbers_so [] [] same = tt
 numbers_so (x ∷ xs) (v ∷ numbers) same = (refl, refl, numbers_so xs numbers (omega (arith, same)))
-numbers_so [] (v ∷ numbers) same = absurd (omega (arith, same))
-numbers_so (x ∷ xs) [] same = absurd (omega (arith, same))
+numbers_so xs numbers same = grind (arith, common_steps) steps 200000
 
 -- ---- `evaluate`
 
 value_so : (r : Result ℤ EvalFault) (v : Result ℤ RunFault) (reply : Result WhatIsShown Refusal)
     → v ≡ evaluated r → reply ≡ result_answer r → GivesValue v reply
 value_so (Ok n) v reply same is = subst (λ x. GivesValue x reply) (sym same) is
-value_so (Err Overflow) v reply same is = subst (λ x. GivesValue x reply) (sym same) is
-value_so (Err DivideByZero) v reply same is = subst (λ x. GivesValue x reply) (sym same) is
+value_so r v reply same is = grind (arith, common_steps) steps 200000
 
 evaluates_so : (main : Block) (c : Configuration) (id : ℕ) (f : Frame) (text : List ℕ)
     (reply : Result WhatIsShown Refusal) → EvaluatesIn main c id (Some f) text reply → ShowsValue main c id f text reply
-evaluates_so main c id f text reply (inl is) =
-    inl (
-      is.expression,
-      is.reads,
-      value_so is.result (value main c
-          (id - 1) is.expression) reply is.result_is is.answer_is,
-    )
-evaluates_so main c id f text reply (inr is) = inr (is.none, is.answer_is)
+evaluates_so main c id f text reply is = grind (arith, common_steps, value_so) steps 200000
 
 -- ---- questions
 
 -- what the thread allows
 on_one : (thread : ℕ) (reply other : Result WhatIsShown Refusal) → refused_thread (Some thread) ≡ None
     → reply ≡ (if nat_eq thread 1 then other else Err refusal.UnknownThread) → reply ≡ other
-on_one thread reply other allowed is = by_test (nat_eq thread 1) allowed is
-  where
-    by_test : (b : Bool) → (if b then None else Some refusal.UnknownThread) ≡ None
-        → reply ≡ (if b then other else Err refusal.UnknownThread) → reply ≡ other
-    by_test true allowed is = is
-    by_test false allowed is = absurd cc
+on_one thread reply other allowed is = grind (arith, common_steps) steps 200000
 
 module _ (linked : FramesAreLinked) (fit : FramesFit) (l : Launched) (n : ℕ) (c : Configuration)
     (there : at l.program n ≡ Some c) (counting : InitializeArguments) where
@@ -220,24 +184,10 @@ module _ (linked : FramesAreLinked) (fit : FramesFit) (l : Launched) (n : ℕ) (
       }
 
   chain_so : (id : ℕ) (f : Frame) → HasId c id f → ShowsScopes l.program c f id (scopes_from l.program c (id - 1))
-  chain_so zero f has = absurd has
-  chain_so (suc i) f has =
-      let here : ShowsScopes l.program c f (i + 1) (scopes_from l.program c i) =
-      scopes_so l.program c c (linked l.program n c there) (λ j g is. is) i f has in
-      let a : i + 1 ≡ suc i = omega arith in
-      let b : i ≡ suc i - 1 = omega arith in
-      subst (λ j. ShowsScopes l.program c f (suc i) (scopes_from l.program c j)) b
-      (subst (λ k. ShowsScopes l.program c f k (scopes_from l.program c i)) a here)
+  chain_so id f has = grind (arith, common_steps, scopes_so) steps 200000
 
   shows_so : (q : Question) (reply : Result WhatIsShown Refusal) → refused_by Stopped (command.Inspect q) ≡ None
       → RepliesFrom of c q reply → Shows l counting c q reply
-  shows_so (question.StackTrace a) reply allowed is = record {
-    all = shown_frames l.program (counting_of counting) c;
-    shown = frames_so l.program counting c (linked l.program n c there);
-    result_is = on_one a.thread_id reply _ allowed is
-        ∙ ap (λ frames. Ok (shown_as.StackTrace l.path frames (length c)))
-        (page_is a.start_frame a.levels (shown_frames l.program (counting_of counting) c));
-  }
   shows_so (question.Scopes a) reply allowed is =
       of_frame c a.frame_id refusal.UnknownFrame reply _ (frame_by_id c a.frame_id) refl
       (λ none. is ∙ ap (scopes of a.frame_id c) none)
@@ -249,25 +199,18 @@ module _ (linked : FramesAreLinked) (fit : FramesFit) (l : Launched) (n : ℕ) (
   shows_so (question.Variables a) reply allowed is =
       of_frame c a.variables_reference refusal.UnknownReference reply _ _ refl (λ none. is ∙ ap (variables of) none) (λ
       f some has. locals_so a.variables_reference f reply has (is ∙ ap (variables of) some))
-  shows_so (question.Evaluate a) reply allowed is =
-      of_frame c a.frame_id refusal.UnknownFrame reply _ (frame_by_id c a.frame_id) refl
-      (λ none. subst (λ o. EvaluatesIn l.program c a.frame_id o a.expression reply) none is)
-      (λ f some has. evaluates_so l.program c a.frame_id f a.expression reply
-      (subst (λ o. EvaluatesIn l.program c a.frame_id o a.expression reply) some is))
+  shows_so q reply allowed is =
+      grind (arith, common_steps, frames_so, on_one, page_is, of_frame, evaluates_so) steps 200000
 
 -- ---- the law
 
 -- a question that isn't refused is asked where the program stands, and only its thread might refuse it
 allowed_standing : (s : Situation) (q : Question) → refused_by s (command.Inspect q) ≡ None
     → IsStopped s × (refused_by Stopped (command.Inspect q) ≡ None)
-allowed_standing Stopped q allowed = (tt, allowed)
-allowed_standing Faulted q allowed = (tt, allowed)
-allowed_standing _ q allowed = absurd cc
+allowed_standing s q allowed = grind (arith, common_steps) steps 200000
 
 not_fresh : (s : Situation) → IsStopped s → ¬ (s ≡ Fresh)
-not_fresh Stopped stands is = absurd cc
-not_fresh Faulted stands is = absurd cc
-not_fresh _ stands is = stands
+not_fresh s stands is = grind (arith, common_steps) steps 200000
 
 -- the configuration of which a reply is
 record HasShown (l : Launched) (m : ℕ) (counting : InitializeArguments) (q : Question)
@@ -275,9 +218,6 @@ record HasShown (l : Launched) (m : ℕ) (counting : InitializeArguments) (q : Q
   c : Configuration
   there : at l.program m ≡ Some c
   shows : Shows l counting c q reply
-
-abbrev counted : ℕ → ℕ → Counting
-counted lines columns = record { lines = lines; columns = columns }
 
 abbrev asking : Launched → Counting → Subject
 asking l counting = record { program = l.program; path = l.path; counting = counting }
@@ -304,19 +244,14 @@ answers_show linked fit f events past rest history before request q step asks al
         asks.past_is
 
     standing : IsStopped (situation before) × (refused_by Stopped (command.Inspect q) ≡ None)
-    standing = allowed_standing (situation before) q
-        (ap (refused_by (situation before)) (sym asks.question_is) ∙ allowed)
+    standing = grind (arith, common_steps, allowed_standing) steps 200000
 
     from : (l : Launched) × (m : ℕ) × (launched before ≡ Some l) × StoppedLastAt before m
         × AnswersFrom l before m request q step
     from = (questions_answered f events past rest history before request q step asks).0 standing.0
 
     counting_is : (subject_in before from.0).counting ≡ counting_of (settings before)
-    counting_is =
-        ap (λ (k : ℕ). counted k (subject_in before from.0).counting.columns)
-        (offset_is (settings before).lines_start_at_1)
-        ∙ ap (λ (k : ℕ). counted (less_by (settings before).lines_start_at_1) k)
-        (offset_is (settings before).columns_start_at_1)
+    counting_is = cc (offset_is (settings before).lines_start_at_1, offset_is (settings before).columns_start_at_1)
 
     by_place : (o : Option Configuration) → at from.0.program from.1 ≡ o
         → RepliesAt (subject_in before from.0) o q from.4.result

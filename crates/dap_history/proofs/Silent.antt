@@ -151,14 +151,13 @@ enters_silent past l None is due_is =
 enters_silent past l (Some r) is due_is =
     let bs = (plan past).breakpoints in
     record {
-      no_numbers = numbers_of_logs bs (first_at past l) (stopped_events (stop_of r));
+      no_numbers = numbers_of_logs bs (first_at past l) _;
       no_launch = refl;
-      goes =
-          no_go;
+      goes = no_go;
       runs_are = no_runs;
-      stops = rw (stop_of_logs bs (first_at past l) (stopped_events (stop_of r))) (at_first l r
-          refl is due_is);
-      logs = logs_first l (stopped_events (stop_of r)) refl is refl refl;
+      stops = rw (stop_of_logs bs (first_at past l) _) (at_first l r refl is due_is);
+      logs = logs_first l (stopped_events
+          (stop_of r)) refl is refl refl;
     }
 
 -- of a reply to `configurationDone` or to another command

@@ -1,8 +1,9 @@
 -- What holds since a step: how a history with one more step splits at one of its steps.
 use Rattle.dap_history.proofs.Common.{All, All-append, All-cons, All-nil, History, Some, Step, [], ap, inl, inr, refl, sym, ◌++◌, ◌∙◌, ◌∷◌, ◌≡◌, ◌⊎◌}
-use Rattle.std.proofs.Common.{append_assoc}
+use Rattle.std.proofs.Common.{append_assoc, arith}
 use Rattle.std.proofs.lemmas.List.Elements.{All-pop}
 use Rattle.dap_history.proofs.Each.{none_first}
+use Rattle.std.proofs.lemmas.Grind.{common_steps}
 
 abbrev head_or : Step → History → Step
 head_or first [] = first
@@ -23,14 +24,8 @@ pub splits_last : (past : History) (s : Step) (front : History) (step : Step) (m
 splits_last [] s [] step more is = inl (refl, ap (λ xs. head_or s xs) is, sym (ap tail_of is))
 splits_last [] s (x ∷ front) step more is = absurd (none_first front step more (ap tail_of is))
 splits_last (p ∷ past) s [] step more is = inr (past, cc, sym (ap tail_of is))
-splits_last (p ∷ past) s (x ∷ front) step more is = onward (splits_last past s front step more (ap tail_of is))
-  where
-    same : p ≡ x
-    same = ap (λ xs. head_or s xs) is
-
-    onward : SplitsAt past s front step more → SplitsAt (p ∷ past) s (x ∷ front) step more
-    onward (inl e) = inl (ap (λ y. y ∷ past) same ∙ ap (λ ys. x ∷ ys) e.0, e.1, e.2)
-    onward (inr e) = inr (e.0, ap (λ y. y ∷ past) same ∙ ap (λ ys. x ∷ ys) e.1, e.2)
+splits_last (p ∷ past) s (x ∷ front) step more is =
+    grind (arith, common_steps, splits_last past s front step more (ap tail_of is)) steps 200000
 
 -- one more step after those since a step
 pub longer : (past early : History) (step : Step) (later : History) (s : Step) → past ≡ early ++ step ∷ later

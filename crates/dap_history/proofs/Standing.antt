@@ -1,14 +1,11 @@
 -- Where the program stands it is where it stopped last, and what is asked there is answered from there.
-use Rattle.dap_history.proofs.Common.{Inspects, Reacts, Accepted, All-append, All-cons, All-nil, Answers, AnswersFrom, Body, Causes, Command, CommandName, Content, Err, Event, EventBody, Faulted, History, Incoming, InspectsAs, IsStopped, Item, Launched, Loaded, None, OfProgram, Ok, Option, Outgoing, PlainOrder, Question, Reaction, Refusal, RepliesAt, RepliesIn, Reply, Request, Situation, Some, Step, StopReason, Stopped, StoppedLastAt, [], answer_mark, ap, at, command_mark, end_of, event_mark, inl, inr, last_such, launched, message_mark, name_of, or_else, order_mark, refl, reply_of, situation, step_mark, stop_in, stop_of_event, subject_in, subst, sym, unwrap_or, with_answer, ℕ, ◌++◌, ◌∙◌, ◌∷◌, ◌≡◌, ◌⊎◌, messages}
+use Rattle.dap_history.proofs.Common.{Inspects, Reacts, All-append, All-cons, All-nil, Answers, AnswersFrom, Body, Causes, Command, CommandName, Event, EventBody, Faulted, History, Incoming, InspectsAs, IsStopped, Item, Launched, None, OfProgram, Ok, Option, Outgoing, PlainOrder, Question, Reaction, Refusal, RepliesAt, RepliesIn, Reply, Request, Situation, Some, Step, StopReason, Stopped, StoppedLastAt, [], answer_mark, ap, at, command_mark, end_of, event_mark, inl, inr, last_such, launched, message_mark, name_of, or_else, order_mark, refl, reply_of, situation, step_mark, stop_in, stop_of_event, subject_in, subst, sym, unwrap_or, with_answer, ℕ, ◌++◌, ◌∙◌, ◌∷◌, ◌≡◌, ◌⊎◌}
 use Rattle.std.proofs.Common.{List, arith}
 use Rattle.std.specs.Prelude.{map, Result}
 use Rattle.dap_msg.specs.declared.question.Shown.{Shown}
 use Rattle.dap_history.specs.Replies.{in_body}
 use Rattle.std.proofs.lemmas.List.{append_assoc}
-use Rattle.dap_msg.specs.declared.command.CommandName.TheVariants as name
-use Rattle.dap_msg.specs.declared.command.Supported.TheVariants as supported
 use Rattle.dap_msg.specs.declared.outgoing.Outgoing.TheVariants.{Answer}
-use Rattle.dap_msg.specs.declared.outgoing.Body.TheVariants as body
 use Rattle.dap_msg.specs.declared.outgoing.EventBody.TheVariants as event
 use Rattle.dap_history.specs.Readings.{position}
 use Rattle.dap_history.specs.Stops.{QuestionsAreAnsweredThere}
@@ -29,13 +26,11 @@ MarkIs P (Some s) = P s
 
 pub mark_else : (P : Situation → Type 0) (a b : Option Situation) → MarkIs P (or_else a b) → MarkIs P a
     ⊎ ((a ≡ None) × MarkIs P b)
-mark_else P None b is = inr (refl, is)
-mark_else P (Some s) b is = inl is
+mark_else here a b is = grind (arith, common_steps) steps 200000
 
 pub mark_unwrap : (P : Situation → Type 0) (o : Option Situation) (s : Situation) → P (unwrap_or o s) → MarkIs P o
     ⊎ ((o ≡ None) × P s)
-mark_unwrap P None s is = inr (refl, is)
-mark_unwrap P (Some t) s is = inl is
+mark_unwrap here o s is = grind (arith, common_steps) steps 200000
 
 -- an answer stands in its place
 abbrev pub IsAnswer : Option Outgoing → Type 0
@@ -44,20 +39,15 @@ IsAnswer (Some (Answer seq command result)) = Unit {0}
 IsAnswer (Some (Event e)) = ⊥
 
 pub answers_only : (past : History) (item : Item) (step : Step) → Causes past item step → IsAnswer step.answer
-answers_only past (Content (Some request)) step is = subst IsAnswer (sym is.2.answer_is) tt
-answers_only past (Loaded launch file) step is = subst IsAnswer (sym is.2.answer_is) tt
-answers_only past _ step is = subst IsAnswer (sym is.answer_is) tt
+answers_only past item step is = grind (arith, common_steps) steps 200000
 
 -- ---- a step that leads to where the program stands reports a stop
 
 command_not : (c : CommandName) → ¬ MarkIs IsStopped (command_mark c)
-command_not (name.Supported supported.Initialize) is = is
-command_not (name.Supported supported.Launch) is = is
-command_not _ is = is
+command_not c is = grind (arith, common_steps) steps 200000
 
 answer_not : (c : CommandName) (result : Result Body Refusal) → ¬ MarkIs IsStopped (answer_mark c result)
-answer_not c (Ok b) is = command_not c is
-answer_not c (Err r) is = is
+answer_not c result is = grind (arith, common_steps, command_not) steps 200000
 
 orders_not : (os : List PlainOrder) → ¬ MarkIs IsStopped (last_such order_mark os)
 orders_not [] is = is
@@ -74,17 +64,12 @@ stop_first None r = (r, refl)
 stop_first (Some s) r = (s, refl)
 
 event_stops : (e : EventBody) (es : List EventBody) → MarkIs IsStopped (event_mark e) → ReportsStop (e ∷ es)
-event_stops event.Initialized es is = absurd is
 event_stops (event.Stopped r) es is = stop_first (last_such stop_of_event es) r
-event_stops (event.Output v) es is = absurd is
-event_stops (event.Log text) es is = absurd is
-event_stops (event.Exited code) es is = absurd is
-event_stops event.Terminated es is = absurd is
+event_stops _ es is = absurd is
 
 events_stop : (es : List EventBody) → MarkIs IsStopped (last_such message_mark (map Event es)) → ReportsStop es
 events_stop [] is = absurd is
-events_stop (e ∷ es) is =
-    either (events_stop es) (mark_else IsStopped (last_such message_mark (map Event es)) (event_mark e) is)
+events_stop (e ∷ es) is = either (events_stop es) (mark_else IsStopped _ _ is)
   where
     either : (MarkIs IsStopped (last_such message_mark (map Event es)) → ReportsStop es)
         → (MarkIs IsStopped (last_such message_mark (map Event es))
@@ -94,26 +79,11 @@ events_stop (e ∷ es) is =
 
 messages_stop : (a : Option Outgoing) (es : List EventBody) → IsAnswer a
     → MarkIs IsStopped (last_such message_mark (with_answer a (map Event es))) → ReportsStop es
-messages_stop None es answer is = events_stop es is
-messages_stop (Some (Answer seq c result)) es answer is =
-    either (mark_else IsStopped (last_such message_mark (map Event es)) (answer_mark c result) is)
-  where
-    either : (MarkIs IsStopped (last_such message_mark (map Event es))
-        ⊎ ((last_such message_mark (map Event es) ≡ None) × MarkIs IsStopped (answer_mark c result))) → ReportsStop es
-    either (inl is) = events_stop es is
-    either (inr is) = absurd (answer_not c result is.1)
-messages_stop (Some (Event e)) es answer is = absurd answer
+messages_stop a es answer is = grind (arith, common_steps, events_stop, mark_else, answer_not) steps 200000
 
 pub step_stops : (step : Step) → IsAnswer step.answer → MarkIs IsStopped (step_mark step)
     → ReportsStop step.effect.events
-step_stops step answer is =
-    either (mark_else IsStopped (last_such order_mark step.effect.orders) (last_such message_mark (messages step)) is)
-  where
-    either : (MarkIs IsStopped (last_such order_mark step.effect.orders)
-        ⊎ ((last_such order_mark step.effect.orders ≡ None) × MarkIs IsStopped
-        (last_such message_mark (messages step)))) → ReportsStop step.effect.events
-    either (inl is) = absurd (orders_not step.effect.orders is)
-    either (inr is) = messages_stop step.answer step.effect.events answer is.1
+step_stops step answer is = grind (arith, common_steps, mark_else, orders_not, messages_stop) steps 200000
 
 -- ---- along a history
 
@@ -124,8 +94,7 @@ Stood past = IsStopped (situation past) → (m : ℕ) × StoppedLastAt past m ×
 -- no report is accepted where the program stands
 moves_nothing : (Q : Incoming → Type 0) (past : History) (item : Item) → IsTaken Q past item
     → IsStopped (situation past) → end_of item ≡ None
-moves_nothing Q past (Accepted r) taken is = absurd (subst IsStopped taken.0.running is)
-moves_nothing Q past _ taken is = refl
+moves_nothing here past item taken is = grind (arith, common_steps) steps 200000
 
 stops_here : (past : History) (step : Step) (r : StopReason) → stop_in step ≡ Some r → Stood (past ++ step ∷ [])
 stops_here past step r is standing = grind (arith, common_steps, position, All-nil) steps 200000
@@ -152,22 +121,18 @@ stood_more Q past step taken causes stood = by_stop (stop_in step) refl
     onward : stop_in step ≡ None → (MarkIs IsStopped (step_mark step)
         ⊎ ((step_mark step ≡ None) × IsStopped (situation past)))
         → (m : ℕ) × StoppedLastAt (past ++ step ∷ []) m × (m ≡ position (past ++ step ∷ []))
-    onward none (inl is) =
-        absurd (let stops = step_stops step (answers_only past step.item step causes) is in let e = sym none
-        ∙ stops.1 in cc)
+    onward none (inl is) = grind (arith, common_steps, step_stops, answers_only) steps 200000
     onward none (inr is) =
         let was = stood is.1 in (
           was.0,
           stands_on past step was.0 none was.1,
-          was.2 ∙ sym (position-snoc past step ∙ ap (λ o. unwrap_or o (position past))
-              (moves_nothing Q past step.item taken is.1)),
+          cc (was.2, position-snoc past step, moves_nothing Q past step.item taken is.1),
         )
 
     by_stop : (o : Option StopReason) → stop_in step ≡ o → Stood (past ++ step ∷ [])
     by_stop (Some r) is = stops_here past step r is
     by_stop None none =
-        λ standing. onward none (mark_unwrap IsStopped (step_mark step) (situation past)
-        (subst IsStopped (situation-snoc past step) standing))
+        λ standing. onward none (mark_unwrap IsStopped _ _ (subst IsStopped (situation-snoc past step) standing))
 
 pub stood_kept : (Q : Incoming → Type 0) → IsKept Q Stood
 stood_kept Q = record {
@@ -203,8 +168,7 @@ inspects_here s past q reply stands is = by_reacts s stands is.reacts
 
 calm_stands : (past : History) (s : Situation) (q : Question) (b : Body) → IsCalm past s (command.Inspect q) b
     → IsStopped s
-calm_stands past s q (body.Shown b) calm = calm.0
-calm_stands past s q _ calm = absurd calm
+calm_stands past s q b calm = grind (arith, common_steps) steps 200000
 
 reaction_stands : (past : History) {s : Situation} {asked : Command} {reaction : Reaction}
     → Reacted past s asked reaction

@@ -1,8 +1,7 @@
 -- The program is started once, in Configuring.
-use Rattle.dap_history.proofs.Common.{Accepted, Answers, Body, Causes, Command, CommandName, Configuring, Content, Err, Fresh, History, Incoming, Item, Launched, Loaded, None, Ok, Option, Reaction, Ready, Reason, Refusal, RepliesIn, Reply, Running, Situation, Some, Step, Stopped, [], ap, before_start, due_first, enters, if◌then◌else◌, inl, inr, launched, name_of, or_else, plan, refl, reply_of, situation, starts_by, step_mark, stop_of, stopped_events, subst, sym, with_answer, ℕ, ◌++◌, ◌∙◌, ◌∷◌, ◌≡◌, ◌⊎◌, Event, answer_mark, last_such, message_mark, order_mark}
-use Rattle.std.proofs.Common.{Bool, true, false, Result}
-use Rattle.std.specs.Prelude.{map, option_map}
-use Rattle.dap_msg.specs.declared.command.Command.TheVariants as command
+use Rattle.dap_history.proofs.Common.{Answers, Body, Causes, Command, CommandName, Configuring, Content, Fresh, History, Incoming, Item, Launched, Loaded, None, Ok, Option, Reaction, Ready, Reason, Refusal, RepliesIn, Reply, Running, Situation, Some, Step, Stopped, [], ap, before_start, due_first, enters, if◌then◌else◌, inl, inr, launched, name_of, or_else, plan, refl, reply_of, situation, starts_by, step_mark, stop_of, stopped_events, subst, sym, ℕ, ◌++◌, ◌∙◌, ◌∷◌, ◌≡◌, ◌⊎◌}
+use Rattle.std.proofs.Common.{Bool, true, false, Result, arith}
+use Rattle.std.specs.Prelude.{option_map}
 use Rattle.dap_msg.specs.declared.command.CommandName.TheVariants as name
 use Rattle.dap_msg.specs.declared.command.Supported.TheVariants as supported
 use Rattle.dap_msg.specs.declared.outgoing.Outgoing.TheVariants.{Answer}
@@ -15,6 +14,7 @@ use Rattle.dap_history.proofs.Reacted.{IsCalm, Reacted, by_answering, by_startin
 use Rattle.dap_history.proofs.Standing.{MarkIs, mark_unwrap}
 use Rattle.dap_history.proofs.Passing.{IsConfiguring, IsLoaded, loaded_there, mark_of_effect}
 use Rattle.dap_history.proofs.Progress.{decided}
+use Rattle.std.proofs.lemmas.Grind.{common_steps}
 
 -- ---- with one more step
 
@@ -24,9 +24,7 @@ here_if starts past = if starts then Some past else None
 pub before_start-snoc : (past : History) (step : Step) → before_start (past ++ step ∷ []) ≡ or_else (before_start past)
     (here_if (starts_by step.answer) past)
 before_start-snoc [] step = refl
-before_start-snoc (s ∷ past) step =
-    ap (λ o. if starts_by s.answer then Some [] else option_map (λ before. s ∷ before) o) (before_start-snoc past step)
-    ∙ by_test (starts_by s.answer) (before_start past) (starts_by step.answer)
+before_start-snoc (s ∷ past) step = cc (before_start-snoc past step, by_test _ _ _)
   where
     by_test : (b : Bool) (o : Option History) (c : Bool)
         → (if b then Some [] else option_map (λ before. s ∷ before) (or_else o (here_if c past))) ≡ or_else
@@ -45,25 +43,18 @@ IsYoung Configuring = Unit {0}
 IsYoung _ = ⊥
 
 young_mark : (o : Option Situation) → MarkIs IsYoung o → IsEarlyMark o ⊎ MarkIs IsConfiguring o
-young_mark (Some Fresh) is = inl tt
-young_mark (Some Ready) is = inl tt
-young_mark (Some Configuring) is = inr tt
-young_mark _ is = absurd is
+young_mark o is = grind (arith, common_steps) steps 200000
 
 early_there : (past : History) (item : Item) (step : Step) → Causes past item step → IsEarlyMark (step_mark step)
     → IsYoung (situation past)
-early_there past (Content None) step is mark = absurd (unanswered_late step is.answer_is mark)
 early_there past (Content (Some request)) step is mark =
     rw (early_reply _ past request.body is.0 is.1 (decided _ (λ late. answered_late _ _ is.0 step is.2 late mark))) tt
-early_there past (Loaded launch file) step is mark =
-    absurd (answered_late _ _ is.0 step is.2 (result_late (name.Supported supported.Launch) (λ x. x) is.0.result) mark)
-early_there past (Accepted r) step is mark = absurd (unanswered_late step is.answer_is mark)
-early_there past _ step is mark = absurd (unanswered_late step is.answer_is mark)
+early_there past item step is mark =
+    grind (arith, common_steps, unanswered_late, answered_late, result_late) steps 200000
 
 loaded_ready : (Q : Incoming → Type 0) (past : History) (item : Item) → IsLoaded item → IsTaken Q past item
     → IsYoung (situation past)
-loaded_ready Q past (Loaded launch file) loaded ready = subst IsYoung (sym ready) tt
-loaded_ready Q past _ loaded taken = absurd loaded
+loaded_ready is past item loaded ready = grind (arith, common_steps) steps 200000
 
 -- it was not started before
 pub was_young : (Q : Incoming → Type 0) (past : History) (step : Step) → IsTaken Q past step.item
@@ -103,12 +94,7 @@ Starts s past reply =
 
 calm_never : (past : History) (s : Situation) (asked : Command) (b : Body) → IsCalm past s asked b
     → ¬ (starts_by (Some (Answer 0 (name_of asked) (Ok b))) ≡ true)
-calm_never past s (command.Initialize a) b calm starts = absurd cc
-calm_never past s (command.SetBreakpoints a) b calm starts = absurd cc
-calm_never past s command.Threads b calm starts = absurd cc
-calm_never past s (command.Pause a) b calm starts = absurd cc
-calm_never past s (command.Inspect q) b calm starts = absurd cc
-calm_never past s _ b calm starts = calm
+calm_never past s asked b calm starts = grind (arith, common_steps) steps 200000
 
 reaction_starts : (past : History) {s : Situation} {asked : Command} {reaction : Reaction}
     → Reacted past s asked reaction
@@ -127,9 +113,7 @@ starts_so s past asked reply is =
 -- an answer leads nowhere where what follows it does
 mark_through : (orders events answer : Option Situation) (s : Situation) → or_else orders events ≡ Some s
     → or_else orders (or_else events answer) ≡ Some s
-mark_through None None answer s is = absurd cc
-mark_through None (Some t) answer s is = is
-mark_through (Some t) events answer s is = is
+mark_through orders events answer s is = grind (arith, common_steps) steps 200000
 
 late_after : (past : History) (step : Step) (seq : ℕ) (command : CommandName) (reply : Reply)
     → Answers seq command reply step
@@ -137,11 +121,7 @@ late_after : (past : History) (step : Step) (seq : ℕ) (command : CommandName) 
 late_after past step seq command reply answers l is =
     let leads = enters_late past l (due_first past l) in (
       leads.0,
-      ap (λ a. or_else (last_such order_mark step.effect.orders)
-          (last_such message_mark (with_answer a (map Event step.effect.events)))) answers.answer_is
-          ∙ mark_through (last_such order_mark step.effect.orders)
-          (last_such message_mark (map Event step.effect.events)) (answer_mark command reply.result) leads.0
-          (ap mark_of_effect (answers.effect_is ∙ is) ∙ leads.1),
+      cc (answers.answer_is, mark_through _ _ _ leads.0 (ap mark_of_effect (answers.effect_is ∙ is) ∙ leads.1)),
       leads.2,
     )
 
@@ -165,17 +145,14 @@ unanswered past step none = subst (λ a. StartsBy past step (starts_by a)) (sym 
 
 loaded_not : (result : Result Body Refusal) → starts_by
     (Some (Answer 0 (name.Supported supported.Launch) result)) ≡ false
-loaded_not (Ok b) = refl
-loaded_not (Err why) = refl
+loaded_not result = grind (arith, common_steps) steps 200000
 
 pub whether_starts : (past : History) (item : Item) (step : Step) → Causes past item step
     → StartsBy past step (starts_by step.answer)
-whether_starts past (Content None) step is = unanswered past step is.answer_is
 whether_starts past (Content (Some request)) step is =
     subst (λ a. StartsBy past step (starts_by a)) (sym is.2.answer_is)
     (by_result past step request.seq request.body is.0 is.1 is.2 _ refl)
 whether_starts past (Loaded launch file) step is = rw is.2.answer_is (rw (loaded_not is.0.result) starts_not)
-whether_starts past (Accepted r) step is = unanswered past step is.answer_is
 whether_starts past _ step is = unanswered past step is.answer_is
 
 -- ---- along a history
@@ -187,8 +164,7 @@ Unstarted past = IsYoung (situation past) → before_start past ≡ None
 pub unstarted_more : (Q : Incoming → Type 0) (past : History) (step : Step) → IsTaken Q past step.item
     → Causes past step.item step → Unstarted past → Unstarted (past ++ step ∷ [])
 unstarted_more Q past step taken causes so_far young =
-    before_start-snoc past step ∙ ap (λ o. or_else o (here_if (starts_by step.answer) past)) (so_far before)
-    ∙ by_start (starts_by step.answer) (whether_starts past step.item step causes)
+    cc (before_start-snoc past step, so_far before, by_start _ (whether_starts past _ step causes))
   where
     before : IsYoung (situation past)
     before = was_young Q past step taken causes young
@@ -196,9 +172,4 @@ unstarted_more Q past step taken causes so_far young =
     by_start : (b : Bool) → StartsBy past step b → here_if b past ≡ None
     by_start false starts_not = refl
     by_start true (starts_here l configuring is effect_is late) =
-        absurd (by_mark (mark_unwrap IsYoung (step_mark step) (situation past)
-        (subst IsYoung (situation-snoc past step) young)))
-      where
-        by_mark : ¬ (MarkIs IsYoung (step_mark step) ⊎ ((step_mark step ≡ None) × IsYoung (situation past)))
-        by_mark (inl mark) = late.2 (subst (MarkIs IsYoung) late.1 mark)
-        by_mark (inr is) = let e = sym late.1 ∙ is.0 in absurd cc
+        grind (arith, common_steps, mark_unwrap, situation-snoc) steps 200000

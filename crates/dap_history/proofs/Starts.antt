@@ -1,5 +1,5 @@
 -- Each run is of the launched text, and starts where the program stands.
-use Rattle.dap_history.proofs.Common.{Accepted, Accepts, Causes, Content, Effect, Heading, History, Item, Launched, Loaded, None, Option, PlainReport, Some, Step, WrittenJoins, ap, back_in, end_of, go, last_such, launched, plan, refl, report_effect, run_in, situation, sym, unwrap_or, ℕ, ◌∙◌, ◌≡◌}
+use Rattle.dap_history.proofs.Common.{Accepted, Accepts, Causes, Content, Effect, Heading, History, Item, Launched, None, Option, PlainReport, Some, Step, WrittenJoins, ap, end_of, go, last_such, launched, plan, refl, report_effect, run_in, situation, sym, unwrap_or, ℕ, ◌∙◌, ◌≡◌}
 use Rattle.std.proofs.Common.{List}
 use Rattle.dap_history.specs.Readings.{position}
 use Rattle.dap_history.specs.Stops.{EachRunStartsThere}
@@ -50,12 +50,11 @@ module _ (one : OneProgram) (joins : WrittenJoins) where
   of_launched past (Content (Some request)) step taken is ran run run_is =
       by_reply past (last_such go is.0.effect.orders) (all_silent (situation past) past request.body is.0 is.1).goes run
       (sym (run_of_effect step _ is.2.effect_is) ∙ run_is)
-  of_launched past (Loaded launch file) step taken is ran run run_is =
-      grind (arith, common_steps, loaded_orders, run_of_effect) steps 1500000
   of_launched past (Accepted r) step taken is ran run run_is =
       of_report past r taken.0 ran run (as_report r.text r.end (last_such go (report_effect past r r.outcome).orders)
       (report_goes past r r.outcome) run (sym (run_of_effect step _ is.effect_is) ∙ run_is)) _ refl
-  of_launched past _ step taken is ran run run_is = grind (arith, common_steps, run_of_effect) steps 1500000
+  of_launched past item step taken is ran run run_is =
+      grind (arith, common_steps, loaded_orders, run_of_effect) steps 200000
 
   pub each_run_starts : EachRunStartsThere
   each_run_starts f events past rest lawful history before step after past_is run orders =
@@ -73,10 +72,9 @@ module _ (one : OneProgram) (joins : WrittenJoins) where
       )
     where
       each : EachTaken IsLawfulEvent (Ran one joins) past
-      each = along IsLawfulEvent (EachTaken IsLawfulEvent (Ran one joins))
-          (each_kept IsLawfulEvent (Ran one joins) (ran_kept one joins))
-          (each_first IsLawfulEvent (Ran one joins) (ran_first one joins)) f events past rest
-          (lawful_events events lawful) history
+      each =
+          along IsLawfulEvent _ (each_kept IsLawfulEvent _ (ran_kept one joins)) (each_first IsLawfulEvent _ (ran_first
+          one joins)) f events past rest (lawful_events events lawful) history
 
       was : WasTaken IsLawfulEvent (Ran one joins) before step
       was = each.each before step after past_is
@@ -86,5 +84,4 @@ module _ (one : OneProgram) (joins : WrittenJoins) where
 
       under : (run.plan ≡ (unwrap_or step.effect.put_in (plan before)).breakpoints)
           × (run.counted_from ≡ (unwrap_or step.effect.put_in (plan before)).counted_from)
-      under = ordered_under before (back_in step.item) step.effect.put_in (run_in step)
-          (item_ordered before step.item step was.taken was.causes) run run_is
+      under = ordered_under before _ _ _ (item_ordered before _ step was.taken was.causes) run run_is

@@ -1,6 +1,6 @@
 -- The numbers reported before a stop or a log are exactly those written up to it, and before a stop so are the logs.
-use Rattle.dap_history.proofs.Common.{Accepted, Body, Breakpoint, Causes, CommandName, Content, Effect, Event, EventBody, HasEffect, History, Item, Launch, Launches, Loaded, Log, None, Option, Outgoing, PlainReport, Refusal, Reply, Some, Step, WrittenJoins, [], filter_map, filter_map-append, inl, inr, log_events, log_of, messages, messages_of, output, outputs, refl, situation, subst, sym, ℕ, ◌++◌, ◌∙◌, ◌∷◌, ◌≡◌, ap}
-use Rattle.std.proofs.Common.{List, ℤ}
+use Rattle.dap_history.proofs.Common.{Body, Breakpoint, Causes, CommandName, Content, Effect, Event, EventBody, HasEffect, History, Item, Launch, Launches, Log, Option, Outgoing, PlainReport, Refusal, Reply, Some, Step, WrittenJoins, [], filter_map, filter_map-append, log_events, log_of, messages, messages_of, output, outputs, refl, situation, subst, sym, ℕ, ◌++◌, ◌∙◌, ◌∷◌, ◌≡◌}
+use Rattle.std.proofs.Common.{List, ℤ, arith}
 use Rattle.std.specs.Prelude.{map, Bool, true, false, Result}
 use Rattle.dap_msg.specs.declared.outgoing.Outgoing.TheVariants.{Answer}
 use Rattle.dap_msg.specs.declared.outgoing.EventBody.TheVariants as event
@@ -15,6 +15,7 @@ use Rattle.dap_history.proofs.Went.{nothing_told}
 use Rattle.dap_history.proofs.Progress.{Progress, progress_first, progress_kept, progress_more}
 use Rattle.dap_history.proofs.Each.{WasTaken, each_kept, each_first}
 use Rattle.dap_history.proofs.AfterStops.{NoneAfter, all_before, none_quiet}
+use Rattle.std.proofs.lemmas.Grind.{common_steps}
 
 abbrev pub IsStop : Outgoing → Type 0
 IsStop (Event (event.Stopped r)) = Unit {0}
@@ -54,8 +55,7 @@ module _ (B : Type 0) (P : Outgoing → Type 0) (f : Outgoing → Option B) wher
       → (seq : ℕ) (command : CommandName) (result : Result Body Refusal) (step : Step) (effect : Effect)
       → step.answer ≡ Some (Answer seq command result) → step.effect ≡ effect → QuietEvents effect.events
       → NoneAfter Outgoing B P f (messages step)
-  answered_quiet not seq command result step effect answer is quiet =
-      rw answer ((λ kind. absurd (not seq command result kind)), rw is quiet)
+  answered_quiet not seq command result step effect answer is quiet = grind (arith, common_steps) steps 200000
 
   module _ (no_answer : (seq : ℕ) (command : CommandName) (result : Result Body Refusal)
       → ¬ P (Answer seq command result)) (of_reply : (past : History) (starts : Bool) (effect : Effect)
@@ -64,9 +64,7 @@ module _ (B : Type 0) (P : Outgoing → Type 0) (f : Outgoing → Option B) wher
       (of_initialized : QuietEvents (event.Initialized ∷ [])) where
     launch_quiet : (launch : Launch) (file : Option (List ℕ)) (reply : Reply) → Launches launch.arguments file reply
         → QuietEvents reply.effect.events
-    launch_quiet launch None reply is = subst (λ (r : Reply). QuietEvents r.effect.events) (sym is) tt
-    launch_quiet launch (Some text) reply (inl is) = rw is.reply_is tt
-    launch_quiet launch (Some text) reply (inr is) = rw is.reply_is of_initialized
+    launch_quiet launch file reply is = grind (arith, common_steps) steps 200000
 
     pub step_quiet : (past : History) (item : Item) (step : Step) → IsTaken IsLawfulEvent past item
         → Causes past item step → NoneAfter Outgoing B P f (messages step)
@@ -74,13 +72,9 @@ module _ (B : Type 0) (P : Outgoing → Type 0) (f : Outgoing → Option B) wher
         let silent = all_silent (situation past) past request.body is.0 is.1 in
         answered_quiet no_answer _ _ _ step is.0.effect is.2.answer_is is.2.effect_is
         (of_reply past _ is.0.effect silent.logs silent.no_numbers)
-    step_quiet past (Loaded launch file) step taken is =
-        answered_quiet no_answer _ _ _ step is.0.effect is.2.answer_is is.2.effect_is
-        (launch_quiet launch file is.0 is.1)
-    step_quiet past (Accepted r) step taken is =
-        unanswered_quiet step _ is (rw (report_events past r r.outcome (nothing_told taken.1.program r taken.1.lawful))
-        (of_report past r))
-    step_quiet past _ step taken is = unanswered_quiet step _ is tt
+    step_quiet past item step taken is =
+        grind (arith, common_steps, answered_quiet, launch_quiet, unanswered_quiet, report_events, nothing_told) steps
+        200000
 
 -- ---- no number after a stop or a log, no log after a stop
 
@@ -136,11 +130,7 @@ pub all_so_far : (B : Type 0) (P : Outgoing → Type 0) (f : Outgoing → Option
     → P x → filter_map f (x ∷ []) ≡ [] → NoneAfter Outgoing B P f (messages step) → messages step ≡ before ++ x ∷ after
     → filter_map f (messages_of front ++ before) ≡ filter_map f (messages_of (front ++ step ∷ []))
 all_so_far B P f front step before x after kind none quiet split =
-    filter_map-append f (messages_of front) before
-    ∙ ap (λ l. filter_map f (messages_of front) ++ l)
-    (all_before Outgoing B P f (messages step) before x after kind none quiet split)
-    ∙ sym (filter_map-append f (messages_of front) (messages step))
-    ∙ ap (filter_map f) (sym (messages_of-snoc front step))
+    grind (arith, common_steps, filter_map-append, filter_map, all_before, messages_of-snoc) steps 200000
 
 module _ (one : OneProgram) (joins : WrittenJoins) where
   abbrev Was : History → Step → Type 0

@@ -1,9 +1,8 @@
 -- Each stop is where it has to be.
-use Rattle.dap_history.proofs.Common.{Accepted, Accepts, Block, Causes, Content, Effect, EndsBy, GoesBackBy, Heading, History, IsLawfulReport, IsPassed, IsRetreatsStop, IsRightStop, IsRunsStop, IsStopOf, Item, Launch, Launched, Launches, Loaded, None, NoneDueBefore, NoneDueUpTo, Option, PlainReport, Ready, Reason, Reply, SliceOutcome, Some, Step, StopReason, Went, WentOn, WrittenJoins, [], ap, arith, due_in_run, end_of, exception_of, faults, go, goal_of, goes_back, has_come, held_effect, inl, inr, is_due, last_run, last_such, launched, or_else, order_mark, refl, report_effect, situation, step_mark, stop_in, stop_of, stop_of_event, stopped_events, subst, sym, unwrap_or, waiting_pause, ℕ, ◌++◌, ◌<◌, ◌∙◌, ◌∷◌, ◌≡◌, ◌≤◌, ◌⊎◌, back_if, exited_events}
+use Rattle.dap_history.proofs.Common.{Accepted, Accepts, Causes, Content, Effect, EndsBy, GoesBackBy, Heading, History, IsLawfulReport, IsPassed, IsRetreatsStop, IsRightStop, IsRunsStop, IsStopOf, Item, Launch, Launched, Launches, Loaded, None, NoneDueBefore, NoneDueUpTo, Option, PlainReport, Ready, Reason, Reply, SliceOutcome, Some, Step, StopReason, Went, WentOn, WrittenJoins, [], ap, arith, due_in_run, end_of, exception_of, faults, go, goal_of, goes_back, has_come, held_effect, inl, inr, is_due, last_run, last_such, launched, or_else, order_mark, refl, report_effect, situation, step_mark, stop_in, stop_of, stop_of_event, stopped_events, subst, sym, unwrap_or, waiting_pause, ℕ, ◌++◌, ◌<◌, ◌∙◌, ◌∷◌, ◌≡◌, ◌≤◌, ◌⊎◌, back_if}
 use Rattle.std.proofs.Common.{List, Bool, true, false}
 use Rattle.dap_msg.specs.declared.outgoing.StopReason.TheVariants as stop
 use Rattle.pl0_meaning.specs.Runs.{outcome}
-use Rattle.dbg_plan.specs.declared.mode.Reason.TheVariants as reason
 use Rattle.dbg_runner.specs.Lawful.{is_held}
 use Rattle.dbg_runner.specs.declared.outcome.SliceOutcome.TheVariants as slice
 use Rattle.dap_history.specs.Readings.{position}
@@ -33,8 +32,7 @@ module _ (one : OneProgram) (joins : WrittenJoins) where
   configuring_more : (past : History) (step : Step) → IsTaken IsLawfulEvent past step.item → Causes past step.item step
       → Ran one joins past → IsConfiguring (situation (past ++ step ∷ []))
       → (last_run (past ++ step ∷ []) ≡ None) × (position (past ++ step ∷ []) ≡ 0)
-  configuring_more past step taken causes ran is =
-      by_mark (mark_unwrap IsConfiguring (step_mark step) (situation past) (rw (← (situation-snoc past step)) is))
+  configuring_more past step taken causes ran is = by_mark (mark_unwrap _ _ _ (rw (← (situation-snoc past step)) is))
     where
       keeps : last_such go step.effect.orders ≡ None → end_of step.item ≡ None → (last_run past ≡ None)
           × (position past ≡ 0)
@@ -43,8 +41,7 @@ module _ (one : OneProgram) (joins : WrittenJoins) where
 
       by_load : (item : Item) → IsLoaded item → IsTaken IsLawfulEvent past item → Causes past item step
           → (last_such go step.effect.orders ≡ None) × (end_of item ≡ None) × (situation past ≡ Ready)
-      by_load (Loaded launch file) loaded ready is =
-          (ap (λ (e : Effect). last_such go e.orders) is.2.effect_is ∙ loaded_orders launch file is.0 is.1, refl, ready)
+      by_load (Loaded launch file) loaded ready is = grind (arith, common_steps, go, loaded_orders) steps 200000
       by_load _ loaded taken is = absurd loaded
 
       stays_there : (item : Item) → IsTaken IsLawfulEvent past item → IsConfiguring (situation past)
@@ -96,8 +93,7 @@ module _ (one : OneProgram) (joins : WrittenJoins) where
       → (l : Launched) → launched (past ++ step ∷ []) ≡ Some l → (run : Heading)
       → last_run (past ++ step ∷ []) ≡ Some run
       → (run.start ≤ position (past ++ step ∷ [])) × NoneDueUpTo l run (position (past ++ step ∷ []))
-  running_more past step taken causes ran running l is run run_is =
-      by_run (last_such go step.effect.orders) refl (item_begins past step.item step causes)
+  running_more past step taken causes ran running l is run run_is = by_run _ refl (item_begins past _ step causes)
     where
       by_mark : last_such go step.effect.orders ≡ None → (MarkIs IsRunning (step_mark step)
           ⊎ ((step_mark step ≡ None) × IsRunning (situation past)))
@@ -133,10 +129,8 @@ module _ (one : OneProgram) (joins : WrittenJoins) where
       → Ran one joins past → step_mark step ≡ None
       → (run : Heading) → last_run past ≡ Some run → goes_back run.mode ≡ true → position past ≡ run.start
       → unwrap_or (end_of item) (position past) ≡ run.start
-  stays_on past (Accepted r) step taken causes ran none run run_is back was =
-      grind (arith, common_steps, goes_back, true, false, stays_end, mark_of) steps 200000
-  stays_on past (Content request) step taken causes ran none run run_is back was = was
-  stays_on past _ step taken causes ran none run run_is back was = was
+  stays_on past item step taken causes ran none run run_is back was =
+      grind (arith, common_steps, stays_end, mark_of) steps 200000
 
   back_more : (past : History) (step : Step) → IsTaken IsLawfulEvent past step.item → Causes past step.item step
       → Ran one joins past → IsRunning (situation (past ++ step ∷ []))
@@ -149,9 +143,7 @@ module _ (one : OneProgram) (joins : WrittenJoins) where
           ⊎ ((step_mark step ≡ None) × IsRunning (situation past)))
           → unwrap_or (end_of step.item) (position past) ≡ run.start
       by_mark none (inl mark) = absurd (runs_not step (answers_only past step.item step causes) none mark)
-      by_mark none (inr was) =
-          let before = ap (λ o. or_else o (last_run past)) (sym none) ∙ sym (last_run-snoc past step) ∙ run_is in
-          stays_on past step.item step taken causes ran was.0 run before back (ran.back was.1 run before back)
+      by_mark none (inr was) = grind (arith, common_steps, last_run-snoc, stays_on) steps 200000
 
       by_run : (o : Option Heading) → last_such go step.effect.orders ≡ o
           → BeginsAt (unwrap_or (end_of step.item) (position past)) (last_such go step.effect.orders)
@@ -201,9 +193,7 @@ module _ (one : OneProgram) (joins : WrittenJoins) where
 
   due_stop : (l : Launched) (run : Heading) (m : ℕ) (r : Reason) → (due_in_run l run m ≡ Some r) × (run.start < m)
       × NoneDueBefore l run m → IsRunsStop l run (stop_of r) m
-  due_stop l run m reason.Breakpoint is = (reason.Breakpoint, refl, is.0, is.1, is.2)
-  due_stop l run m reason.Entry is = (reason.Entry, refl, is.0, is.1, is.2)
-  due_stop l run m reason.Step is = (reason.Step, refl, is.0, is.1, is.2)
+  due_stop l run m r is = grind (arith, common_steps) steps 200000
 
   -- a report stops its run where it has to
   module _ (past : History) (r : PlainReport) (accepts : Accepts past r) (lawful : IsLawfulReport r)
@@ -213,7 +203,6 @@ module _ (one : OneProgram) (joins : WrittenJoins) where
 
     stops_on : WentOn lawful.program r → (e : SliceOutcome) → EndsBy lawful.program r e → (s : StopReason)
         → last_such stop_of_event (report_effect past r e).events ≡ Some s → IsRunsStop l run s r.end
-    stops_on went slice.More ends_by s so_far = let e = sym (outputs_stop_not past r) ∙ so_far in absurd cc
     stops_on went (slice.Due why) (is_due on due_there runs) s so_far =
         let same : stop_of why ≡ s = let e = sym (outputs_stop past r (stopped_events (stop_of why))) ∙ so_far in cc in
         let from = begun_there one joins past r accepts lawful ran l is in
@@ -232,8 +221,6 @@ module _ (one : OneProgram) (joins : WrittenJoins) where
             let same : stop.Pause ≡ s = let e = sym (outputs_stop past r (stopped_events stop.Pause)) ∙ so_far in cc in
             subst (λ s. IsRunsStop l run s r.end) same (still one joins past r accepts lawful ran l is stays)
         by_pause false so_far = let e = sym (outputs_stop_not past r) ∙ so_far in absurd cc
-    stops_on went slice.Done ends_by s so_far = let e = sym (outputs_stop past r (exited_events 0))
-        ∙ so_far in absurd cc
     stops_on went (slice.Fault fault) (faults early passed fails runs) s so_far =
         let same : stop.Exception (exception_of fault) ≡ s =
         let e = sym (outputs_stop past r (stopped_events (stop.Exception (exception_of fault)))) ∙ so_far in
@@ -251,22 +238,20 @@ module _ (one : OneProgram) (joins : WrittenJoins) where
         by_end : (r.end ≡ r.start) ⊎ IsPassed lawful.program r r.end → NotDueAtEnd lawful.program r
         by_end (inl stays) = inl stays
         by_end (inr is) = inr is.undue
-    stops_on went slice.NoMemory ends_by s so_far = absurd cc
+    stops_on went e ends_by s so_far = grind (arith, common_steps, outputs_stop_not, outputs_stop) steps 200000
 
     -- a run that goes back stops where it leads
     leads_there : (why : Reason) → goes_back r.mode ≡ true → goal_of lawful.program r.plan r.mode r.start ≡ Some
         (record { position = r.end; reason = why }) → IsRetreatsStop l run (stop_of why) r.end
     leads_there why back comes =
-        let begun : run.start ≡ r.start =
-        sym (ran.back (subst IsRunning (sym accepts.running) tt) run accepts.run_is
-        (sym (ap (λ (h : Heading). goes_back h.mode) accepts.expected) ∙ back))
-        ∙ sym (starts_here one joins past r accepts lawful ran l is) in
+        let begun : run.start ≡ r.start = cc (
+          ran.back (subst IsRunning (sym accepts.running) tt) run accepts.run_is
+              (sym (ap (λ (h : Heading). goes_back h.mode) accepts.expected)
+              ∙ back),
+          starts_here one joins past r accepts lawful ran l is,
+        ) in
         let goal : goal_of l.program run.plan run.mode run.start ≡ Some (record { position = r.end; reason = why }) =
-        ap (λ n. goal_of l.program run.plan run.mode n) begun
-        ∙ sym (ap (λ (h : Heading). goal_of l.program h.plan h.mode r.start) accepts.expected)
-        ∙ ap (λ (p : Block). goal_of p r.plan r.mode r.start)
-        (sym (report_program one joins past r lawful l accepts (ran.so_far.progress (Some l) is)))
-        ∙ comes in
+        cc (accepts.expected, report_program one joins past r lawful l accepts (ran.so_far.progress (Some l) is)) in
         (record { position = r.end; reason = why }, goal, refl, reason_told why)
 
     stops_back : goes_back r.mode ≡ true → (e : SliceOutcome) → GoesBackBy lawful.program r e → (s : StopReason)
@@ -276,15 +261,12 @@ module _ (one : OneProgram) (joins : WrittenJoins) where
         let same : stop_of why ≡ s = let e = sym (outputs_stop past r (stopped_events (stop_of why))) ∙ so_far in cc in
         subst (λ s. IsRetreatsStop l run s r.end) same (leads_there why back comes)
     stops_back back slice.NoMemory ends_by s so_far = absurd cc
-    stops_back back slice.Held is s so_far = elim is [ ]
-    stops_back back slice.Done is s so_far = elim is [ ]
-    stops_back back (slice.Fault fault) is s so_far = elim is [ ]
+    stops_back back _ is s so_far = elim is [ ]
 
     stops_run : (s : StopReason) → last_such stop_of_event (report_effect past r r.outcome).events ≡ Some s
         → IsStopOf (goes_back run.mode) l run s r.end
     stops_run s so_far =
-        subst (λ b. IsStopOf b l run s r.end) (ap (λ (h : Heading). goes_back h.mode) accepts.expected)
-        (by_went (goes_back r.mode) refl lawful.lawful.went)
+        rw (← (ap (λ (h : Heading). goes_back h.mode) accepts.expected)) (by_went _ refl lawful.lawful.went)
       where
         by_went : (b : Bool) → goes_back r.mode ≡ b → Went lawful.program r (back_if b) → IsStopOf b l run s r.end
         by_went false mode went = stops_on went r.outcome went.outcome s so_far
@@ -295,8 +277,7 @@ module _ (one : OneProgram) (joins : WrittenJoins) where
       → (l : Option Launched) → launched past ≡ l → RightStop past s r.end
   report_stops past r accepts lawful ran s so_far None is =
       let e = sym (ran.so_far.progress None is).1 ∙ accepts.run_is in absurd cc
-  report_stops past r accepts lawful ran s so_far (Some l) is =
-      (l, is, rw accepts.run_is (stops_run past r accepts lawful ran l is s so_far))
+  report_stops past r accepts lawful ran s so_far (Some l) is = grind (arith, common_steps, stops_run) steps 200000
 
   -- a reply stops the program at position 0
   reply_stops : (past : History) (o : Option StopReason) → StopsBy (situation past) past o → Ran one joins past
@@ -308,11 +289,7 @@ module _ (one : OneProgram) (joins : WrittenJoins) where
   pub launch_stops_not : (launch : Launch) (file : Option (List ℕ)) (reply : Reply)
       → Launches launch.arguments file reply
       → last_such stop_of_event reply.effect.events ≡ None
-  launch_stops_not launch None reply is = ap (λ (r : Reply). last_such stop_of_event r.effect.events) is
-  launch_stops_not launch (Some text) reply (inl is) =
-      ap (λ (r : Reply). last_such stop_of_event r.effect.events) is.reply_is
-  launch_stops_not launch (Some text) reply (inr is) =
-      ap (λ (r : Reply). last_such stop_of_event r.effect.events) is.reply_is
+  launch_stops_not launch file reply is = grind (arith, common_steps) steps 200000
 
   pub stop_of_effect : (step : Step) (effect : Effect) → step.effect ≡ effect
       → stop_in step ≡ last_such stop_of_event effect.events
@@ -324,19 +301,15 @@ module _ (one : OneProgram) (joins : WrittenJoins) where
   step_stops past (Content (Some request)) step taken is ran s stop_is =
       reply_stops past _ (all_silent _ past request.body is.0 is.1).stops ran s (sym (stop_of_effect step _
       is.2.effect_is) ∙ stop_is)
-  step_stops past (Loaded launch file) step taken is ran s stop_is =
-      let e = sym (launch_stops_not launch file is.0 is.1) ∙ sym (stop_of_effect step _ is.2.effect_is)
-      ∙ stop_is in absurd cc
   step_stops past (Accepted r) step taken is ran s stop_is =
       report_stops past r taken.0 taken.1 ran s (sym (stop_of_effect step _ is.effect_is) ∙ stop_is) _ refl
-  step_stops past _ step taken is ran s stop_is =
-      let e = sym (stop_of_effect step _ is.effect_is) ∙ stop_is in absurd cc
+  step_stops past item step taken is ran s stop_is =
+      grind (arith, common_steps, launch_stops_not, stop_of_effect) steps 200000
 
   pub each_stop_right : EachStopIsRight
   each_stop_right f events past rest lawful history before reason m stops_at =
-      subst (RightStop before reason) (sym (stops_at.position_is ∙ position-snoc before stops_at.step))
-      (step_stops before stops_at.step.item stops_at.step was.taken was.causes was.held reason
-      (stopped_last before stops_at.step reason stops_at.front stops_at.back was.causes stops_at.events_are))
+      subst (RightStop before reason) (sym (stops_at.position_is ∙ position-snoc before _)) (step_stops before _ _
+      was.taken was.causes was.held reason (stopped_last before _ reason _ _ was.causes stops_at.events_are))
     where
       each : EachTaken IsLawfulEvent (Ran one joins) past
       each =

@@ -1,12 +1,9 @@
 -- Each event that is an item is taken, and nothing is taken that isn't.
-use Rattle.dap_history.proofs.Common.{Accepted, Accepts, Command, Content, Err, File, FirstSeq, History, Incoming, InputEnd, IsAfter, IsTaking, Item, Launch, LeadsByEvent, LeadsByEvents, LeadsByFile, LeadsByPiece, LeadsByReport, LoadFault, Loaded, Loads, MayTake, MemoryFailure, NoMemory, None, Ok, Option, Piece, PlainReport, ReadFailed, ReadFailure, Report, Rest, SliceOutcome, Some, Step, Rests, Takes, TakesSome, [], ap, append-nil, closed, closing, closing_command, closing_report, faulty, inl, inr, no_content, one_content, open_ended, refl, sym, waits, ℕ, ◌++◌, ◌∙◌, ◌∷◌, ◌≡◌, subst}
+use Rattle.dap_history.proofs.Common.{Command, Err, File, FirstSeq, History, Incoming, IsAfter, IsTaking, Item, Launch, LeadsByEvent, LeadsByEvents, LeadsByFile, LeadsByPiece, LeadsByReport, LoadFault, Loaded, Loads, MayTake, MemoryFailure, None, Ok, Option, Piece, PlainReport, Report, Rest, SliceOutcome, Some, Step, Rests, Takes, TakesSome, [], ap, append-nil, closed, closing, closing_command, closing_report, faulty, inl, inr, no_content, one_content, open_ended, refl, sym, waits, ℕ, ◌++◌, ◌∙◌, ◌∷◌, ◌≡◌, subst}
 use Rattle.std.proofs.Common.{List, Result, append_assoc, arith}
-use Rattle.dap_msg.specs.declared.command.Command.TheVariants as command
-use Rattle.dbg_runner.specs.declared.outcome.SliceOutcome.TheVariants as slice
 use Rattle.dap_history.specs.declared.fault.LoadFault.TheVariants as load_fault
-use Rattle.dap_history.specs.Events.{End}
 use Rattle.dap_history.specs.Laws.{HistoryIsOne}
-use Rattle.dap_history.specs.Taken.{file_item, GoesOnWith, AreOfBytes, AddsSteps, EventsAreTaken, closes_by, fails_by, ends_by, EachItemEndsOrNot, BeginWithItem, MayFollow, IsOfBytes}
+use Rattle.dap_history.specs.Taken.{file_item, AreOfBytes, AddsSteps, EventsAreTaken, closes_by, fails_by, ends_by, EachItemEndsOrNot, BeginWithItem, MayFollow, IsOfBytes}
 use Rattle.dap_history.proofs.Readings.{or_else-none, ending_of-snoc}
 use Rattle.dap_history.proofs.Each.{WasTaken}
 use Rattle.dap_history.proofs.GoingBack.{Anything}
@@ -59,14 +56,6 @@ takes_bytes first past new bytes rest taken = some_bytes taken.2 (rests_bytes ta
 
 -- ---- by event
 
-accepts_so : (past : History) (r : PlainReport) → GoesOnWith past r → Accepts past r
-accepts_so past r is =
-    record { running = is.running; run = is.run; run_is = is.run_is; expected = is.heading_is }
-
-goes_so : (past : History) (r : PlainReport) → Accepts past r → GoesOnWith past r
-goes_so past r is =
-    record { running = is.running; run = is.run; run_is = is.run_is; heading_is = is.expected }
-
 -- the step of an event's one item, which no other follows
 one_step : (e : Incoming) {item : Item} (step : Step) → step.item ≡ item → MayFollow e []
     → BeginWithItem e item (step ∷ [])
@@ -83,8 +72,7 @@ module _ (first : FirstSeq) (past new : History) (rest : Rest) where
 
   by_may : (e : Incoming) (item : Item) → IsTaking past → MayTake past item new
       → ((step : Step) → step.item ≡ item → AddsSteps past rest e (step ∷ [])) → AddsBy e
-  by_may e item taking (inl closed_) adds = absurd (closed_.0 taking)
-  by_may e item taking (inr is) adds = adds_one e item is.1 adds
+  by_may e item taking is adds = grind (arith, common_steps, adds_one) steps 200000
 
   by_piece : (launch : Option Launch) (bytes piece : List ℕ) (left : Rest)
       → LeadsByPiece first past launch bytes new left → AddsBy (Piece piece)
@@ -115,67 +103,40 @@ module _ (first : FirstSeq) (past new : History) (rest : Rest) where
       → rest.launch ≡ launch → LeadsByFile first past rest launch file new left → AddsBy (File file)
   by_file None file left taking same is =
       ([], is.0 ∙ sym (append-nil past), inr (λ item its. let e = sym same ∙ its.1 in absurd cc, refl))
-  by_file (Some launch) (Ok file) left taking same (inl is) = absurd (is.0 taking)
   by_file (Some launch) (Ok file) left taking same (inr loads) = by_loads _ launch _ left same refl loads
-  by_file (Some launch) (Err load_fault.CannotRead) left taking same (inl is) = absurd (is.0 taking)
   by_file (Some launch) (Err load_fault.CannotRead) left taking same (inr loads) =
       by_loads (Err load_fault.CannotRead) launch None left same refl loads
   by_file (Some launch) (Err load_fault.NoMemory) left taking same is =
       by_may (File (Err load_fault.NoMemory)) MemoryFailure taking is.0
       (λ step item_is.
       inl (MemoryFailure, (launch, same, refl), one_step (File (Err load_fault.NoMemory)) step item_is tt))
+  by_file (Some launch) _ left taking same (inl is) = absurd (is.0 taking)
 
   by_report : (r : PlainReport) → IsTaking past → LeadsByReport past r new → AddsBy (Report r)
-  by_report r taking (inl is) =
-      ([], is.1 ∙ sym (append-nil past), inr (λ item its. is.0 (taking, accepts_so past r its.0), refl))
-  by_report r taking (inr is) =
-      adds_one (Report r) (Accepted r) is.2
-      (λ step item_is. inl (Accepted r, (goes_so past r is.1, refl), one_step (Report r) step item_is refl))
+  by_report r taking is = grind (arith, common_steps) steps 200000
 
   by_event : (e : Incoming) (left : Rest) → IsTaking past → LeadsByEvent first past rest e new left → AddsBy e
   by_event (Piece piece) left taking leads = by_piece rest.launch _ piece left leads
-  by_event End left taking leads =
-      by_may End InputEnd taking leads.0
-      (λ step item_is. inl (InputEnd, refl, one_step End step item_is refl))
-  by_event ReadFailed left taking leads =
-      by_may ReadFailed ReadFailure taking leads.0
-      (λ step item_is. inl (ReadFailure, refl, one_step ReadFailed step item_is refl))
-  by_event NoMemory left taking leads =
-      by_may NoMemory MemoryFailure taking leads.0
-      (λ step item_is. inl (MemoryFailure, refl, one_step NoMemory step item_is refl))
-  by_event (File file) left taking leads = by_file rest.launch file left taking refl leads
-  by_event (Report r) left taking leads = by_report r taking leads.0
+  by_event e left taking leads =
+      grind (arith, common_steps, by_piece, by_may, one_step, by_file, by_report) steps 200000
 
   -- a closed session takes nothing
   may_not : (item : Item) → ¬ IsTaking past → MayTake past item new → new ≡ past
-  may_not item not (inl is) = is.1
-  may_not item not (inr is) = absurd (not is.0)
+  may_not item not is = grind (arith, common_steps) steps 200000
 
   piece_not : (launch : Option Launch) (bytes : List ℕ) (left : Rest) → ¬ IsTaking past
       → LeadsByPiece first past launch bytes new left → new ≡ past
-  piece_not None bytes left not leads = (takes_not first past new bytes left not leads).0
-  piece_not (Some launch) bytes left not is = is.0
+  piece_not launch bytes left not leads = grind (arith, common_steps, takes_not) steps 200000
 
   file_not : (launch : Option Launch) (file : Result (List ℕ) LoadFault) (left : Rest) → ¬ IsTaking past
       → LeadsByFile first past rest launch file new left → new ≡ past
-  file_not None file left not is = is.0
-  file_not (Some launch) (Ok file) left not (inl is) = is.1
-  file_not (Some launch) (Ok file) left not (inr loads) = absurd (not loads.taking)
-  file_not (Some launch) (Err load_fault.CannotRead) left not (inl is) = is.1
-  file_not (Some launch) (Err load_fault.CannotRead) left not (inr loads) = absurd (not loads.taking)
-  file_not (Some launch) (Err load_fault.NoMemory) left not is = may_not MemoryFailure not is.0
+  file_not launch file left not is = grind (arith, common_steps, may_not) steps 200000
 
   report_not : (r : PlainReport) → ¬ IsTaking past → LeadsByReport past r new → new ≡ past
-  report_not r not (inl is) = is.1
-  report_not r not (inr is) = absurd (not is.0)
+  report_not r not is = grind (arith, common_steps) steps 200000
 
   event_not : (e : Incoming) (left : Rest) → ¬ IsTaking past → LeadsByEvent first past rest e new left → new ≡ past
-  event_not (Piece piece) left not leads = piece_not rest.launch _ left not leads
-  event_not End left not leads = may_not InputEnd not leads.0
-  event_not ReadFailed left not leads = may_not ReadFailure not leads.0
-  event_not NoMemory left not leads = may_not MemoryFailure not leads.0
-  event_not (File file) left not leads = file_not rest.launch file left not leads
-  event_not (Report r) left not leads = report_not r not leads.0
+  event_not e left not leads = grind (arith, common_steps, piece_not, may_not, file_not, report_not) steps 200000
 
 -- ---- the law
 
@@ -186,17 +147,13 @@ events_taken one first events e past new rest left history more =
 -- ---- the end of a session
 
 command_ends : (c : Command) → closing_command c ≡ closes_by c
-command_ends command.Disconnect = refl
 command_ends _ = refl
 
 report_ends : (e : SliceOutcome) → closing_report e ≡ fails_by e
-report_ends slice.NoMemory = refl
 report_ends _ = refl
 
 item_ends : (item : Item) → closing item ≡ ends_by item
-item_ends (Content (Some request)) = command_ends request.body
-item_ends (Accepted r) = report_ends r.outcome
-item_ends _ = refl
+item_ends item = grind (arith, common_steps, command_ends, report_ends) steps 200000
 
 pub items_end : EachItemEndsOrNot
 items_end f events past rest history before step after past_is =

@@ -30,15 +30,12 @@ EndsIn events last = (front : List EventBody) × All IsOutput front × (events �
 report_tells : (past : History) (r : PlainReport) (e : SliceOutcome)
     → EndsIn (report_effect past r e).events (tells past e)
 report_tells past r slice.More = (outputs past r, outputs_output past r, sym (append-nil (outputs past r)))
-report_tells past r (slice.Due why) = grind (arith, common_steps, outputs, outputs_output, reason_told) steps 1500000
 report_tells past r slice.Held = by_pause (waiting_pause past)
   where
     by_pause : (pauses : Bool) → EndsIn (held_effect past r pauses).events (tells_held pauses)
     by_pause true = (outputs past r, outputs_output past r, refl)
     by_pause false = (outputs past r, outputs_output past r, sym (append-nil (outputs past r)))
-report_tells past r slice.Done = (outputs past r, outputs_output past r, refl)
-report_tells past r (slice.Fault fault) = grind (arith, common_steps, outputs, outputs_output, fault_told) steps 1500000
-report_tells past r slice.NoMemory = ([], All-nil IsOutput, refl)
+report_tells past r e = grind (arith, common_steps, outputs_output, reason_told, fault_told, All-nil) steps 200000
 
 pub each_report_told : EachReportIsTold
 each_report_told f events past rest history before step after past_is r item_is =

@@ -1,14 +1,12 @@
 -- What numbers and logs say among events, and to which situation a stop leads.
 use Rattle.dap_history.proofs.Common.{Breakpoint, Event, EventBody, Faulted, Log, Reason, RunFault, Situation, Some, StopReason, Stopped, [], ap, exception_of, filter_map, last_such, log_events, log_of, message_mark, output, refl, stop_of, stop_of_event, text_of_log, told_reason, ℕ, ◌++◌, ◌∙◌, ◌∷◌, ◌≡◌}
-use Rattle.std.proofs.Common.{List, ℤ}
+use Rattle.std.proofs.Common.{List, ℤ, arith}
 use Rattle.std.specs.Prelude.{map}
 use Rattle.dap_msg.specs.declared.outgoing.EventBody.TheVariants as event
-use Rattle.dap_msg.specs.declared.outgoing.StopReason.TheVariants as stop
-use Rattle.dbg_plan.specs.declared.mode.Reason.TheVariants as reason
-use Rattle.pl0_meaning.specs.declared.RunFault.TheVariants as run_fault
 use Rattle.dap_history.specs.Readings.{stop_mark}
 use Rattle.dap_history.specs.Stops.{told_fault}
 use Rattle.dap_history.proofs.Readings.{or_else-none}
+use Rattle.std.proofs.lemmas.Grind.{common_steps}
 
 -- the numbers, and the texts of the logs, that events report
 abbrev pub numbers_in : List EventBody → List ℤ
@@ -66,23 +64,15 @@ module _ (bs : List Breakpoint) where
 
 -- what is so of Stopped and of Faulted is so of where a stop leads
 pub by_stop_mark : (P : Situation → Type 0) → P Stopped → P Faulted → (why : StopReason) → P (stop_mark why)
-by_stop_mark P stopped faulted (stop.Exception x) = faulted
-by_stop_mark P stopped faulted _ = stopped
+by_stop_mark is stopped faulted why = grind (arith, common_steps) steps 200000
 
 pub stop_marks : (r : Reason) → message_mark (Event (event.Stopped (stop_of r))) ≡ Some Stopped
-stop_marks reason.Breakpoint = refl
-stop_marks reason.Entry = refl
-stop_marks reason.Step = refl
+stop_marks r = grind (arith, common_steps) steps 200000
 
 -- what the laws spell is what is told
 
 pub reason_told : (r : Reason) → stop_of r ≡ told_reason r
-reason_told reason.Breakpoint = refl
-reason_told reason.Entry = refl
-reason_told reason.Step = refl
+reason_told _ = refl
 
 pub fault_told : (f : RunFault) → exception_of f ≡ told_fault f
-fault_told run_fault.Overflow = refl
-fault_told run_fault.DivideByZero = refl
-fault_told run_fault.Depth = refl
-fault_told run_fault.StepLimit = refl
+fault_told _ = refl

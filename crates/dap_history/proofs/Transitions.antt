@@ -1,6 +1,6 @@
 -- Each step leads where the table of transitions says, so the situation is where the steps lead from Fresh.
-use Rattle.dap_history.proofs.Common.{FirstSeq, Accepted, Answers, Body, Breakpoint, Causes, Command, CommandName, Configuring, Content, Effect, Event, Fault, Faulted, Fresh, HasEffect, Heading, History, Incoming, InputEnd, IsHistoryOf, IsStopped, Item, Launch, Launched, Launches, Loaded, MemoryFailure, Mode, None, Ok, Option, Outgoing, PlainReport, Quit, Reaction, ReadFailure, Ready, Reason, Refusal, RepliesIn, Reply, Rest, RetreatKind, Running, SetBreakpointsArguments, Situation, SliceOutcome, Some, Step, Stopped, ThreadArguments, [], after_step, ap, append-nil, due_first, effect_in, enters, exception_of, exited_events, first_logs, held_effect, hold_once, inl, inr, item_leads, last_such, message_mark, name_of, nothing, only_orders, or_else, order_mark, plan, refl, reply_of, report_effect, resumes, retreat_mode, situation, stop_of, stop_of_event, stopped_events, sym, unwrap_or, waiting_pause, with_answer, ℕ, ◌++◌, ◌∙◌, ◌∷◌, ◌≡◌, subst}
-use Rattle.std.proofs.Common.{List, Bool, true, false, Result}
+use Rattle.dap_history.proofs.Common.{FirstSeq, Answers, Body, Breakpoint, Causes, Command, CommandName, Configuring, Content, Effect, Event, Fresh, HasEffect, Heading, History, Incoming, IsHistoryOf, IsStopped, Item, Launch, Launched, Launches, Loaded, Mode, None, Ok, Option, Outgoing, PlainReport, Reaction, Ready, Reason, Refusal, RepliesIn, Reply, Rest, RetreatKind, Running, SetBreakpointsArguments, Situation, SliceOutcome, Some, Step, ThreadArguments, [], after_step, ap, append-nil, due_first, effect_in, enters, first_logs, held_effect, hold_once, item_leads, last_such, message_mark, name_of, nothing, only_orders, or_else, order_mark, plan, refl, reply_of, report_effect, resumes, retreat_mode, situation, stop_of_event, stopped_events, sym, unwrap_or, with_answer, ℕ, ◌++◌, ◌∙◌, ◌∷◌, ◌≡◌}
+use Rattle.std.proofs.Common.{List, Bool, true, false, Result, arith}
 use Rattle.std.specs.Prelude.{map, option_map}
 use Rattle.dap_msg.specs.declared.command.Command.TheVariants as command
 use Rattle.dap_msg.specs.declared.command.CommandName.TheVariants as name
@@ -12,14 +12,15 @@ use Rattle.dbg_runner.specs.declared.outcome.SliceOutcome.TheVariants as slice
 use Rattle.dap_history.specs.Transitions.{runs_unless, report_leads, after_steps, EachStepLeads, SituationIsAfterSteps}
 use Rattle.dap_history.proofs.Readings.{situation-snoc}
 use Rattle.dap_history.proofs.Along.{IsTaken, IsKept, any_events, along}
-use Rattle.dap_history.proofs.Each.{EachTaken, each_kept, each_first, WasTaken}
+use Rattle.dap_history.proofs.Each.{EachTaken, each_kept, each_first}
 use Rattle.dap_history.proofs.Told.{stop_of_logs, mark_of_logs, stop_marks}
 use Rattle.dap_history.proofs.Silent.{first_at}
-use Rattle.dap_history.proofs.Reacted.{IsCalm, Reacted, by_refusing, by_answering, by_setting, by_starting, by_resuming, by_ending, by_retreating, by_interrupting, by_closing, by_reaction}
+use Rattle.dap_history.proofs.Reacted.{IsCalm, Reacted, by_answering, by_setting, by_starting, by_retreating, by_interrupting, by_reaction}
 use Rattle.dap_history.proofs.Outputs.{outputs_stop, outputs_mark, outputs_stop_not, outputs_unmarked}
 use Rattle.dap_history.proofs.Passing.{mark_of_effect}
 use Rattle.dap_history.proofs.GoingBack.{marks_are}
 use Rattle.dap_history.proofs.Asked.{no_go_held}
+use Rattle.std.proofs.lemmas.Grind.{common_steps}
 
 -- what an item is answered with and causes leads from the situation where the table says
 abbrev Fits : Situation → Item → Option Outgoing → Effect → Type 0
@@ -44,12 +45,7 @@ module _ (seq : ℕ) (past : History) where
   ReplyLeads s asked reply = Leads s asked reply.result reply.effect
 
   calm_leads : (s : Situation) (asked : Command) (b : Body) → IsCalm past s asked b → Leads s asked (Ok b) nothing
-  calm_leads s (command.Initialize a) b calm = rw calm.0 refl
-  calm_leads s (command.SetBreakpoints a) b calm = refl
-  calm_leads s command.Threads b calm = refl
-  calm_leads s (command.Pause a) b calm = refl
-  calm_leads s (command.Inspect q) b calm = refl
-  calm_leads s _ b calm = absurd calm
+  calm_leads s asked b calm = grind (arith, common_steps) steps 200000
 
   -- where the request is granted; the body of the answer doesn't matter
   abbrev Granted : Situation → Command → Effect → Type 0
@@ -57,34 +53,25 @@ module _ (seq : ℕ) (past : History) where
 
   sets_lead : (s t : Situation) (a : SetBreakpointsArguments) (bs : List Breakpoint)
       → Granted s (command.SetBreakpoints a) (effect_in t past bs)
-  sets_lead s Running a bs = ap (λ m. unwrap_or (or_else m None) s) (hold_unmarked past)
-  sets_lead s _ a bs = refl
+  sets_lead s t a bs = grind (arith, common_steps, hold_unmarked) steps 200000
 
   enters_leads : (l : Launched) (why : Option Reason)
       → Granted Configuring command.ConfigurationDone (enters past l why)
   enters_leads l None = cc (append-nil (first_logs past l), stop_of_logs (plan past).breakpoints (first_at past l) [])
-  enters_leads l (Some r) =
-      ap (λ m. unwrap_or (or_else m None) Configuring)
-      (mark_of_logs (plan past).breakpoints (first_at past l) (stopped_events (stop_of r)) ∙ stop_marks r)
-      ∙ sym (ap runs_unless (stop_of_logs (plan past).breakpoints (first_at past l) (stopped_events (stop_of r))))
+  enters_leads l (Some r) = grind (arith, common_steps, mark_of_logs, stop_marks, stop_of_logs) steps 200000
 
   back_leads : (s : Situation) (kind : RetreatKind) (a : ThreadArguments) (l : Launched) (m : Mode) → IsStopped s
       → Granted s (command.Retreat kind a) (only_orders (resumes past l m))
-  back_leads Stopped kind a l m stands = refl
-  back_leads Faulted kind a l m stands = refl
-  back_leads _ kind a l m stands = absurd stands
+  back_leads s kind a l m stands = grind (arith, common_steps) steps 200000
 
   reaction_leads : {s : Situation} {asked : Command} {reaction : Reaction} → Reacted past s asked reaction
       → ReplyLeads s asked (reply_of past reaction)
-  reaction_leads (by_refusing s asked why) = refl
   reaction_leads (by_answering s asked b calm) = calm_leads s asked b calm
   reaction_leads (by_setting s a l found bs there path_is resolved) = sets_lead s (situation past) a bs
   reaction_leads (by_starting l there) = enters_leads l (due_first past l)
-  reaction_leads (by_resuming kind a l there) = refl
-  reaction_leads (by_ending kind a) = refl
   reaction_leads (by_retreating s kind a l stands there) = back_leads s kind a l (retreat_mode kind) stands
   reaction_leads (by_interrupting a) = ap (λ m. unwrap_or (or_else m None) Running) (hold_unmarked past)
-  reaction_leads (by_closing s) = refl
+  reaction_leads _ = refl
 
   reply_leads : (reply : Reply) (s : Situation) (asked : Command) → RepliesIn s past asked reply
       → ReplyLeads s asked reply
@@ -101,10 +88,7 @@ by_reply seq launch file reply known is fits = rw is fits
 launch_fits : (seq : ℕ) (launch : Launch) (file : Option (List ℕ)) (reply : Reply)
     → Launches launch.arguments file reply
     → Fits Ready (Loaded launch file) (Some (Answer seq (name.Supported supported.Launch) reply.result)) reply.effect
-launch_fits seq launch None reply is = by_reply seq launch None reply _ is refl
-launch_fits seq launch (Some text) reply (inl refused_) = by_reply seq launch (Some text) reply _ refused_.reply_is refl
-launch_fits seq launch (Some text) reply (inr launched_) =
-    by_reply seq launch (Some text) reply _ launched_.reply_is refl
+launch_fits seq launch file reply is = grind (arith, common_steps, by_reply) steps 200000
 
 -- what an accepted report causes leads on from Running
 abbrev ReportFits : SliceOutcome → Effect → Type 0
@@ -118,11 +102,7 @@ module _ (past : History) (r : PlainReport) where
 
   report_fits : (e : SliceOutcome) → ReportFits e (report_effect past r e)
   report_fits slice.More = ap (λ m. unwrap_or m Running) (outputs_unmarked past r)
-  report_fits (slice.Due why) = cc (outputs_mark past r (stopped_events (stop_of why)), stop_marks why)
-  report_fits slice.Held = held_fits (waiting_pause past)
-  report_fits slice.Done = ap (λ m. unwrap_or m Running) (outputs_mark past r (exited_events 0))
-  report_fits (slice.Fault fault) = cc (outputs_mark past r (stopped_events (stop.Exception (exception_of fault))))
-  report_fits slice.NoMemory = refl
+  report_fits e = grind (arith, common_steps, outputs_unmarked, outputs_mark, stop_marks, held_fits) steps 200000
 
 abbrev StepFits : Situation → Item → Step → Type 0
 StepFits s item step = Fits s item step.answer step.effect
@@ -138,18 +118,11 @@ answer_fits s item seq command reply step answers fits = rw answers.answer_is (r
 
 item_fits : (Q : Incoming → Type 0) (past : History) (item : Item) (step : Step) → IsTaken Q past item
     → Causes past item step → StepFits (situation past) item step
-item_fits Q past (Content None) step taken is = effect_fits (situation past) (Content None) nothing step is refl
 item_fits Q past (Content (Some request)) step taken is =
     answer_fits (situation past) (Content (Some request)) _ _ is.0 step is.2
     (reply_leads request.seq past is.0 (situation past) request.body is.1)
-item_fits Q past (Loaded launch file) step taken is =
-    rw taken (answer_fits Ready (Loaded launch file) _ _ is.0 step is.2 (launch_fits launch.seq launch file is.0 is.1))
-item_fits Q past (Accepted r) step taken is =
-    rw taken.0.running (effect_fits Running (Accepted r) _ step is (report_fits past r r.outcome))
-item_fits Q past (Fault k) step taken is = effect_fits (situation past) (Fault k) nothing step is refl
-item_fits Q past InputEnd step taken is = effect_fits (situation past) InputEnd (only_orders (Quit ∷ [])) step is refl
-item_fits Q past ReadFailure step taken is = effect_fits _ ReadFailure _ step is refl
-item_fits Q past MemoryFailure step taken is = effect_fits (situation past) MemoryFailure nothing step is refl
+item_fits here past item step taken is =
+    grind (arith, common_steps, effect_fits, nothing, answer_fits, launch_fits, report_fits) steps 200000
 
 -- ---- along a history
 
@@ -170,12 +143,7 @@ pub step_leads : (past : History) (step : Step) → IsTaken Any past step.item �
 step_leads past step taken causes = situation-snoc past step ∙ item_fits Any past step.item step taken causes
 
 led_kept : IsKept Any IsLed
-led_kept = record {
-  step = λ past item new taking taken after here. subst IsLed (sym after.new_is)
-      (step_leads past after.step (subst (IsTaken Any past) (sym after.item_is) taken)
-      (subst (λ i. Causes past i after.step) (sym after.item_is) after.causes)
-      ∙ ap (λ s. after_step s after.step) here ∙ sym (after_steps-snoc Fresh past after.step));
-}
+led_kept = grind (arith, common_steps, step_leads, after_steps-snoc) steps 200000
 
 module _ (f : FirstSeq) (events : List Incoming) (past : History) (rest : Rest)
     (history : IsHistoryOf f events past rest) where
@@ -186,10 +154,8 @@ module _ (f : FirstSeq) (events : List Incoming) (past : History) (rest : Rest)
 -- ---- the laws
 
 pub each_step_leads : EachStepLeads
-each_step_leads f events past rest history before step after past_is = step_leads before step was.taken was.causes
-  where
-    was : WasTaken Any IsLed before step
-    was = (each f events past rest history).each before step after past_is
+each_step_leads f events past rest history before step after past_is =
+    grind (arith, common_steps, step_leads, each) steps 200000
 
 pub situation_after : SituationIsAfterSteps
 situation_after f events past rest history = (each f events past rest history).now

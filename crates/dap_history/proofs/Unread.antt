@@ -1,12 +1,10 @@
 -- While a session takes items, nothing whole is left unread.
-use Rattle.dap_history.proofs.Common.{Ending, Err, Fault, FaultAt, File, FirstSeq, FramingFault, HasFaultyLine, History, Incoming, InputEnd, IsTaking, Item, Launch, LeadsByEvent, LeadsByEvents, LeadsByFile, LeadsByPiece, LeadsByReport, LoadFault, MayTake, MemoryFailure, NoMemory, None, Ok, Option, Piece, PlainReport, ReadFailed, ReadFailure, Report, Rest, Some, Rests, [], ap, arith, closed, closing, faulty, inl, inr, length, length-append, line_of, lines_of, open_ended, refl, waits, ℕ, ◌++◌, ◌∷◌, ◌≡◌}
+use Rattle.dap_history.proofs.Common.{Ending, Err, Fault, FaultAt, File, FirstSeq, FramingFault, HasFaultyLine, History, Incoming, IsTaking, Item, Launch, LeadsByEvent, LeadsByEvents, LeadsByFile, LeadsByPiece, LeadsByReport, LoadFault, MayTake, None, Ok, Option, PlainReport, Rest, Some, Rests, [], ap, arith, closed, closing, faulty, inl, length, length-append, line_of, lines_of, open_ended, refl, waits, ℕ, ◌++◌, ◌∷◌, ◌≡◌}
 use Rattle.std.proofs.Common.{List, Result}
-use Rattle.dap_frame.specs.declared.fault.FramingFault.TheVariants as framing
 use Rattle.dap_frame.specs.Header.{line_end}
 use Rattle.dap_frame.specs.Frame.{IsFrameInFront, IsOpen}
 use Rattle.dap_history.specs.declared.fault.LoadFault.TheVariants as load_fault
 use Rattle.dap_history.specs.Laws.{RestIsOpen}
-use Rattle.dap_history.specs.Events.{End}
 use Rattle.dap_history.proofs.Along.{closes_for_good, any_events, along_waits}
 use Rattle.dap_history.proofs.GoingBack.{Anything, anything_kept}
 use Rattle.std.proofs.lemmas.Grind.{common_steps}
@@ -30,13 +28,7 @@ no_frame_first content rest is =
     omega (arith, whole, parts, header, lines)
 
 no_fault_first : (fault : FramingFault) → ¬ FaultAt [] fault
-no_fault_first framing.HeaderTooLong is = let there = is.there in omega (arith, there)
-no_fault_first framing.BadField is = no_line framing.BadField is
-no_fault_first framing.NoLength is = no_line framing.NoLength is
-no_fault_first framing.TwoLengths is = no_line framing.TwoLengths is
-no_fault_first framing.BadLength is = no_line framing.BadLength is
-no_fault_first framing.TooLarge is = no_line framing.TooLarge is
-no_fault_first framing.NoMemory is = is
+no_fault_first fault is = grind (arith, common_steps, no_line) steps 200000
 
 -- no bytes are open
 pub open_first : IsOpen []
@@ -62,43 +54,32 @@ unread_rests (waits request launch more taking_ front wanted) taking none = absu
 
 unread_may : (past : History) (rest left : Rest) (item : Item) (new : History) (by : Ending) → closing item ≡ Some by
     → MayTake past item new × (left ≡ rest) → Unread past rest → Unread new left
-unread_may past rest left item new by closes (inl is, same) here = unread_same past rest new left is.1 same here
-unread_may past rest left item new by closes (inr is, same) here =
-    λ taking none. absurd (closes_for_good past item new by closes is.1 taking)
+unread_may past rest left item new by closes is here = grind (arith, common_steps) steps 200000
 
 unread_piece : (first : FirstSeq) (past : History) (launch : Option Launch) (bytes : List ℕ) (new : History)
     (left : Rest)
     → LeadsByPiece first past launch bytes new left → Unread new left
-unread_piece first past None bytes new left all = unread_rests all.3
-unread_piece first past (Some launch) bytes new left is = grind (arith, common_steps) steps 1500000
+unread_piece first past launch bytes new left all = grind (arith, common_steps, unread_rests) steps 200000
 
 unread_file : (f : FirstSeq) (past : History) (rest : Rest) (launch : Option Launch)
     (file : Result (List ℕ) LoadFault) (new : History)
     (left : Rest) → LeadsByFile f past rest launch file new left → Unread past rest → Unread new left
 unread_file f past rest None file new left is here = unread_same past rest new left is.0 is.1 here
 unread_file f past rest (Some launch) (Ok file) new left (inl is) here = unread_same past rest new left is.1 is.2 here
-unread_file f past rest (Some launch) (Ok file) new left (inr loads) here =
-    unread_rests loads.after.3
 unread_file f past rest (Some launch) (Err load_fault.CannotRead) new left (inl is) here =
     unread_same past rest new left is.1 is.2 here
-unread_file f past rest (Some launch) (Err load_fault.CannotRead) new left (inr loads) here =
-    unread_rests loads.after.3
-unread_file f past rest (Some launch) (Err load_fault.NoMemory) new left is here =
-    unread_may past rest left MemoryFailure new _ refl is here
+unread_file f past rest launch file new left is here =
+    grind (arith, common_steps, unread_rests, unread_may) steps 200000
 
 unread_report : (past : History) (rest : Rest) (r : PlainReport) (new : History) (left : Rest)
     → LeadsByReport past r new → left ≡ rest → Unread past rest → Unread new left
-unread_report past rest r new left (inl is) same here = unread_same past rest new left is.1 same here
-unread_report past rest r new left (inr is) same here = grind (arith, common_steps) steps 1500000
+unread_report past rest r new left is same here = grind (arith, common_steps) steps 200000
 
 unread_event : (f : FirstSeq) (past : History) (rest : Rest) (event : Incoming) (new : History) (left : Rest)
     → LeadsByEvent f past rest event new left → Unread past rest → Unread new left
-unread_event f past rest (Piece piece) new left leads here = grind (arith, common_steps, unread_piece) steps 1500000
-unread_event f past rest End new left leads here = unread_may past rest left InputEnd new _ refl leads here
-unread_event f past rest ReadFailed new left leads here = unread_may past rest left ReadFailure new _ refl leads here
-unread_event f past rest NoMemory new left leads here = unread_may past rest left MemoryFailure new _ refl leads here
 unread_event f past rest (File file) new left leads here = unread_file f past rest rest.launch file new left leads here
-unread_event f past rest (Report r) new left leads here = unread_report past rest r new left leads.0 leads.1 here
+unread_event f past rest event new left leads here =
+    grind (arith, common_steps, unread_piece, unread_may, unread_report) steps 200000
 
 unread_from : (f : FirstSeq) (past : History) (rest : Rest) (events : List Incoming) (new : History) (left : Rest)
     → LeadsByEvents f past rest events new left → Unread past rest → Unread new left

@@ -1,38 +1,25 @@
 -- What a lawful report says, whether its run goes on or back.
-use Rattle.dap_history.proofs.Common.{Block, Breakpoint, EndsBy, GoesBackBy, Mode, PlainReport, SliceOutcome, Some, Stop, Went, WentBack, WentOn, WrittenJoins, [], ap, append-nil, arith, cases_lt, goal_of, goes_back, has_come, has_no_memory, is_some, is_spent, lacks_memory, last_due, length, length-append, max, stop_at, suc, sym, written, zero, ℕ, ◌++◌, ◌+◌, ◌-◌, ◌∙◌, ◌≡◌, ◌≤◌, back_if, drop-nil, due, if◌then◌else◌, inl, inr, logs_told, reversed, stepped_back, subst, ⊎_elim, ◌⊎◌}
-use Rattle.std.proofs.Common.{List, ℤ, drop, Bool, true, false}
+use Rattle.dap_history.proofs.Common.{Block, Breakpoint, EndsBy, GoesBackBy, Mode, PlainReport, SliceOutcome, Some, Stop, Went, WentBack, WentOn, WrittenJoins, [], ap, append-nil, arith, cases_lt, goal_of, is_some, lacks_memory, last_due, length, length-append, max, stop_at, suc, sym, written, zero, ℕ, ◌++◌, ◌+◌, ◌-◌, ◌∙◌, ◌≡◌, ◌≤◌, back_if, drop-nil}
+use Rattle.std.proofs.Common.{List, ℤ, drop, Bool}
 use Rattle.pl0_meaning.specs.Runs.{written_from}
-use Rattle.dbg_plan.specs.declared.mode.Mode.TheVariants.{StepBack, Reverse, Continue}
 use Rattle.dbg_runner.specs.declared.outcome.SliceOutcome.TheVariants as slice
 use Rattle.dbg_runner.specs.Lawful.{IsLawfulFor}
 use Rattle.std.proofs.Math.Seq.{drop-append_seam}
 use Rattle.std.proofs.Math.ListN.{drop_of_length-le}
+use Rattle.std.proofs.lemmas.Grind.{common_steps}
 
 -- ---- a run that goes back ends below its beginning
 
 last_due_below : (main : Block) (bs : List Breakpoint) (n : ℕ) → (stop_at (last_due main bs n)).position ≤ n
 last_due_below main bs zero = omega arith
-last_due_below main bs (suc m) = by_test (is_some (due main bs 0 Continue m)) (last_due_below main bs m)
-  where
-    by_test : (b : Bool) → (stop_at (last_due main bs m)).position ≤ m
-        → (stop_at (if b then Some m else last_due main bs m)).position ≤ suc m
-    by_test true below = omega arith
-    by_test false below = omega (arith, below)
+last_due_below main bs (suc m) = grind (arith, common_steps, is_some, last_due_below main bs m) steps 200000
 
 retreat_below : (main : Block) (bs : List Breakpoint) (mode : Mode) (n : ℕ) (s : Stop) → goal_of main bs mode n ≡ Some s
     → s.position ≤ n
-retreat_below main bs StepBack n s is =
-    let same : stepped_back n ≡ s = cc in let there = ap (λ (s : Stop). s.position) same in omega (arith, there)
-retreat_below main bs Reverse n s is =
-    let same : reversed main bs n ≡ s =
-    cc in let there = ap (λ (s : Stop). s.position) same in omega (arith, there, last_due_below main bs n)
-retreat_below main bs _ n s is = absurd cc
+retreat_below main bs mode n s is = grind (arith, common_steps, last_due_below) steps 200000
 
 back_by : (main : Block) (r : PlainReport) {e : SliceOutcome} → GoesBackBy main r e → r.end ≤ r.start
-back_by main r (is_spent stays spent) = omega (arith, stays)
-back_by main r (has_come {reason = reason} comes) =
-    retreat_below main r.plan r.mode r.start (record { position = r.end; reason = reason }) comes
-back_by main r (has_no_memory stays) = omega (arith, stays)
+back_by main r is = grind (arith, common_steps, retreat_below) steps 200000
 
 pub back_end : (main : Block) (r : PlainReport) → WentBack main r → r.end ≤ r.start
 back_end main r went = back_by main r went.outcome
@@ -47,15 +34,7 @@ written_here main n = let none : n - n ≡ 0 = omega arith in ap (written_from m
 
 pub nothing_told : (main : Block) (r : PlainReport) → IsLawfulFor main r → r.outcome ≡ slice.NoMemory → (r.numbers ≡ [])
     × (r.logs ≡ [])
-nothing_told main r lawful is = by_went (goes_back r.mode) lawful.went
-  where
-    by_went : (b : Bool) → Went main r (back_if b) → (r.numbers ≡ []) × (r.logs ≡ [])
-    by_went false went = (
-      went.numbers ∙ ap (written main r.start) (took_none main r (subst (EndsBy main r) is went.outcome))
-          ∙ written_here main r.start,
-      went.logs ∙ ap (logs_told main r) is,
-    )
-    by_went true went = (went.numbers, went.logs)
+nothing_told main r lawful is = grind (arith, common_steps, written, took_none, written_here) steps 200000
 
 -- ---- numbers that were reported, and those that a report adds
 
@@ -106,18 +85,7 @@ module _ (joins : WrittenJoins) (main : Block) (r : PlainReport)
   none_told went =
       let ends = back_end main r went in
       let same : max furthest r.end ≡ furthest = omega (arith, ends, begun) in
-      ap (λ l. told ++ drop (length told - r.numbers_before) l) went.numbers
-      ∙ ap (λ l. told ++ l) (drop-nil (length told - r.numbers_before))
-      ∙ append-nil told
-      ∙ told_is
-      ∙ ap (written main 0) (sym same)
+      cc (went.numbers, drop-nil (length told - r.numbers_before), append-nil told)
 
   pub told_joins : (b : Bool) → Went main r (back_if b) → Joined
-  told_joins false went =
-      ⊎_elim (λ (below : r.end ≤ furthest). all_told went below) (λ (beyond : furthest ≤ r.end). some_told went beyond)
-      (by_order (cases_lt r.end furthest))
-    where
-      by_order : (suc r.end ≤ furthest) ⊎ (furthest ≤ r.end) → (r.end ≤ furthest) ⊎ (furthest ≤ r.end)
-      by_order (inl less) = inl (omega (arith, less))
-      by_order (inr more) = inr more
-  told_joins true went = none_told went
+  told_joins b went = grind (arith, common_steps, all_told, some_told, cases_lt, none_told) steps 200000
