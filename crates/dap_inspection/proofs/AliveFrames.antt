@@ -1,13 +1,13 @@
 -- Frames by their ids.
-use Rattle.dap_inspection.proofs.Common.{Configuration, Frame, IsAlive, None, Some, [], ap, arith, cases_eq, frame_at, frame_at-below, frame_at-top, frame_by_id, inl, inr, length, refl, suc, sym, zero, ℕ, ◌<◌, ◌∙◌, ◌∷◌, ◌≡◌, ◌≤◌}
+use Rattle.dap_inspection.proofs.Common.{Configuration, Frame, IsAlive, None, Some, [], ap, arith, cases_eq, frame_at, frame_at-below, frame_at-top, frame_by_id, inl, inr, length, refl, suc, sym, ℕ, ◌<◌, ◌∙◌, ◌∷◌, ◌≡◌, ◌≤◌}
+use Rattle.std.proofs.lemmas.Grind.{common_steps}
 
 none_above : (c : Configuration) (i : ℕ) → length c ≤ i → frame_at c i ≡ None
 none_above [] i le = refl
 none_above (f ∷ below) i le = frame_at-below f below i (omega arith) ∙ none_above below i (omega arith)
 
 pub none_alive : (c : Configuration) (id : ℕ) → length c < id → frame_by_id c id ≡ None
-none_alive c zero lt = refl
-none_alive c (suc i) lt = none_above c i (omega arith)
+none_alive c id lt = grind (arith, common_steps, none_above) steps 200000
 
 pub there : (c : Configuration) (i : ℕ) → i < length c → (f : Frame) × (frame_at c i ≡ Some f)
 there [] i lt = absurd (omega arith)

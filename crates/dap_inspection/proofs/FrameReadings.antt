@@ -22,14 +22,12 @@ use Rattle.std.proofs.lemmas.Grind.{common_steps}
 -- the next step of a frame that was shown is a step of the program
 pub next_within : (main : Block) (o : Option Frame) (view : FrameView) → Shows main o view
     → view.next_step < length (steps main)
-next_within main None view shows = absurd shows
-next_within main (Some f) view shows = shows.1.within
+next_within main o view shows = grind (arith, common_steps) steps 200000
 
 pub read_there : NextStepsStandInTheirBlocks → (main : Block) (o : Option Frame) (view : FrameView) (text : List ℕ)
     (e : DeclaredExpression) → Shows main o view → IsExpressionOf main (step_path main view.next_step) text
     (plain_expression e) → IsReadIn main o text (Some e)
-read_there stand main None view text e shows is = absurd shows
-read_there stand main (Some f) view text e shows is = rw (← (stand main f view.next_step shows.1)) is
+read_there stand main o view text e shows is = grind (arith, common_steps) steps 200000
 
 pub not_read_there : NextStepsStandInTheirBlocks → FaultExcludesExpressions
     → (main : Block) (o : Option Frame) (view : FrameView) (text : List ℕ) (kind : FaultKind) (place : Place)

@@ -1,5 +1,5 @@
 -- The variables of a frame.
-use Rattle.dap_inspection.proofs.Common.{AreLinked, Block, Configuration, Frame, FrameView, IsAlive, List, None, Option, Path, Shows, Some, Subject, [], ap, arith, blocks, frame_at, frame_by_id, get_or, length, refl, slice_get, suc, sym, take, zero, ℕ, ℤ, ∥∥₁_elim, ◌++◌, ◌+◌, ◌<◌, ◌∙◌, ◌∷◌, ◌≡◌}
+use Rattle.dap_inspection.proofs.Common.{AreLinked, Block, Configuration, Frame, FrameView, IsAlive, List, None, Option, Path, Shows, Some, Subject, [], ap, arith, blocks, frame_at, frame_by_id, get_or, length, refl, slice_get, suc, sym, take, ℕ, ℤ, ∥∥₁_elim, ◌++◌, ◌+◌, ◌<◌, ◌∙◌, ◌∷◌, ◌≡◌}
 use Rattle.std.proofs.Common.{map, Ok}
 use Rattle.std.proofs.Math.Nat.{ℕ_set}
 use Rattle.std.proofs.lemmas.List.{length-map}
@@ -20,6 +20,7 @@ use Rattle.dap_history.specs.Frames.{named, names_of, variables_of as variables_
 use Rattle.dap_history.specs.Inspection.{variables as variables_answer}
 use Rattle.dap_inspection.specs.Variables.{names_in, numbers_of}
 use Rattle.dap_inspection.proofs.AliveFrames.{there, by_id}
+use Rattle.std.proofs.lemmas.Grind.{common_steps}
 
 -- ---- their names
 
@@ -30,8 +31,7 @@ IsBlockOf main view b =
 
 pub names_are : (main : Block) (o : Option Frame) (view : FrameView) (b : DeclaredBlock) → Shows main o view
     → IsBlockOf main view b → map plain_name (out-Block b).variables.items ≡ names_in main o
-names_are main None view b shows is = absurd shows
-names_are main (Some f) view b shows is = sym (ap names_of (is f.block shows.0) ∙ ap variables (plain_block_parts b))
+names_are main o view b shows is = grind (arith, common_steps, plain_block_parts) steps 200000
 
 count_in : (main : Block) (c : Configuration) (i : ℕ) (o : Option Frame) → frame_at c i ≡ o → ∥ AreLinked main c ∥₁
     → length (names_in main o) ≡ variables_of o
@@ -48,8 +48,7 @@ count_is main c i names linked are = cc (length-map names plain_name, count_in m
 -- ---- with their numbers
 
 number_in : (o : Option Frame) (k : ℕ) (v : ℤ) → number_of o k ≡ Some v → slice_get (numbers_of o) k ≡ Some v
-number_in None k v is = cc
-number_in (Some f) k v is = is
+number_in o k v is = grind (arith, common_steps) steps 200000
 
 abbrev variable : DeclaredName → ℤ → Variable
 variable x v = record { name = string_bytes x.text; value = v }
@@ -58,12 +57,9 @@ next_named : (names : List DeclaredName) (numbers : List ℤ) (k : ℕ) (x : Dec
     → x ≡ get_or names k x → slice_get numbers k ≡ Some v →
     named (map plain_name (take (suc k) names)) numbers ≡ named (map plain_name (take k names)) numbers ++ variable x v
     ∷ []
-next_named [] numbers k x v lt is at = absurd (omega arith)
-next_named (y ∷ names) [] k x v lt is at = cc
-next_named (y ∷ names) (w ∷ numbers) zero x v lt is at =
-    let same : w ≡ v = cc in ap (λ z. variable z w ∷ []) (sym is) ∙ ap (λ n. variable x n ∷ []) same
 next_named (y ∷ names) (w ∷ numbers) (suc k) x v lt is at =
     ap (λ l. variable y w ∷ l) (next_named names numbers k x v (omega arith) is at)
+next_named names numbers k x v lt is at = grind (arith, common_steps) steps 200000
 
 -- one variable more is read
 pub one_more : (o : Option Frame) (names : List DeclaredName) (k : ℕ) (x : DeclaredName) (v number : ℤ) (word : List ℕ)

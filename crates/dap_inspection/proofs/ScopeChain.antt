@@ -7,6 +7,7 @@ use Rattle.pl0_meaning.specs.Frames.{IsLinkedTo}
 use Rattle.pl0_meaning.proofs.Linking.{link_to}
 use Rattle.pl0_machine.specs.Machine.{parent_of}
 use Rattle.dap_inspection.specs.Showing.{IsScopeOf}
+use Rattle.std.proofs.lemmas.Grind.{common_steps}
 
 -- ---- the definition goes down through all frames
 
@@ -47,12 +48,11 @@ linked_scopes main (g ∷ below) i f at lower =
 -- the main block's frame has its own alone
 lowest_scopes : (main : Block) (c : Configuration) (f : Frame) → frame_at c 0 ≡ Some f
     → scopes_from main c 0 ≡ own_scope main f 0 ∷ []
-lowest_scopes main [] f at = cc
-lowest_scopes main (g ∷ []) f at = let is : g ≡ f = same_Some g f at in ap (λ h. own_scope main h 0 ∷ []) is
 lowest_scopes main (g ∷ h ∷ below) f at =
     let ne : length (h ∷ below) ≢ 0 = omega arith in
     scopes_below main g (h ∷ below) 0 ne ∙ lowest_scopes main (h ∷ below) f
     (sym (frame_at-below g (h ∷ below) 0 ne) ∙ at)
+lowest_scopes main c f at = grind (arith, common_steps, same_Some) steps 200000
 
 -- ---- links lead down
 

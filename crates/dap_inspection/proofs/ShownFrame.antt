@@ -4,6 +4,8 @@ use Rattle.std.proofs.lemmas.Option.{slice_get-get_or}
 use Rattle.pl0_unit.specs.declared.unit.Unit.{Unit as Compiled}
 use Rattle.dap_history.specs.Frames.{frame_place}
 use Rattle.dap_inspection.proofs.UnitTables.{step_within, step_place}
+use Rattle.std.proofs.Common.{arith}
+use Rattle.std.proofs.lemmas.Grind.{common_steps}
 
 pub shown_within : (u : Compiled) (o : Option Frame) (view : FrameView) → Shows (program_of u) o view
     → view.next_step < length u.steps.items
@@ -27,6 +29,5 @@ pub shown_as : (u : Compiled) (counting : Counting) (o : Option Frame) (view : F
     s ≡ get_or u.steps.items view.next_step s → line ≡ s.place.line - counting.lines
     → column ≡ s.place.column - counting.columns →
     IsShownAs (program_of u) counting o id (record { id = id; name = name; line = line; column = column })
-shown_as u counting None view id line column name s shows names at lines columns = absurd shows
-shown_as u counting (Some f) view id line column name s shows names at lines columns =
-    cc (names f.block shows.0, place_is u f view s shows at)
+shown_as u counting o view id line column name s shows names at lines columns =
+    grind (arith, common_steps, place_is) steps 200000

@@ -1,5 +1,5 @@
 -- The steps and blocks of a unit, by number.
-use Rattle.dap_inspection.proofs.Common.{Block, Frame, FrameView, List, None, Option, Place, Shows, Some, Step, StepAt, [], ap, blocks, length, option_map, program_of, refl, slice_get, steps, subst, suc, sym, zero, ℕ, ◌<◌, ◌∷◌, ◌≡◌}
+use Rattle.dap_inspection.proofs.Common.{Block, Frame, FrameView, List, None, Option, Shows, Some, Step, StepAt, blocks, length, option_map, program_of, slice_get, steps, subst, suc, sym, ℕ, ◌<◌, ◌∷◌, ◌≡◌}
 use Rattle.std.proofs.Common.{IsSome, arith}
 use Rattle.pl0_tree.specs.Steps.{AreSteps}
 use Rattle.pl0_unit.specs.declared.unit.Unit.{Unit as Compiled}
@@ -22,11 +22,8 @@ shown_block_within u (Some f) view shows = block_within u view.block f.block sho
 
 same_places : (main : Block) (ss : List Step) (ts : List StepAt) → AreSteps main ss ts → (n : ℕ) →
     option_map (λ (s : Step). s.place) (slice_get ss n) ≡ option_map (λ (t : StepAt). t.place) (slice_get ts n)
-same_places main [] [] are n = refl
-same_places main [] (t ∷ ts) are n = absurd are
-same_places main (s ∷ ss) [] are n = absurd are
-same_places main (s ∷ ss) (t ∷ ts) are zero = ap (λ (p : Place). Some p) are.0.place
 same_places main (s ∷ ss) (t ∷ ts) are (suc n) = same_places main ss ts are.1 n
+same_places main ss ts are n = grind (arith, common_steps) steps 200000
 
 pub step_within : (u : Compiled) (n : ℕ) → n < length (steps (program_of u)) → n < length u.steps.items
 step_within u n lt = subst (λ k. n < k) (sym (unit_length u)) lt

@@ -8,5 +8,4 @@ pub frame_name-name-requires-clause-table : goal.frame_name-name-requires-clause
 frame_name-name-requires-clause-table c = grind (arith, common_steps, unit_nestings)
 
 pub frame_name-name-requires-clause-within : goal.frame_name-name-requires-clause-within
-frame_name-name-requires-clause-within c =
-    rw c.deref.ensures.value (some_within c.args.unit.now c.args.block c.requires)
+frame_name-name-requires-clause-within c = grind (arith, common_steps, some_within) steps 200000
