@@ -26,9 +26,8 @@ before_trans p q r (inr a) (inr b) = inr (omega (arith, a.0, b.0), omega (arith,
 
 pub steps_length : (main : Block) (ss : List Step) (ts : List StepAt) → AreSteps main ss ts → length ss ≡ length ts
 steps_length main [] [] are = refl
-steps_length main [] (t ∷ ts) are = absurd are
-steps_length main (s ∷ ss) [] are = absurd are
 steps_length main (s ∷ ss) (t ∷ ts) are = ap suc (steps_length main ss ts are.1)
+steps_length main _ _ are = absurd are
 
 -- no tokens come by reading constants
 constants_shorter : (s : List Token) (cs : List Constant) (rest : List Token) → ReadsConstants s cs rest
