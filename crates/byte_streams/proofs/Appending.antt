@@ -11,9 +11,7 @@ appends_none a = ap (λ l. record { first = a.first; bytes = l }) (sym (append-n
 
 pub appends_both : (a b c : StreamLog) (bytes more : List ℕ) → Appends a b bytes → Appends b c more
     → Appends a c (bytes ++ more)
-appends_both a b c bytes more first next =
-    next ∙ ap (λ log. with_bytes log more) first
-    ∙ ap (λ l. record { first = a.first; bytes = l }) (append_assoc a.bytes bytes more)
+appends_both a b c bytes more first next = cc (append_assoc a.bytes bytes more)
 
 -- nothing came before these
 pub appends_after : (a b c : StreamLog) (bytes : List ℕ) → b ≡ a → Appends b c bytes → Appends a c bytes

@@ -1,7 +1,8 @@
 -- The bytes that a stream knows are those that std's stream tells, as more go through.
-use Rattle.std.proofs.Common.{rules, ◌≡◌, ◌⊎◌, inl, inr, ℕ, Bool, true, List, [], ◌∷◌, ◌++◌, Option, None, Some, sym, ap, subst, ◌∙◌, append_assoc, append-nil, take, length, ◌<◌}
+use Rattle.std.proofs.Common.{rules, ◌≡◌, ◌⊎◌, inr, ℕ, Bool, true, List, [], ◌∷◌, ◌++◌, Option, None, Some, sym, subst, ◌∙◌, append_assoc, append-nil, take, length, ◌<◌, arith}
 use Rattle.std.specs.Io.KnownBytes.{Consumes, IsAtEnd, Keeps}
 use Rattle.byte_streams.specs.Streams.{HasGiven}
+use Rattle.std.proofs.lemmas.Grind.{common_steps}
 
 -- where nothing is left, nothing more is given
 none_more : (more left : List ℕ) → [] ≡ more ++ left → left ≡ []
@@ -15,14 +16,8 @@ pub given_more : (all old left : Option (List ℕ)) (bytes more : List ℕ) (end
 given_more None old left bytes more ended now p q end = tt
 given_more (Some all) None left bytes more ended now p q end = absurd p
 given_more (Some all) (Some old) None bytes more ended now p q end = absurd q
-given_more (Some all) (Some old) (Some left) bytes more ended now p q end = (
-  p.0 ∙ ap (λ l. bytes ++ l) q ∙ sym (append_assoc bytes more left),
-  λ e. at_end (end e),
-)
-  where
-    at_end : (ended ≡ true) ⊎ IsAtEnd (Some left) → left ≡ []
-    at_end (inl before) = none_more more left (sym (p.1 before) ∙ q)
-    at_end (inr now) = now
+given_more (Some all) (Some old) (Some left) bytes more ended now p q end =
+    grind (arith, common_steps, append_assoc, none_more)
 
 -- a read gave nothing
 pub given_same : (all old left : Option (List ℕ)) (bytes : List ℕ) (ended : Bool) → HasGiven all old bytes ended
@@ -30,14 +25,12 @@ pub given_same : (all old left : Option (List ℕ)) (bytes : List ℕ) (ended : 
 given_same None old left bytes ended p q = tt
 given_same (Some all) None left bytes ended p q = absurd p
 given_same (Some all) (Some old) None bytes ended p q = absurd q
-given_same (Some all) (Some old) (Some left) bytes ended p q =
-    (p.0 ∙ ap (λ l. bytes ++ l) (sym q), λ e. q ∙ p.1 e)
+given_same (Some all) (Some old) (Some left) bytes ended p q = (cc p.0, λ e. q ∙ p.1 e)
 
 -- a read found the end
 pub given_end : (all old left : Option (List ℕ)) (bytes : List ℕ) (n : ℕ) (room : List ℕ) (ended : Bool)
     → HasGiven all old bytes ended → Consumes old left (take n room) × (n ≡ 0 → 0 < length room → IsAtEnd left)
     → n ≡ 0 → 0 < length room → HasGiven all left bytes true
 given_end all old left bytes n room ended p got none some =
-    subst (λ l. HasGiven all left l true) (append-nil bytes)
-    (given_more all old left bytes [] ended true p (subst (λ k. Consumes old left (take k room)) none got.0)
-    (λ e. inr (got.1 none some)))
+    rw (← append-nil bytes) (given_more all old left bytes [] ended true p (subst (λ k. Consumes old left (take k
+    room)) none got.0) (λ e. inr (got.1 none some)))

@@ -1,8 +1,5 @@
-use Rattle.std.proofs.Common.{◌∙◌, inl, inr, subst, arith}
-use Rattle.std.specs.Prelude.{map}
-use Rattle.std.specs.List.{concat}
-use Rattle.byte_streams.specs.Streams.{Appends}
-use Rattle.std.proofs.lemmas.List.{get_or_default, take_all}
+use Rattle.std.proofs.Common.{◌∙◌, inr, arith}
+use Rattle.std.proofs.lemmas.List.{get_or_default}
 use Rattle.byte_streams.proofs.Transferring.{frames_go_on, frames_stop}
 use Rattle.byte_streams.proofs.writing.say.Goals as goal
 
@@ -27,15 +24,4 @@ loop-text-preserved g c =
           (get_or_default texts i _ _ c.loop-text-test.true) c.loop-text.invariant.0
           (rw c.as_bytes.ensures.value at c.in-Ok.ensures.written),
       c.in-Ok.ensures.count ∙ c.loop-text.invariant.1,
-    )
-
-pub returns : goal.returns
-returns g c =
-    let texts = c.args.texts.now in
-    let i = c.loop-text.text-index in
-    let all = take_all i texts c.loop-text-test.false in
-    inl (
-      subst (λ l. Appends (g.O.Sink.output c.args.output.now).written (g.O.Sink.output c.loop-text.output).written
-          (concat (map (λ text. text.now) l))) all c.loop-text.invariant.0,
-      c.loop-text.invariant.1,
     )
