@@ -1,13 +1,14 @@
 -- What is due where a program comes to, of one breakpoint and of all.
-use Rattle.std.proofs.Common.{◌≡◌, ◌≤◌, ◌<◌, ◌||◌, ℕ, ◌+◌, Bool, true, false, ◌&&◌, List, [], ◌∷◌, ◌++◌, ◌∙◌, refl, sym, ap, map, take, drop, length, get_or, slice_set, arith, append_assoc, append-nil}
-use Rattle.std.specs.Prelude.{if◌then◌else◌, is_none}
+use Rattle.std.proofs.Common.{◌≡◌, ◌≤◌, ◌<◌, ◌||◌, ℕ, ◌+◌, Bool, true, false, ◌&&◌, List, [], ◌∷◌, ◌++◌, ◌∙◌, refl, sym, map, take, drop, length, get_or, slice_set, arith, append_assoc, append-nil}
+use Rattle.std.specs.Prelude.{is_none}
 use Rattle.std.specs.List.{flat_map, list_any}
 use Rattle.std.proofs.lemmas.List.{take_all, take_more, drop_all, drop_more, map_more, length-map, length-take, get_or_at, flat_map_more}
 use Rattle.std.proofs.lemmas.List.Edits.{map_over_more}
 use Rattle.std.proofs.lemmas.List.Folds.{list_any_more}
 use Rattle.debuggee.specs.Plain.{PlainBreakpoint, PlainOutput}
-use Rattle.debuggee.specs.Due.{Sight, accepts, arrives, counted, log_of, logs, next_arrival, said, stops}
+use Rattle.debuggee.specs.Due.{Sight, arrives, counted, log_of, logs, stops}
 use Rattle.debuggee.specs.Runs.{ArrivesAt, ArrivesAll}
+use Rattle.std.proofs.lemmas.Grind.{common_steps}
 
 false_last : (v : Bool) → (v && false) ≡ false
 false_last true = refl
@@ -23,16 +24,13 @@ pub read_over : {X : Type 0} (f : X → X) (xs ys : List X) (i : ℕ) (x : X) �
 read_over f xs ys i x lt h is =
     let front = map f (take i xs) in
     let long : length front ≡ i = length-map (take i xs) f ∙ omega (arith, length-take i xs) in
-    let parts : ys ≡ front ++ get_or xs i x ∷ drop (i + 1) xs = h ∙ ap (λ l. front ++ l) (drop_more xs i x lt) in
-    is ∙ ap (λ l. get_or l i x) parts ∙ get_or_at front _ _ x i long
+    grind (arith, common_steps, drop_more, get_or_at)
 
 -- one more element's texts are added
 pub flat_map_snoc : {X A : Type 0} (f : X → List A) (xs : List X) (i : ℕ) (x : X) (old now new : List A) → i < length xs
     → x ≡ get_or xs i x → now ≡ old ++ flat_map f (take i xs) → new ≡ now ++ f x
     → new ≡ old ++ flat_map f (take (i + 1) xs)
-flat_map_snoc f xs i x old now new lt is so more =
-    more ∙ ap (λ l. l ++ f x) so ∙ flat_map_more f old (take i xs) x
-    ∙ ap (λ l. old ++ flat_map f l) (ap (λ y. take i xs ++ y ∷ []) is ∙ sym (take_more xs i x lt))
+flat_map_snoc f xs i x old now new lt is so more = cc (flat_map_more f old (take i xs) x, take_more xs i x lt)
 
 -- ---- arrivals at breakpoints, one after another
 
@@ -52,11 +50,8 @@ module _ {S : Type 0} (see : Sight S) (s : S) (old : List PlainBreakpoint) (i : 
   through_more stop here now x y before between after so is came =
       let read = read_over (counted see s) old now i x inside so.written is in
       record {
-        written = ap (λ z. slice_set now i z) came.1
-            ∙ map_over_more (counted see s) old now i x inside so.written is;
-        stopped = ap (λ b. b || here) so.stopped
-            ∙ ap (λ b. list_any (stops see s) (take i old) || b) (came.0 ∙ ap (stops see s) read)
-            ∙ sym (list_any_more (stops see s) old i x inside);
+        written = cc (came.1, map_over_more (counted see s) old now i x inside so.written is);
+        stopped = cc (so.stopped, came.0, list_any_more (stops see s) old i x inside);
         added = flat_map_snoc (log_of see s) old i x before between after inside read so.added came.2;
       }
 
@@ -67,25 +62,19 @@ module _ {S : Type 0} (see : Sight S) (s : S) (old : List PlainBreakpoint) (i : 
   through_other stop now x before after so never =
       let b = get_or old i x in
       let front = map (counted see s) (take i old) in
-      let same : counted see s b ≡ b
-      = ap (λ (here : Bool). if here then record b { arrivals = next_arrival b } else b) never in
-      let silent : log_of see s b ≡ []
-      = ap (λ (here : Bool). if here && accepts b.rule (next_arrival b) then said see s b.message else []) never in
-      let passes : stops see s b ≡ false
-      = ap (λ here. is_none b.message && (here && accepts b.rule (next_arrival b))) never
-      ∙ false_last (is_none b.message) in
+      let same : counted see s b ≡ b = cc in
+      let silent : log_of see s b ≡ [] = cc in
+      let passes : stops see s b ≡ false = cc (false_last (is_none b.message)) in
       record {
-        written = so.written ∙ ap (λ l. front ++ l) (drop_more old i x inside)
-            ∙ sym (append_assoc front (b ∷ []) (drop (i + 1) old))
-            ∙ ap (λ y. (front ++ y ∷ []) ++ drop (i + 1) old) (sym same)
-            ∙ ap (λ l. l ++ drop (i + 1) old) (sym (map_more (counted see s) old i x inside));
-        stopped = so.stopped ∙ sym (false_or (list_any (stops see s) (take i old)))
-            ∙ ap (λ b. list_any (stops see s) (take i old) || b) (sym passes)
-            ∙ sym (list_any_more (stops see s) old i x inside);
-        added = so.added ∙ sym (append-nil (before ++ logs see s (take i old)))
-            ∙ ap (λ l. (before ++ logs see s (take i old)) ++ l) (sym silent)
-            ∙ flat_map_more (log_of see s) before (take i old) b
-            ∙ ap (λ l. before ++ flat_map (log_of see s) l) (sym (take_more old i x inside));
+        written = cc (
+          so.written,
+          drop_more old i x inside,
+          append_assoc front (b ∷ []) (drop (i + 1) old),
+          map_more (counted see s) old i x inside,
+        );
+        stopped = cc (so.stopped, false_or _, list_any_more (stops see s) old i x inside);
+        added =
+            cc (so.added, append-nil _, flat_map_more (log_of see s) before (take i old) b, take_more old i x inside);
       }
 
 module _ {S : Type 0} (see : Sight S) (s : S) (old : List PlainBreakpoint) where
@@ -95,10 +84,4 @@ module _ {S : Type 0} (see : Sight S) (s : S) (old : List PlainBreakpoint) where
 
   pub through_all : (i : ℕ) (stop : Bool) (now : List PlainBreakpoint) (before after : List PlainOutput)
       → length old ≤ i → Through see s old i stop now before after → ArrivesAll see s old stop now before after
-  through_all i stop now before after end so =
-      let all = take_all i old end in (
-        so.stopped ∙ ap (list_any (stops see s)) all,
-        so.written ∙ ap (λ l. map (counted see s) (take i old) ++ l) (drop_all i old end)
-            ∙ append-nil (map (counted see s) (take i old)) ∙ ap (map (counted see s)) all,
-        so.added ∙ ap (λ l. before ++ logs see s l) all,
-      )
+  through_all i stop now before after end so = grind (arith, common_steps, take_all, drop_all, append-nil)

@@ -1,5 +1,5 @@
 -- Two runs, one after another, are one.
-use Rattle.std.proofs.Common.{List, ◌++◌, ◌∙◌, sym, ap, subst, append_assoc, append-nil, Option, None}
+use Rattle.std.proofs.Common.{List, ◌++◌, append_assoc, append-nil, Option, None}
 use Rattle.debuggee.specs.declared.mode.Mode.{Mode}
 use Rattle.debuggee.specs.Plain.{PlainBreakpoint, PlainHalt, PlainOutput}
 use Rattle.debuggee.specs.Due.{Sight}
@@ -9,12 +9,10 @@ passes_join : {S : Type 0} (takes : Meaning S) (see : Sight S) (mode : Mode) (a 
     (told : List PlainOutput) (b : S) (new : List PlainBreakpoint) (more : List PlainOutput)
     → Passes takes see mode a old m mid told → Passes takes see mode m mid b new more
     → Passes takes see mode a old b new (told ++ more)
-passes_join takes see mode a m old mid told b new more first Stays =
-    subst (λ l. Passes takes see mode a old m mid l) (sym (append-nil told)) first
+passes_join takes see mode a m old mid told b new more first Stays = rw (append-nil told) first
 passes_join takes see mode a m old mid told b new more first (Then n c between later others last passes advances) =
-    subst (λ l. Passes takes see mode a old c later l) (append_assoc told others last)
-    (Then n c between later (told ++ others) last
-    (passes_join takes see mode a m old mid told n between others first passes) advances)
+    rw (← append_assoc told others last) (Then n c between later (told ++ others) last (passes_join takes see mode a m
+    old mid told n between others first passes) advances)
 
 pub runs_join : {S : Type 0} (takes : Meaning S) (see : Sight S) (mode : Mode) (a m b : S)
     (old mid new : List PlainBreakpoint) (halt : Option PlainHalt) (before between after : List PlainOutput)
@@ -26,9 +24,8 @@ runs_join takes see mode a m b old mid new halt before between after first secon
       second.1,
       told ++ second.2,
       second.3,
-      passes_join takes see mode a m old mid told second.0 second.1 second.2
-          (Then first.0 m first.1 mid first.2 first.3 first.4 first.5) second.4,
+      passes_join takes see mode a m old mid told second.0 second.1
+          second.2 (Then first.0 m first.1 mid first.2 first.3 first.4 first.5) second.4,
       second.5,
-      second.6 ∙ ap (λ l. l ++ (second.2 ++ second.3)) first.6 ∙ append_assoc before told (second.2 ++ second.3)
-          ∙ ap (λ l. before ++ l) (sym (append_assoc told second.2 second.3)),
+      cc (second.6, first.6, append_assoc before told (second.2 ++ second.3), append_assoc told second.2 second.3),
     )

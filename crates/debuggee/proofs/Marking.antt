@@ -1,12 +1,12 @@
 -- Marks of places: a program arrives only at breakpoints that share a mark with its place.
-use Rattle.std.proofs.Common.{◌≡◌, ◌≢◌, ◌⊎◌, ◌≤◌, ◌<◌, subst, inl, inr, ℕ, ◌+◌, ◌-◌, ◌%◌, zero, suc, Bool, true, false, ◌&&◌, nat_eq, List, [], ◌∷◌, ◌∙◌, refl, sym, ap, map, length, get_or, slice_set, None, Some, arith}
+use Rattle.std.proofs.Common.{◌≡◌, ◌≢◌, ◌⊎◌, ◌≤◌, ◌<◌, subst, inl, inr, ℕ, ◌+◌, ◌-◌, ◌%◌, zero, suc, Bool, true, false, nat_eq, List, [], ◌∷◌, ◌∙◌, refl, sym, ap, map, length, get_or, slice_set, None, Some, arith}
 use Rattle.std.specs.Prelude.{if◌then◌else◌}
 use Rattle.std.proofs.Math.ListN.{get_or-map}
 use Rattle.std.proofs.lemmas.Bool.Decides.{eqb_tells}
 use Rattle.std.proofs.lemmas.List.{length-map, get_or-set_other}
-use Rattle.std.proofs.lemmas.Grind.{get_or-set_at}
+use Rattle.std.proofs.lemmas.Grind.{get_or-set_at, common_steps}
 use Rattle.debuggee.specs.Plain.{PlainBreakpoint, PlainOutput}
-use Rattle.debuggee.specs.Due.{Sight, arrives, counted, holds, is_at, next_arrival}
+use Rattle.debuggee.specs.Due.{Sight, arrives, counted, next_arrival}
 use Rattle.debuggee.specs.Marks.{AreMarked, AreChained, IsNext, mark_at, mark_count, places_of}
 use Rattle.debuggee.proofs.Counting.{Through, through_other}
 
@@ -22,12 +22,7 @@ pub record ChainedFrom (places first next : List ℕ) (i : ℕ) : Type 0 where
 
 module _ (places : List ℕ) where
   pub nothing_more : (mark i : ℕ) → length places ≡ i → IsNext places mark i i
-  nothing_more mark i end = record {
-    reaches = omega arith;
-    within = omega (arith, end);
-    between = λ j low high. absurd (omega (arith, low, high));
-    there = λ lt. absurd (omega (arith, lt, end));
-  }
+  nothing_more mark i end = grind (arith, common_steps)
 
   here_next : (mark i : ℕ) → i < length places → mark ≡ mark_at places i → IsNext places mark i i
   here_next mark i inside same = record {
@@ -64,10 +59,7 @@ module _ (places : List ℕ) where
           → ((nat_eq mark (mark_at places i) ≡ true) × (mark ≡ mark_at places i))
           ⊎ ((nat_eq mark (mark_at places i) ≡ false) × (mark ≢ mark_at places i))
           → IsNext places mark i (get_or (slice_set first (mark_at places i) i) mark 0)
-      by_mark mark lt (inl same) =
-          subst (IsNext places mark i)
-          (sym (get_or-set_at first (mark_at places i) mark i 0 same.1 (omega (arith, firsts, less))))
-          (here_next mark i inside same.1)
+      by_mark mark lt (inl same) = grind (arith, common_steps, get_or-set_at, here_next)
       by_mark mark lt (inr apart) =
           subst (IsNext places mark i) (sym (get_or-set_other first (mark_at places i) mark i 0 apart.1))
           (one_before mark i (get_or first mark 0) apart.1 (later.heads mark lt))
@@ -77,14 +69,10 @@ module _ (places : List ℕ) where
           → IsNext places (mark_at places j) (j + 1)
           (get_or (slice_set next i (get_or first (mark_at places i) 0)) j 0)
       by_index j low lt (inl same) =
-          subst (IsNext places (mark_at places j) (j + 1))
-          (sym (get_or-set_at next i j (get_or first (mark_at places i) 0) 0 same.1 (omega (arith, nexts, inside))))
-          (subst (λ n. IsNext places (mark_at places n) (n + 1) (get_or first (mark_at places i) 0)) (sym same.1)
-          (later.heads (mark_at places i) less))
+          rw (get_or-set_at next i j (get_or first (mark_at places i) 0) 0 same.1 (omega (arith, nexts, inside))) (rw
+          same.1 (later.heads (mark_at places i) less))
       by_index j low lt (inr apart) =
-          subst (IsNext places (mark_at places j) (j + 1))
-          (sym (get_or-set_other next i j (get_or first (mark_at places i) 0) 0 apart.1))
-          (later.others j (omega (arith, low, apart.1)) lt)
+          rw (get_or-set_other next i j _ 0 apart.1) (later.others j (omega (arith, low, apart.1)) lt)
 
 -- ---- arrivals change no place
 
@@ -96,9 +84,7 @@ module _ {S : Type 0} (see : Sight S) (s : S) where
 
   same_places : (bs : List PlainBreakpoint) → places_of (map (counted see s) bs) ≡ places_of bs
   same_places [] = refl
-  same_places (b ∷ bs) =
-      ap (λ p. p ∷ places_of (map (counted see s) bs)) (same_place (arrives see s b) b)
-      ∙ ap (λ l. b.place ∷ l) (same_places bs)
+  same_places (b ∷ bs) = cc (same_place (arrives see s b) b, same_places bs)
 
   pub marked_still : (first next : List ℕ) (bs : List PlainBreakpoint) → AreMarked first next bs
       → AreMarked first next (map (counted see s) bs)
@@ -113,10 +99,8 @@ module _ {S : Type 0} (see : Sight S) (s : S) where
   through_nowhere none old zero stop now before after within so = so
   through_nowhere none old (suc n) stop now before after within so =
       let end : n + 1 ≡ suc n = omega arith in
-      subst (λ i. Through see s old i stop now before after) end
-      (through_other see s old n (omega (arith, within)) stop now nowhere before after
-      (through_nowhere none old n stop now before after (omega (arith, within)) so)
-      (ap (λ p. is_at p (get_or old n nowhere).place && holds see s (get_or old n nowhere).condition) none))
+      rw (← end) (through_other see s old n (omega (arith, within)) stop now nowhere before after (through_nowhere none
+      old n stop now before after (omega (arith, within)) so) (cc))
 
   -- it has arrived at those before an index, which has the mark of the place, or is the end
   pub record Reaches (here : ℕ) (old : List PlainBreakpoint) (i : ℕ) (stop : Bool) (now : List PlainBreakpoint)
@@ -128,32 +112,18 @@ module _ {S : Type 0} (see : Sight S) (s : S) where
   module _ (here : ℕ) (at : see.place_of s ≡ Some here) (old : List PlainBreakpoint) where
     elsewhere : (i : ℕ) → mark_at (places_of old) i ≢ here % mark_count
         → arrives see s (get_or old i nowhere) ≡ false
-    elsewhere i other = by_place (eqb_tells here (get_or old i nowhere).place)
-      where
-        place : get_or (places_of old) i 0 ≡ (get_or old i nowhere).place
-        place = get_or-map (λ b. b.place) old i nowhere
-
-        by_place : ((nat_eq here (get_or old i nowhere).place ≡ true) × (here ≡ (get_or old i nowhere).place))
-            ⊎ ((nat_eq here (get_or old i nowhere).place ≡ false) × (here ≢ (get_or old i nowhere).place))
-            → arrives see s (get_or old i nowhere) ≡ false
-        by_place (inl same) = absurd (other (ap (λ p. p % mark_count) (place ∙ sym same.1)))
-        by_place (inr apart) =
-            let b = get_or old i nowhere in
-            ap (λ p. is_at p b.place && holds see s b.condition) at ∙ ap (λ v. v && holds see s b.condition) apart.0
+    elsewhere i other = grind (arith, common_steps, eqb_tells, get_or-map)
 
     through_rest : (k i : ℕ) (stop : Bool) (now : List PlainBreakpoint) (before after : List PlainOutput)
         → i + k ≤ length old
         → ((j : ℕ) → i ≤ j → j < i + k → mark_at (places_of old) j ≢ here % mark_count)
         → Through see s old i stop now before after → Through see s old (i + k) stop now before after
-    through_rest zero i stop now before after within none so =
-        let end : i ≡ i + 0 = omega arith in subst (λ n. Through see s old n stop now before after) end so
+    through_rest zero i stop now before after within none so = grind (arith, common_steps)
     through_rest (suc k) i stop now before after within none so =
         let inside : i < length old = omega (arith, within) in
         let end : (i + 1) + k ≡ i + suc k = omega arith in
-        subst (λ n. Through see s old n stop now before after) end
-        (through_rest k (i + 1) stop now before after (omega (arith, within))
-        (λ j low high. none j (omega (arith, low)) (omega (arith, high)))
-        (through_other see s old i inside stop now nowhere before after so
+        rw (← end) (through_rest k _ stop now before after (omega (arith, within)) (λ j low high. none j
+        (omega (arith, low)) (omega (arith, high))) (through_other see s old i inside stop now nowhere before after so
         (elsewhere i (none i (omega arith) (omega arith)))))
 
     pub reach_next : (i to : ℕ) (stop : Bool) (now : List PlainBreakpoint) (before after : List PlainOutput)

@@ -1,8 +1,8 @@
-use Rattle.std.proofs.Common.{◌<◌, ◌||◌, ◌+◌, rules, ◌∙◌, sym, subst, ap, map, length, get_or, arith}
+use Rattle.std.proofs.Common.{◌<◌, rules, map, length, get_or, arith}
 use Rattle.std.proofs.Math.ListN.{get_or-map}
 use Rattle.std.proofs.lemmas.List.{length-map, map-set, get_or_default}
-use Rattle.debuggee.specs.Plain.{plain_breakpoint, plain_output}
-use Rattle.debuggee.proofs.Counting.{Through, through_more}
+use Rattle.debuggee.specs.Plain.{plain_breakpoint}
+use Rattle.debuggee.proofs.Counting.{through_more}
 use Rattle.debuggee.proofs.arriving.arrive_all.Goals as goal
 
 pub loop-breakpoint-preserved : goal.loop-breakpoint-preserved
@@ -18,12 +18,7 @@ loop-breakpoint-preserved g c =
     let there : i < length first = search rules in
     let within : i < length items = search rules in
     let inside : i < length xs = omega (arith, length-map first plain_breakpoint, there) in
-    subst (λ l. Through see s xs (i + 1) (c.loop-breakpoint.stops || c.in_ok-here.here) l
-    (map plain_output c.args.told.now.items) (map plain_output c.arrive_at.new.told.items))
-    (sym (map-set plain_breakpoint items i c.arrive_at.new.breakpoint))
-    (through_more see s xs i inside c.loop-breakpoint.stops c.in_ok-here.here ys (plain_breakpoint item)
-    (plain_breakpoint c.arrive_at.new.breakpoint) (map plain_output c.args.told.now.items)
-    (map plain_output c.loop-breakpoint.told.items) (map plain_output c.arrive_at.new.told.items)
-    c.loop-breakpoint.invariant
-    (ap plain_breakpoint (get_or_default items i c.breakpoint-item.result item within)
-    ∙ sym (get_or-map plain_breakpoint items i item)) c.in_ok-here.ensures)
+    rw (map-set plain_breakpoint items i c.arrive_at.new.breakpoint) (through_more see s xs i inside
+    c.loop-breakpoint.stops c.in_ok-here.here ys _ _ _ _ _ c.loop-breakpoint.invariant
+    (cc (get_or_default items i c.breakpoint-item.result item within, get_or-map plain_breakpoint items i item))
+    c.in_ok-here.ensures)

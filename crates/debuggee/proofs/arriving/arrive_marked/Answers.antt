@@ -1,4 +1,4 @@
-use Rattle.std.proofs.Common.{◌≡◌, ◌≤◌, ◌<◌, ◌+◌, ◌%◌, ◌||◌, ◌∙◌, rules, refl, sym, subst, ap, map, length, get_or, slice_set, arith, false}
+use Rattle.std.proofs.Common.{◌≡◌, ◌<◌, ◌+◌, ◌%◌, ◌||◌, ◌∙◌, rules, refl, sym, map, length, get_or, slice_set, arith, false}
 use Rattle.std.proofs.Math.ListN.{get_or-map}
 use Rattle.std.proofs.lemmas.List.{length-map, length-set, map-set, get_or_default}
 use Rattle.debuggee.specs.Plain.{PlainBreakpoint, plain_breakpoint, plain_output}
@@ -45,30 +45,24 @@ loop-index-preserved g c =
     let new = c.arrive_at.new.breakpoint in
     let reached = c.loop-index.invariant.reaches in
     let there : i < length items = search rules in
-    let inside : i < length old
-    = omega (arith, there, c.loop-index.invariant.long, length-map first plain_breakpoint) in
-    let is : plain_breakpoint found ≡ get_or (map plain_breakpoint items) i (plain_breakpoint found)
-    = ap plain_breakpoint c.index_mut-breakpoint.ensures.value ∙ sym (get_or-map plain_breakpoint items i found) in
-    let more : Through see s old (i + 1) stop (map plain_breakpoint (slice_set items i new)) told
-    (map plain_output c.arrive_at.new.told.items)
-    = subst (λ l. Through see s old (i + 1) stop l told (map plain_output c.arrive_at.new.told.items))
-    (sym (map-set plain_breakpoint items i new))
-    (through_more see s old i inside c.loop-index.stops c.in_ok-stops_here.stops_here (map plain_breakpoint items)
-    (plain_breakpoint found) (plain_breakpoint new) told (map plain_output c.loop-index.told.items)
-    (map plain_output c.arrive_at.new.told.items) reached.through is c.in_ok-stops_here.ensures) in
-    let within : i < length (places_of old)
-    = omega (arith, inside, length-map old (λ (b : PlainBreakpoint). b.place)) in
+    let inside : i < length old = omega (arith, there, c.loop-index.invariant.long, length-map first plain_breakpoint)
+    in
+    let is : plain_breakpoint found ≡ get_or (map plain_breakpoint items) i (plain_breakpoint found) =
+    cc (c.index_mut-breakpoint.ensures.value, get_or-map plain_breakpoint items i found) in
+    let more : Through see s old (i + 1) stop (map plain_breakpoint (slice_set items i new)) told (map plain_output
+    c.arrive_at.new.told.items) = rw (map-set plain_breakpoint items i new) (through_more see s old i inside _ _ _ _ _
+    told _ _ reached.through is c.in_ok-stops_here.ensures) in
+    let within : i < length (places_of old) = omega (arith, inside, length-map old (λ (b : PlainBreakpoint). b.place))
+    in
     let after = c.args.marks.now.next.items in
-    let to : c.index-index.result.now ≡ get_or after i 0
-    = c.index-index.ensures
+    let to : c.index-index.result.now ≡ get_or after i 0 = c.index-index.ensures
     ∙ get_or_default after i c.index-index.result.now 0 (omega (arith, within, c.requires.marked.others_long)) in
-    let next : IsNext (places_of old) (here % mark_count) (i + 1) c.index-index.result.now
-    = subst (λ n. IsNext (places_of old) (here % mark_count) (i + 1) n) (sym to)
-    (subst (λ mark. IsNext (places_of old) mark (i + 1) (get_or after i 0))
-    (reached.there inside) (c.requires.marked.others i within)) in
+    let next : IsNext (places_of old) (here % mark_count) (i + 1) c.index-index.result.now = rw to
+    (rw (← reached.there inside) (c.requires.marked.others i within)) in
     record {
       reaches = reach_next see s here (sym c.requires.at ∙ c.in-Some.is) old (i + 1) _ stop _ told _ next more;
-      long = length-set items i new ∙ c.loop-index.invariant.long;
+      long = length-set items i new
+          ∙ c.loop-index.invariant.long;
     }
 
 pub index-index-requires : goal.index-index-requires
@@ -106,15 +100,3 @@ loop-index-smaller g c =
     ∙ get_or_default after i c.index-index.result.now 0 (omega (arith, within, c.requires.marked.others_long)) in
     let later = (c.requires.marked.others i within).reaches in
     omega (arith, there, later, to, length-set items i c.arrive_at.new.breakpoint)
-
-pub returns : goal.returns
-returns g c =
-    let see = g.D.Debuggee.sees in
-    let s = c.args.debuggee.now in
-    let first = c.args.breakpoints.now.items in
-    let old = map plain_breakpoint first in
-    let end : length c.loop-index.breakpoints.items ≤ c.loop-index.index = search rules in
-    through_all see s old c.loop-index.index c.loop-index.stops (map plain_breakpoint c.loop-index.breakpoints.items)
-    (map plain_output c.args.told.now.items) (map plain_output c.loop-index.told.items)
-    (omega (arith, end, c.loop-index.invariant.long, length-map first plain_breakpoint))
-    c.loop-index.invariant.reaches.through

@@ -5,24 +5,6 @@ use Rattle.debuggee.specs.Runs.{Silently, Printing, Stays, Then}
 use Rattle.debuggee.specs.WorkedRuns.{at_place, saying}
 use Rattle.debuggee.proofs.laws.worked_debuggee.Goals as goal
 
-pub returns-clause-conditions : goal.returns-clause-conditions
-returns-clause-conditions c = refl
-
-pub returns-clause-rules : goal.returns-clause-rules
-returns-clause-rules c = refl
-
-pub returns-clause-counted : goal.returns-clause-counted
-returns-clause-counted c = (refl, refl, refl, refl)
-
-pub returns-clause-modes : goal.returns-clause-modes
-returns-clause-modes c = refl
-
-pub returns-clause-first : goal.returns-clause-first
-returns-clause-first c = refl
-
-pub returns-clause-messages : goal.returns-clause-messages
-returns-clause-messages c = refl
-
 pub returns-clause-run : goal.returns-clause-run
 returns-clause-run c =
     let old = at_place 1 None (Some (Exactly 2)) 0 ∷ saying (at_place 0 None None 0) ∷ [] in
