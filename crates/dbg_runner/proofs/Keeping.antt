@@ -1,9 +1,10 @@
 -- A kept report is lawful, and its debuggee was considered where it stands.
-use Rattle.dbg_runner.proofs.Common.{ap, arith, Block, Bool, Breakpoint, carried, Carries, Debugged, due, EndsBy, false, faults, goal_of, goes_back, GoesBackBy, has_come, has_no_memory, if◌then◌else◌, is_due, is_held, is_over, is_some, is_spent, IsConsidered, IsKept, IsLawfulReport, lacks_memory, last_due, List, Mode, Option, plain_report, PlainReport, refl, Reported, reversed, RunsAt, SliceOutcome, Some, StandsAtEnd, stepped_back, Stop, stop_at, stopped, subst, suc, sym, takes_all, Trail, trail_in, true, Went, WentBack, WentOn, zero, ℕ, ◌∙◌, ◌≡◌, ◌≤◌, back_if, direction}
+use Rattle.dbg_runner.proofs.Common.{arith, Block, Bool, Breakpoint, carried, Carries, Debugged, EndsBy, false, faults, goal_of, goes_back, GoesBackBy, has_come, has_no_memory, if◌then◌else◌, is_due, is_held, is_over, is_some, is_spent, IsConsidered, IsKept, IsLawfulReport, lacks_memory, last_due, List, Mode, Option, plain_report, PlainReport, refl, Reported, RunsAt, SliceOutcome, Some, StandsAtEnd, Stop, stop_at, stopped, subst, suc, sym, takes_all, Trail, trail_in, true, Went, WentBack, WentOn, zero, ℕ, ◌∙◌, ◌≡◌, ◌≤◌, back_if, direction}
 use Rattle.pl0_machine.specs.Machine.{program_of}
 use Rattle.dbg_plan.specs.declared.mode.Mode.TheVariants as mode
 use Rattle.dbg_runner.specs.declared.outcome.SliceOutcome.TheVariants as out
 use Rattle.pl0_machine.proofs.Alive.{runs_before}
+use Rattle.std.proofs.lemmas.Grind.{common_steps}
 
 pub lawful : (r : Reported) → IsKept r → IsLawfulReport (plain_report r)
 lawful r kept = record { program = program_of r.unit; reads = r.unit.tree.lawful; lawful = kept }
@@ -27,17 +28,13 @@ found_below false n before below = omega (arith, below)
 
 last_due_below : (main : Block) (bs : List Breakpoint) (n : ℕ) → (stop_at (last_due main bs n)).position ≤ n
 last_due_below main bs zero = omega arith
-last_due_below main bs (suc n) =
-    found_below (is_some (due main bs 0 mode.Continue n)) n (last_due main bs n) (last_due_below main bs n)
+last_due_below main bs (suc n) = found_below (is_some _) n (last_due main bs n) (last_due_below main bs n)
 
 -- going back leads back
 pub leads_back : (main : Block) (bs : List Breakpoint) (m : Mode) (n : ℕ) (s : Stop) → goal_of main bs m n ≡ Some s
     → s.position ≤ n
-leads_back main bs mode.StepBack n s is =
-    let same : stepped_back n ≡ s = cc in let there = ap (λ (s : Stop). s.position) same in omega (arith, there)
-leads_back main bs mode.Reverse n s is =
-    let same : reversed main bs n ≡ s =
-    cc in let there = ap (λ (s : Stop). s.position) same in omega (arith, there, last_due_below main bs n)
+leads_back main bs mode.StepBack n s is = grind (arith, common_steps, Stop)
+leads_back main bs mode.Reverse n s is = grind (arith, common_steps, Stop, last_due_below)
 leads_back main bs _ n s is = absurd cc
 
 -- ---- a frame is alive where a report ends
@@ -53,8 +50,7 @@ runs_at_end main r out.NoMemory (lacks_memory stays runs) not_over = runs
 
 ends_before : (main : Block) (r : PlainReport) (e : SliceOutcome) → GoesBackBy main r e → r.end ≤ r.start
 ends_before main r out.More (is_spent stays all) = omega (arith, stays)
-ends_before main r (out.Due reason) (has_come come) =
-    leads_back main r.plan r.mode r.start (record { position = r.end; reason = reason }) come
+ends_before main r (out.Due reason) (has_come come) = grind (arith, common_steps, leads_back)
 ends_before main r out.NoMemory (has_no_memory stays) = omega (arith, stays)
 ends_before main r _ none = elim none [ ]
 
@@ -97,12 +93,4 @@ where_it_ends r d kept is carries =
 -- the debuggee in a report
 pub carried_considered : (back : Bool) (r : Reported) (d : Debugged) → IsKept r → Carries (back_if back) r r.outcome
     → r.debuggee ≡ Some d → IsConsidered d
-carried_considered back r d kept carries is = by_outcome back r.outcome refl carries
-  where
-    by_outcome : (b : Bool) (e : SliceOutcome) → e ≡ r.outcome → Carries (back_if b) r e → IsConsidered d
-    by_outcome true out.NoMemory same carries =
-        let it : carries.0 ≡ d = cc in subst (λ (d : Debugged). IsConsidered d) it carries.2.considered
-    by_outcome true out.Held same carries = absurd carries
-    by_outcome true out.Done same carries = absurd carries
-    by_outcome true (out.Fault fault) same carries = absurd carries
-    by_outcome _ e same carries = where_it_ends r d kept is (carries ∙ ap (λ e. carried r e) same)
+carried_considered back r d kept carries is = grind (arith, common_steps, out.Fault, where_it_ends)

@@ -1,9 +1,8 @@
 -- What the positions of a run log.
-use Rattle.dbg_runner.proofs.Common.{[], accepts, ap, append-nil, append_assoc, arith, arrivals, arrives_in, at, Block, Breakpoint, cases_eq, EndsBy, false, faults, if◌then◌else◌, is_due, is_held, is_hit, is_over, IsPassed, IsSpent, lacks_memory, List, Log, log_at, log_in, logs, logs_between, logs_from, logs_in, logs_told, None, Option, PlainReport, refl, slice_limit, SliceOutcome, Some, suc, sym, takes_all, WentOn, zero, ℕ, ⊎_elim, ◌&&◌, ◌++◌, ◌+◌, ◌-◌, ◌<◌, ◌∙◌, ◌∷◌, ◌≡◌, ◌≤◌}
-use Rattle.std.specs.List.{cons_option}
+use Rattle.dbg_runner.proofs.Common.{[], ap, append-nil, append_assoc, arith, at, Block, Breakpoint, cases_eq, EndsBy, false, faults, is_due, is_held, is_hit, is_over, IsSpent, lacks_memory, List, Log, log_at, logs, logs_between, logs_from, logs_in, logs_told, PlainReport, refl, SliceOutcome, Some, suc, sym, takes_all, WentOn, zero, ℕ, ◌++◌, ◌+◌, ◌-◌, ◌<◌, ◌∙◌, ◌∷◌, ◌≡◌, ◌≤◌}
 use Rattle.std.specs.List.{filter_map, enumerate_from}
-use Rattle.pl0_meaning.specs.Values.{Configuration}
 use Rattle.dbg_runner.specs.declared.outcome.SliceOutcome.TheVariants as out
+use Rattle.std.proofs.lemmas.Grind.{common_steps}
 
 -- ---- stretches
 
@@ -15,25 +14,18 @@ module _ (main : Block) (bs : List Breakpoint) (t : ℕ) where
   Silent a b = (m : ℕ) → a < m → m < b → at_position m ≡ []
 
   stretch : (m n k : ℕ) → logs_from main bs t m n ++ logs_from main bs t (m + n) k ≡ logs_from main bs t m (n + k)
-  stretch m zero k =
-      let e : m + zero ≡ m = omega arith in
-      let f : zero + k ≡ k = omega arith in
-      ap (λ p. logs_from main bs t p k) e ∙ ap (λ c. logs_from main bs t m c) (sym f)
+  stretch m zero k = grind (arith, common_steps)
   stretch m (suc n) k =
       let e : m + suc n ≡ m + 1 + n = omega arith in
       let f : suc n + k ≡ suc (n + k) = omega arith in
-      append_assoc (at_position m) (logs_from main bs t (m + 1) n) (logs_from main bs t (m + suc n) k)
-      ∙ ap (λ p. at_position m ++ (logs_from main bs t (m + 1) n ++ logs_from main bs t p k)) e
-      ∙ ap (λ ls. at_position m ++ ls) (stretch (m + 1) n k)
-      ∙ ap (λ c. logs_from main bs t m c) (sym f)
+      cc (append_assoc (at_position m) _ _, stretch (m + 1) n k)
 
   pub logs-joined : (a b c : ℕ) → a ≤ b → b ≤ c → logs_between main bs t a b
       ++ logs_between main bs t b c ≡ logs_between main bs t a c
   logs-joined a b c first second =
       let e : b + 1 ≡ a + 1 + (b - a) = omega (arith, first) in
       let f : b - a + (c - b) ≡ c - a = omega (arith, first, second) in
-      ap (λ p. logs_between main bs t a b ++ logs_from main bs t p (c - b)) e ∙ stretch (a + 1) (b - a) (c - b)
-      ∙ ap (λ n. logs_from main bs t (a + 1) n) f
+      cc (stretch (a + 1) (b - a) (c - b))
 
   pub logs_between-none : (a b : ℕ) → b ≤ a → logs_between main bs t a b ≡ []
   logs_between-none a b le = let e : b - a ≡ 0 = omega (arith, le) in ap (λ n. logs_from main bs t (a + 1) n) e
@@ -46,10 +38,7 @@ module _ (main : Block) (bs : List Breakpoint) (t : ℕ) where
 
   -- nothing is logged up to b
   all_silent : (a b : ℕ) → Silent a b → (a < b → at_position b ≡ []) → logs_between main bs t a b ≡ []
-  all_silent a b between last =
-      silent_from (a + 1) (b - a) (λ k above below.
-      ⊎_elim (λ (is : k ≡ b). ap at_position is ∙ last (omega (arith, above, is)))
-      (λ ne. between k (omega (arith, above)) (omega (arith, above, below, ne))) (cases_eq k b))
+  all_silent a b between last = grind (arith, common_steps, silent_from, cases_eq)
 
   -- nothing is logged before b
   last_alone : (a b : ℕ) → a < b → Silent a b → logs_between main bs t a b ≡ at_position b
@@ -57,28 +46,19 @@ module _ (main : Block) (bs : List Breakpoint) (t : ℕ) where
       let c = b - 1 in
       let e : c + 1 ≡ b = omega (arith, lt) in
       let f : b - c ≡ 1 = omega (arith, lt) in
-      let front : logs_between main bs t a c ≡ [] =
-      all_silent a c (λ m above below. between m above (omega (arith, below)))
-      (λ more. between c more (omega (arith, lt))) in
-      sym (logs-joined a c b (omega (arith, lt)) (omega arith))
-      ∙ ap (λ ls. ls ++ logs_between main bs t c b) front
-      ∙ ap (λ n. logs_from main bs t (c + 1) n) f
-      ∙ append-nil (at_position (c + 1))
-      ∙ ap at_position e
+      let front : logs_between main bs t a c ≡ [] = all_silent a c (λ m above below. between m above
+      (omega (arith, below))) (λ more. between c more (omega (arith, lt))) in
+      cc (logs-joined a c b (omega (arith, lt)) (omega arith), append-nil _)
 
   -- ---- where the program is over
 
   never : (m : ℕ) (b : Breakpoint) → at main m ≡ Some [] → is_hit main t m b ≡ false
-  never m b over =
-      ap (λ (o : Option Configuration). arrives_in main b o && accepts b.rule (arrivals main b t (m + 1))) over
+  never m b over = cc
 
   none_over : (m n : ℕ) (left : List Breakpoint) → at main m ≡ Some []
       → filter_map (log_at main t m) (enumerate_from n left) ≡ []
   none_over m n [] over = refl
-  none_over m n (b ∷ left) over =
-      ap (λ hit. cons_option (if hit then log_in main (at main m) n b.message else None)
-      (filter_map (log_at main t m) (enumerate_from (n + 1) left))) (never m b over)
-      ∙ none_over m (n + 1) left over
+  none_over m n (b ∷ left) over = cc (never m b over, none_over m (n + 1) left over)
 
   pub silent_over : (m : ℕ) → at main m ≡ Some [] → at_position m ≡ []
   silent_over m over = none_over m 0 bs over
@@ -87,9 +67,7 @@ module _ (main : Block) (bs : List Breakpoint) (t : ℕ) where
 
 -- a slice that is spent took a step
 pub after_start : (main : Block) (r : PlainReport) → IsSpent main r → r.start < r.end
-after_start main r spent =
-    ⊎_elim (λ (all : r.end ≡ r.start + slice_limit). omega (arith, all))
-    (λ (logs : (r.start < r.end) × (logs_in main r r.end ≡ [] → ⊥)). logs.0) spent
+after_start main r spent = grind (arith, common_steps, logs)
 
 module _ (main : Block) (r : PlainReport) (went : WentOn main r) where
   silent : Silent main r.plan r.counted_from r.start r.end
@@ -106,9 +84,7 @@ module _ (main : Block) (r : PlainReport) (went : WentOn main r) where
   told out.More (takes_all spent undue runs) = at_end (after_start main r spent)
   told (out.Due reason) (is_due lt due_there runs) = at_end lt
   told out.Done (is_over lt over) = nowhere (λ more. silent_over main r.plan r.counted_from r.end over)
-  told (out.Fault fault) (faults early free fails runs) =
-      nowhere (λ more. ⊎_elim (λ (is : r.end ≡ r.start). absurd (omega (arith, is, more)))
-      (λ (passed : IsPassed main r r.end). passed.silent) free)
+  told (out.Fault fault) (faults early free fails runs) = grind (arith, common_steps, nowhere)
   told out.Held (is_held stays runs) = nowhere (λ more. absurd (omega (arith, stays, more)))
   told out.NoMemory (lacks_memory stays runs) = nowhere (λ more. absurd (omega (arith, stays, more)))
 

@@ -1,5 +1,5 @@
 -- The reports of a run that goes back.
-use Rattle.dbg_runner.proofs.Common.{[], ap, arith, Carries, counts_from, Debugged, goal_of, GoesBackBy, has_come, has_no_memory, is_spent, IsAt, IsKept, IsOn, IsReport, IsRetreat, None, Option, plain_report, debugged_program, Reason, refl, Reported, reported_with, retreating_of, Returns, Searches, slice_limit, SliceOutcome, Some, stopped, subst, summary_back, sym, Went, ℕ, ◌*◌, ◌+◌, ◌∙◌, ◌≡◌, ◌≤◌, back_if, direction}
+use Rattle.dbg_runner.proofs.Common.{[], ap, arith, Carries, counts_from, Debugged, goal_of, GoesBackBy, has_come, has_no_memory, is_spent, IsAt, IsKept, IsOn, IsReport, IsRetreat, None, Option, plain_report, debugged_program, Reason, refl, Reported, reported_with, retreating_of, Returns, Searches, slice_limit, SliceOutcome, Some, stopped, subst, summary_back, sym, ℕ, ◌*◌, ◌+◌, ◌∙◌, ◌≡◌, ◌≤◌, back_if, direction}
 use Rattle.dbg_runner.specs.declared.outcome.SliceOutcome.TheVariants as out
 use Rattle.dbg_runner.specs.declared.report.Summary.{Summary}
 use Rattle.dbg_runner.specs.declared.report.Subject.{Subject}
@@ -7,6 +7,7 @@ use Rattle.dbg_runner.specs.declared.report.Subject.TheVariants.{Carried}
 use Rattle.dbg_runner.specs.ReportFields.{unit_in, plan_in, debuggee_in}
 use Rattle.dbg_runner.specs.declared.retreat.Way.{Way}
 use Rattle.dbg_runner.specs.declared.retreat.Retreat.TheInside.{Inside}
+use Rattle.std.proofs.lemmas.Grind.{common_steps}
 
 few_by : (n : ℕ) (d : Debugged) (again : ℕ) (w : Way) → IsOn n d again w → again ≤ 2 * n
 few_by n d again (Searches found) on = let before = on.1 in omega (arith, on.2)
@@ -42,12 +43,7 @@ module _ (r : Inside) (inv : IsRetreat r) where
 
     kept : (outcome : SliceOutcome) (d : Option Debugged) → GoesBackBy (debugged_program r.debuggee.value)
         (plain_report (report_with outcome d)) outcome → IsKept (report_with outcome d)
-    kept outcome d by = record {
-      before = refl;
-      went = subst (λ b. Went (debugged_program r.debuggee.value) (plain_report (report_with outcome d)) (back_if b))
-          (sym inv.goes_back)
-          (record { begun = inv.begun; numbers = refl; logs = refl; again = few; outcome = by });
-    }
+    kept outcome d by = grind (arith, common_steps, few)
 
     -- there was no memory for a slice
     pub gives_up : end ≡ r.start → IsReport (reported_with (of out.NoMemory) [] [] (Carried r.debuggee))
@@ -113,10 +109,7 @@ module _ (r : Inside) (inv : IsRetreat r) where
 
       pub arrives : IsReport (record report { unit = d.unit; plan = d.breakpoints })
       arrives =
-          subst IsReport (λ i. record report { unit = (sym d_is i).unit; plan = (sym d_is i).breakpoints })
-          (record {
+          subst IsReport (λ i. record report { unit = (sym d_is i).unit; plan = (sym d_is i).breakpoints }) (record {
             lawful = kept (out.Due why) (Some d) (has_come here);
-            carries =
-                subst (λ b. Carries (back_if b) report (out.Due why)) (sym inv.goes_back)
-                (ap (λ (d : Debugged). Some d) stands);
+            carries = grind (arith, common_steps, stands);
           })

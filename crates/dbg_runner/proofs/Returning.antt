@@ -1,6 +1,7 @@
 -- How far a run that goes back has come.
-use Rattle.dbg_runner.proofs.Common.{[], add-one, ap, arith, arrival, Block, Bool, Breakpoint, cases_lt, Debugged, due, due_now, eqb-false, false, filter, floor_of, goal_of, goes_back, gone_back, greatest, if◌then◌else◌, in_all, is_some, IsConsidered, IsOn, last_due, leads_to, leb-true, List, min, min-eq_left, min-eq_right, min-le_left, min-le_right, Mode, moved, nat_eq, nat_le, None, Option, debugged_program, RanAgain, Reason, refl, Returns, reversed, Searches, slice_limit, Some, standing, steps_again, steps_to, Stop, stop_at, subst, suc, sym, true, zero, ℕ, ⊎_elim, ◌+◌, ◌-◌, ◌<◌, ◌∙◌, ◌∷◌, ◌≡◌, ◌≢◌, ◌≤◌}
+use Rattle.dbg_runner.proofs.Common.{[], add-one, ap, arith, arrival, Block, Bool, Breakpoint, cases_lt, Debugged, due, due_now, eqb-false, false, filter, floor_of, goal_of, goes_back, gone_back, greatest, if◌then◌else◌, in_all, is_some, IsConsidered, IsOn, last_due, leads_to, leb-true, List, min, min-le_left, min-le_right, Mode, moved, nat_le, None, Option, debugged_program, RanAgain, Reason, refl, Returns, reversed, Searches, slice_limit, Some, standing, steps_again, steps_to, Stop, stop_at, subst, suc, sym, true, zero, ℕ, ◌+◌, ◌-◌, ◌<◌, ◌∙◌, ◌∷◌, ◌≡◌, ◌≢◌, ◌≤◌}
 use Rattle.dbg_plan.specs.declared.mode.Mode.TheVariants as mode
+use Rattle.std.proofs.lemmas.Grind.{common_steps}
 
 -- ---- checkpoints
 
@@ -24,9 +25,7 @@ found_before false n before below = below
 -- the last due position before n + 1, or 0, is at most n
 due_within : (main : Block) (bs : List Breakpoint) (n : ℕ) → (stop_at (last_due main bs (suc n))).position ≤ n
 due_within main bs zero = found_before (is_some (due main bs 0 mode.Continue zero)) zero None (omega arith)
-due_within main bs (suc n) =
-    found_before (is_some (due main bs 0 mode.Continue (suc n))) (suc n) (last_due main bs (suc n))
-    (omega (arith, due_within main bs n))
+due_within main bs (suc n) = grind (arith, common_steps, found_before, is_some, due_within main bs n)
 
 last_due_within : (main : Block) (bs : List Breakpoint) (n : ℕ) → (stop_at (last_due main bs (n + 1))).position ≤ n
 last_due_within main bs n = rw add-one (due_within main bs n)
@@ -55,9 +54,7 @@ from_checkpoint old new to gone = subst (λ (d : Debugged). to - d.position ≡ 
 -- gone back towards where it stops
 pub on_return : (n : ℕ) (old new : Debugged) (to : ℕ) (why : Reason) (again : ℕ) → new ≡ gone_back old to → to ≤ n
     → again ≤ n → IsOn n new again (Returns to why)
-on_return n old new to why again gone within few =
-    let floor = floor_below old.trail.kept to in
-    subst (λ d. IsOn n d again (Returns to why)) (sym gone) (floor, within, omega (arith, within, few))
+on_return n old new to why again gone within few = grind (arith, common_steps, floor_below)
 
 floor_of_0 : (kept : List ℕ) → floor_of kept 0 ≡ 0
 floor_of_0 kept = let below = floor_below kept 0 in omega arith
@@ -70,16 +67,13 @@ pub on_search : (n : ℕ) (old new : Debugged) (found : Option ℕ) → 0 < n �
     → found ≡ (if is_some (due_now new mode.Continue) then Some 0 else None) → IsOn n new 0 (Searches found)
 on_search n old new found some gone is =
     let start = at_start old new gone in
-    subst (λ d. IsOn n d 0 (Searches found)) (sym start)
-    (refl, some, refl, is ∙ ap (λ (d : Debugged). if is_some (due_now d mode.Continue) then Some 0 else None) start)
+    grind (arith, common_steps, some, is_some)
 
 -- a search leads where going back leads, but for a single step
 pub search_leads : (m : Mode) (n : ℕ) (old new : Debugged) (found : Option ℕ) → m ≢ mode.StepBack → goes_back m ≡ true
     → new ≡ gone_back old 0 → goal_of (debugged_program old) old.breakpoints m n ≡ Some
     (leads_to n new (Searches found))
-search_leads m n old new found other back gone =
-    reverses (debugged_program old) old.breakpoints m n other
-    back ∙ ap (λ (d : Debugged). Some (reversed (debugged_program d) d.breakpoints n)) (sym (at_start old new gone))
+search_leads m n old new found other back gone = cc (reverses _ old.breakpoints m n other back, at_start old new gone)
 
 -- ---- it goes on
 
@@ -88,41 +82,22 @@ pub goes_on_returning : (n again : ℕ) (old : Debugged) (to : ℕ) (why : Reaso
     → IsOn n old again (Returns to why)
     → steps ≡ min most (to - old.position) → new ≡ standing old (old.position + steps)
     → IsOn n new (again + steps) (Returns to why)
-goes_on_returning n again old to why most steps new on is gone =
-    let least = min-le_right most (to - old.position) in
-    let before = on.0 in
-    let few = on.2 in
-    subst (λ d. IsOn n d (again + steps) (Returns to why)) (sym gone) (omega (arith, is), on.1, omega arith)
+goes_on_returning n again old to why most steps new on is gone = grind (arith, common_steps)
 
 -- where that leads it has taken as many steps
 pub as_many_on : (n again : ℕ) (old : Debugged) (to : ℕ) (why : Reason) (most steps : ℕ) (new : Debugged)
     → old.position ≤ to → steps ≡ min most (to - old.position) → new ≡ standing old (old.position + steps)
     → in_all n new (again + steps) (Returns to why) ≡ in_all n old again (Returns to why)
-as_many_on n again old to why most steps new before is gone =
-    let least = min-le_right most (to - old.position) in
-    let there : new.position ≡ old.position + steps = ap (λ (d : Debugged). d.position) gone in
-    omega (arith, there, least, is, before)
+as_many_on n again old to why most steps new before is gone = grind (arith, common_steps)
 
 arrives : (to position : ℕ) (why : Reason) → arrival (Returns to why) position ≡ None → to ≢ position
-arrives to position why = by_test (nat_eq to position) refl
-  where
-    by_test : (b : Bool) → nat_eq to position ≡ b → (if b then Some why else None) ≡ None → to ≢ position
-    by_test true is none = absurd cc
-    by_test false is none = eqb-false to position is
+arrives to position why = grind (arith, common_steps, eqb-false)
 
 -- where it hasn't come there, it took all steps
 pub took_all : (to : ℕ) (why : Reason) (most steps : ℕ) (old new : Debugged) → old.position ≤ to
     → steps ≡ min most (to - old.position) → new ≡ standing old (old.position + steps)
     → arrival (Returns to why) new.position ≡ None → steps ≡ most
-took_all to why most steps old new before is gone none =
-    let there : new.position ≡ old.position + steps = ap (λ (d : Debugged). d.position) gone in
-    let away = arrives to new.position why none in
-    min_of most (to - old.position) steps is (omega (arith, there))
-  where
-    min_of : (a b s : ℕ) → s ≡ min a b → s ≢ b → s ≡ a
-    min_of a b s is other =
-        ⊎_elim (λ (lt : a < b). is ∙ min-eq_left (omega (arith, lt)))
-        (λ (ge : b ≤ a). absurd (other (is ∙ min-eq_right ge))) (cases_lt a b)
+took_all to why most steps old new before is gone none = grind (arith, common_steps, arrives, cases_lt)
 
 moved_on : (old new : Debugged) (p t : ℕ) → new ≡ moved old p t → new ≡ moved old new.position new.counted_from
 moved_on old new p t is = is ∙ ap (λ (d : Debugged). moved old d.position d.counted_from) (sym is)
@@ -141,20 +116,10 @@ module _ (n again : ℕ) (old : Debugged) (found more : Option ℕ) (limit : ℕ
   some = let before = on.1 in omega arith
 
   stop_is : record { position = to; reason = why } ≡ reversed (debugged_program old) old.breakpoints n
-  stop_is =
-      let e : limit + 1 ≡ n = omega (arith, ended, some) in
-      leads
-      ∙ ap stop_at more_is
-      ∙ ap (λ (d : Debugged). stop_at (last_due (debugged_program d) d.breakpoints (limit + 1))) gone
-      ∙ ap (λ k. stop_at (last_due (debugged_program old) old.breakpoints k)) e
+  stop_is = grind (arith, common_steps, ended, some)
 
   pub within_turn : to ≤ there.position
-  within_turn =
-      let at : there.position ≡ limit = ap (λ (d : Debugged). d.position) gone in
-      let far = last_due_within (debugged_program there) there.breakpoints limit in
-      let same : to ≡ (stop_at (last_due (debugged_program there) there.breakpoints (limit + 1))).position =
-      ap (λ (s : Stop). s.position) leads ∙ ap (λ o. (stop_at o).position) more_is in
-      omega (arith, at, far, same)
+  within_turn = grind (arith, common_steps, last_due_within, Stop)
 
   module _ (back : Debugged) (turned : back ≡ gone_back there to) (steps : ℕ)
       (steps_is : steps ≡ min (again + slice_limit - limit) (to - back.position)) (new : Debugged)
@@ -163,13 +128,7 @@ module _ (n again : ℕ) (old : Debugged) (found more : Option ℕ) (limit : ℕ
     from_old = turned ∙ ap (λ (d : Debugged). gone_back d to) gone
 
     searched : in_all n back limit (Returns to why) ≡ in_all n old again (Searches found)
-    searched =
-        let way = from_checkpoint old back to from_old in
-        let kept = ap (λ (d : Debugged). steps_to d.trail.kept to) from_old in
-        let same : steps_to old.trail.kept to
-        ≡ steps_to old.trail.kept (reversed (debugged_program old) old.breakpoints n).position =
-        ap (λ (s : Stop). steps_to old.trail.kept s.position) stop_is in
-        omega (arith, way, kept, same, ended)
+    searched = grind (arith, common_steps, from_checkpoint, from_old, Stop, stop_is, ended)
 
     pub turns : RanAgain n again old (Searches found) (limit + steps) new (Returns to why)
     turns =
