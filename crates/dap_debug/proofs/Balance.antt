@@ -1,5 +1,5 @@
 -- Each run ends once.
-use Rattle.std.specs.Prelude.{min, slice_get, codes, Result, Ok, Err}
+use Rattle.std.specs.Prelude.{slice_get, codes, Result, Ok, Err}
 use Rattle.std.proofs.Common.{◌≡◌, ◌+◌, ℕ, Bool, true, false, List, [], ◌∷◌, ◌++◌, ◌∙◌, refl, sym, ap, map, arith, Option, None, Some, inl, inr}
 use Rattle.serde_json.specs.Data.{Data}
 use Rattle.dap_bodies.specs.Events.{output}
@@ -20,7 +20,7 @@ use Rattle.dap_debug.specs.declared.state.Phase.{Phase}
 use Rattle.dap_debug.specs.declared.state.Phase.TheVariants as phase
 use Rattle.dap_debug.specs.Breakpoints.{SetsIn, Own, Other, SetsOnly, SetsFrom}
 use Rattle.dap_bodies.specs.Arguments.{text_at}
-use Rattle.dap_debug.specs.Inspecting.{AnswersQuestion, ShowsInside, ShowsScopes, ShowsScope, ShowsVariables, Evaluates, ShowsFrom, ExplainsFrom, frame_asked, frame_limit, frame_of_reference, frame_to_evaluate, index_of_reference, number_of_reference, page_asked, reference_asked, reply_of}
+use Rattle.dap_debug.specs.Inspecting.{AnswersQuestion, ShowsInside, ShowsScopes, ShowsScope, ShowsVariables, Evaluates, ShowsFrom, ExplainsFrom, reply_of}
 use Rattle.dap_debug.specs.Loading.{FileRead, LoadsAs, LoadsText, LoadsRead, LoadsAt, LoadsFrom}
 use Rattle.debuggee.specs.Shown.{PlainVariable, Shows}
 use Rattle.debuggee.specs.declared.language.Page.{Page}
@@ -80,11 +80,7 @@ worked takes sees (phase.Running a how) stood stands events at is =
     let once = told_once is.0.2 is.0.0 events is.0.1 how is.0.4 in
     let so = ap owed is.0.5 in
     omega (arith, once, so)
-worked takes sees (phase.Configuring a stop_on_entry) stood stands events at is =
-    still stood stands events _ is.0 is.1 at
-worked takes sees (phase.Stopped a) stood stands events at is = still stood stands events _ is.0 is.1 at
-worked takes sees phase.NoProgram stood stands events at is = still stood stands events _ is.0 is.1 at
-worked takes sees (phase.Ended a) stood stands events at is = still stood stands events _ is.0 is.1 at
+worked takes sees _ stood stands events at is = still stood stands events _ is.0 is.1 at
 
 pub work_balanced : {S : Type 0} (takes : Meaning S) (sees : Sight S) (stood stands : Standing S)
     (events : List PlainEvent) → WorksOn takes sees stood events stands
@@ -94,8 +90,7 @@ work_balanced takes sees stood stands events is = worked takes sees stood.phase 
 -- the reply is this one, and the session stands as before
 quiet : {S : Type 0} (stood stands : Standing S) (reply says : PlainReply) (p : Phase S) → reply ≡ says
     → says.events ≡ [] → stands ≡ stood → stood.phase ≡ p → owed stands.phase + ends_told reply.events ≡ owed p
-quiet stood stands reply says p is none so at =
-    still stood stands reply.events p (ap (λ (r : PlainReply). r.events) is ∙ none) so at
+quiet stood stands reply says p is none so at = still stood stands reply.events p (cc) so at
 
 refused : {S : Type 0} (stood stands : Standing S) (reply : PlainReply) (p : Phase S) → IsRefused stood reply stands
     → stood.phase ≡ p → owed stands.phase + ends_told reply.events ≡ owed p
@@ -115,10 +110,7 @@ entered (phase.Running a how) stood stands events at is =
     let told = ap ends_told is.0 in
     let owes = ap (λ (s : Standing _). owed s.phase) is.1 in
     omega (arith, told, owes)
-entered (phase.Configuring a stop_on_entry) stood stands events at is = still stood stands events _ is.0 is.1 at
-entered (phase.Stopped a) stood stands events at is = still stood stands events _ is.0 is.1 at
-entered phase.NoProgram stood stands events at is = still stood stands events _ is.0 is.1 at
-entered (phase.Ended a) stood stands events at is = still stood stands events _ is.0 is.1 at
+entered _ stood stands events at is = still stood stands events _ is.0 is.1 at
 
 goes_on : {S : Type 0} (takes : Meaning S) (sees : Sight S) (stop_on_entry : Bool) (stood stands : Standing S)
     (events : List PlainEvent) → GoesOn takes sees stop_on_entry stood events stands
@@ -138,13 +130,7 @@ started takes sees (phase.Configuring a stop_on_entry) stood stands reply at is 
     let all = ap ends_told begun.events_are in
     let told = ap (λ (r : PlainReply). ends_told r.events) is.2 in
     omega (arith, once, owes, later, both, all, told)
-started takes sees (phase.Running a how) stood stands reply at is =
-    let so = refused stood stands reply _ is at in omega (arith, so)
-started takes sees (phase.Stopped a) stood stands reply at is =
-    let so = refused stood stands reply _ is at in omega (arith, so)
-started takes sees phase.NoProgram stood stands reply at is =
-    let so = refused stood stands reply _ is at in omega (arith, so)
-started takes sees (phase.Ended a) stood stands reply at is =
+started takes sees _ stood stands reply at is =
     let so = refused stood stands reply _ is at in omega (arith, so)
 
 resumes : {S : Type 0} (takes : Meaning S) (sees : Sight S) (p : Phase S) (how : Resume) (stood stands : Standing S)
@@ -154,35 +140,22 @@ resumes takes sees (phase.Stopped a) how stood stands reply at is =
     let once = told_once is.1.0.2 is.1.0.0 reply.events is.1.0.1 (mode_of how (sees.depth_of a)) is.1.0.4 in
     let so = ap owed is.1.0.5 in
     omega (arith, once, so)
-resumes takes sees (phase.Configuring a stop_on_entry) how stood stands reply at is =
-    let so = refused stood stands reply _ is at in omega (arith, so)
-resumes takes sees (phase.Running a before) how stood stands reply at is =
-    let so = refused stood stands reply _ is at in omega (arith, so)
-resumes takes sees phase.NoProgram how stood stands reply at is =
-    let so = refused stood stands reply _ is at in omega (arith, so)
-resumes takes sees (phase.Ended a) how stood stands reply at is =
+resumes takes sees _ how stood stands reply at is =
     let so = refused stood stands reply _ is at in omega (arith, so)
 
 paused : {S : Type 0} (p : Phase S) (stood stands : Standing S) (reply : PlainReply) → stood.phase ≡ p
     → PausesFrom p stood reply stands → owed stands.phase + ends_told reply.events ≡ owed p
-paused (phase.Running a how) stood stands reply at is =
-    replied stands (phase.Stopped a) reply _ 1 is.0 (ap (λ (s : Standing _). s.phase) is.1) refl
-paused (phase.Configuring a stop_on_entry) stood stands reply at is = refused stood stands reply _ is at
-paused (phase.Stopped a) stood stands reply at is = refused stood stands reply _ is at
-paused phase.NoProgram stood stands reply at is = refused stood stands reply _ is at
-paused (phase.Ended a) stood stands reply at is = refused stood stands reply _ is at
+paused (phase.Running a how) stood stands reply at is = replied stands (phase.Stopped a) reply _ 1 is.0 (cc is.1) refl
+paused _ stood stands reply at is = refused stood stands reply _ is at
 
 terminated : {S : Type 0} (p : Phase S) (stood stands : Standing S) (reply : PlainReply) → stood.phase ≡ p
     → TerminatesFrom (program_in p) (ended p) stood reply stands
     → owed stands.phase + ends_told reply.events ≡ owed p + asks command.Terminate p
-terminated (phase.Running a how) stood stands reply at is =
-    replied stands (phase.Ended a) reply _ 1 is.0 (ap (λ (s : Standing _). s.phase) is.1) refl
+terminated (phase.Running a how) stood stands reply at is = replied stands (phase.Ended a) reply _ 1 is.0 (cc is.1) refl
 terminated (phase.Configuring a stop_on_entry) stood stands reply at is =
     replied stands (phase.Ended a) reply _ 1 is.0 (ap (λ (s : Standing _). s.phase) is.1) refl
-terminated (phase.Stopped a) stood stands reply at is =
-    replied stands (phase.Ended a) reply _ 1 is.0 (ap (λ (s : Standing _). s.phase) is.1) refl
-terminated (phase.Ended a) stood stands reply at is =
-    replied stands (phase.Ended a) reply _ 0 is.0 (ap (λ (s : Standing _). s.phase) is.1) refl
+terminated (phase.Stopped a) stood stands reply at is = replied stands (phase.Ended a) reply _ 1 is.0 (cc is.1) refl
+terminated (phase.Ended a) stood stands reply at is = replied stands (phase.Ended a) reply _ 0 is.0 (cc is.1) refl
 terminated phase.NoProgram stood stands reply at is =
     let so = quiet stood stands reply _ _ is.0 refl is.1 at in omega (arith, so)
 
@@ -228,22 +201,14 @@ loaded : {S : Type 0} (reads_as : List ℕ → List ℕ → Result S (List ℕ) 
     → owed stands.phase + ends_told reply.events ≡ owed p
 loaded reads_as (phase.Running a how) arguments file stood stands reply at is =
     quiet stood stands reply _ _ is.1.0 refl is.1.1 at
-loaded reads_as (phase.Configuring a stop_on_entry) arguments file stood stands reply at is =
-    loaded_at reads_as arguments (text_at (codes "program") arguments) file _ stood stands reply at refl is
-loaded reads_as (phase.Stopped a) arguments file stood stands reply at is =
-    loaded_at reads_as arguments (text_at (codes "program") arguments) file _ stood stands reply at refl is
-loaded reads_as phase.NoProgram arguments file stood stands reply at is =
-    loaded_at reads_as arguments (text_at (codes "program") arguments) file _ stood stands reply at refl is
-loaded reads_as (phase.Ended a) arguments file stood stands reply at is =
+loaded reads_as _ arguments file stood stands reply at is =
     loaded_at reads_as arguments (text_at (codes "program") arguments) file _ stood stands reply at refl is
 
 set_in : {S : Type 0} (shows : Shows S) (less : ℕ) (a : S) (arguments : Option Data)
     (path : List ℕ) (old new : List PlainBreakpoint) (reply : PlainReply)
     → SetsIn shows less arguments a path old reply new → ends_told reply.events ≡ 0
-set_in shows less a arguments path old new reply (Own source answers are is) =
-    ap (λ (r : PlainReply). ends_told r.events) is
-set_in shows less a arguments path old new reply (Other source answers are is same) =
-    ap (λ (r : PlainReply). ends_told r.events) is
+set_in shows less a arguments path old new reply (Own source answers are is) = cc
+set_in shows less a arguments path old new reply (Other source answers are is same) = cc
 
 set_only : {S : Type 0} (shows : Shows S) (p : Phase S) (a : S)
     (arguments : Option Data) (stood stands : Standing S) (reply : PlainReply) → stood.phase ≡ p
@@ -282,8 +247,7 @@ scope_quiet shows frame index (Some name) page a reply is = no_events reply _ is
 
 variables_quiet : {S : Type 0} (shows : Shows S) (number frame : Option ℕ) (index : ℕ) (page : Page) (a : S)
     (reply : PlainReply) → ShowsVariables shows number frame index page a reply → reply.events ≡ []
-variables_quiet shows (Some number) frame index page a reply is =
-    inside_quiet (shows.inside_of a number) page reply is
+variables_quiet shows (Some number) frame index page a reply is = inside_quiet _ page reply is
 variables_quiet shows None None index page a reply is = no_events reply _ is.1 refl
 variables_quiet shows None (Some frame) index page a reply is =
     scope_quiet shows frame index (slice_get is.0 index) page a reply is.2
@@ -295,23 +259,17 @@ value_quiet (NoValue why) reply is = no_events reply _ is refl
 evaluate_quiet : {S : Type 0} (sees : Sight S) (expression : Option (List ℕ)) (frame : Option ℕ) (a : S)
     (reply : PlainReply) → Evaluates sees expression frame a reply → reply.events ≡ []
 evaluate_quiet sees (Some expression) (Some frame) a reply is = value_quiet (sees.value_of a frame expression) reply is
-evaluate_quiet sees (Some expression) None a reply is = no_events reply _ is.1 refl
-evaluate_quiet sees None frame a reply is = no_events reply _ is.1 refl
+evaluate_quiet sees _ frame a reply is = no_events reply _ is.1 refl
 
 question_quiet : {S : Type 0} (sees : Sight S) (shows : Shows S) (asked : Question) (arguments : Option Data)
     (counting : Counting) (path : List ℕ) (a : S) (reply : PlainReply)
     → AnswersQuestion sees shows asked arguments counting path a reply
     → reply.events ≡ []
 question_quiet sees shows question.StackTrace arguments counting path a reply is = no_events reply _ is.reply_is refl
-question_quiet sees shows question.Scopes arguments counting path a reply is =
-    scopes_quiet shows (frame_asked (min (sees.depth_of a) frame_limit) arguments) a reply is
+question_quiet sees shows question.Scopes arguments counting path a reply is = scopes_quiet shows _ a reply is
 question_quiet sees shows question.Variables arguments counting path a reply is =
-    variables_quiet shows (number_of_reference (reference_asked arguments))
-    (frame_of_reference (sees.depth_of a) (reference_asked arguments))
-    (index_of_reference (reference_asked arguments)) (page_asked arguments) a reply is
-question_quiet sees shows question.Evaluate arguments counting path a reply is =
-    evaluate_quiet sees (text_at (codes "expression") arguments) (frame_to_evaluate (sees.depth_of a) arguments) a reply
-    is
+    variables_quiet shows _ _ _ _ a reply is
+question_quiet sees shows question.Evaluate arguments counting path a reply is = evaluate_quiet sees _ _ a reply is
 
 inspects_quiet : {S : Type 0} (sees : Sight S) (shows : Shows S) (p : Phase S) (asked : Question)
     (arguments : Option Data) (counting : Counting) (path : List ℕ) (reply : PlainReply)
@@ -319,20 +277,12 @@ inspects_quiet : {S : Type 0} (sees : Sight S) (shows : Shows S) (p : Phase S) (
     → reply.events ≡ []
 inspects_quiet sees shows (phase.Stopped a) asked arguments counting path reply is =
     question_quiet sees shows asked arguments counting path a reply is
-inspects_quiet sees shows (phase.Running a how) asked arguments counting path reply is = no_events reply _ is.1 refl
-inspects_quiet sees shows (phase.Configuring a stop_on_entry) asked arguments counting path reply is =
-    no_events reply _ is.1 refl
-inspects_quiet sees shows (phase.Ended a) asked arguments counting path reply is = no_events reply _ is.1 refl
-inspects_quiet sees shows phase.NoProgram asked arguments counting path reply is = no_events reply _ is.1 refl
+inspects_quiet sees shows _ asked arguments counting path reply is = no_events reply _ is.1 refl
 
 explains_quiet : {S : Type 0} (p : Phase S) (fault : Option PlainFault) (reply : PlainReply)
     → ExplainsFrom p fault reply → reply.events ≡ []
 explains_quiet (phase.Stopped a) (Some why) reply is = no_events reply _ is refl
-explains_quiet (phase.Stopped a) None reply is = no_events reply _ is.1 refl
-explains_quiet (phase.Running a how) fault reply is = no_events reply _ is.1 refl
-explains_quiet (phase.Configuring a stop_on_entry) fault reply is = no_events reply _ is.1 refl
-explains_quiet (phase.Ended a) fault reply is = no_events reply _ is.1 refl
-explains_quiet phase.NoProgram fault reply is = no_events reply _ is.1 refl
+explains_quiet _ fault reply is = no_events reply _ is.1 refl
 
 -- ---- all
 
@@ -340,8 +290,7 @@ answers_balanced : {S : Type 0} (known : Known S) (asked : Command) (arguments :
     (stood stands : Standing S) (reply : PlainReply) → Answers known asked arguments stood reply stands
     → owed stands.phase + ends_told reply.events ≡ owed stood.phase + asks asked stood.phase
 answers_balanced known command.Initialize arguments stood stands reply is =
-    let so = replied stands stood.phase reply _ (owed stood.phase + 0) is.0 (ap (λ (s : Standing _). s.phase) is.1) refl
-    in
+    let so = replied stands _ reply _ _ is.0 (ap (λ (s : Standing _). s.phase) is.1) refl in
     omega (arith, so)
 answers_balanced known command.Launch arguments stood stands reply is =
     let so = loaded known.shows.reads_as stood.phase arguments is.0 stood stands reply refl is.1 in omega (arith, so)
@@ -349,8 +298,6 @@ answers_balanced known command.SetBreakpoints arguments stood stands reply is =
     let so = sets known.shows _ stood.phase arguments stood stands reply refl is in omega (arith, so)
 answers_balanced known command.ConfigurationDone arguments stood stands reply is =
     started known.takes known.sees stood.phase stood stands reply refl is
-answers_balanced known command.Threads arguments stood stands reply is =
-    let so = quiet stood stands reply _ stood.phase is.0 refl is.1 refl in omega (arith, so)
 answers_balanced known (command.Resume how) arguments stood stands reply is =
     resumes known.takes known.sees stood.phase how stood stands reply refl is
 answers_balanced known command.Pause arguments stood stands reply is =
@@ -365,9 +312,7 @@ answers_balanced known command.ExceptionInfo arguments stood stands reply is =
     let none = explains_quiet stood.phase stood.fault reply is.0 in
     let so = still stood stands reply.events stood.phase none is.1 refl in
     omega (arith, so)
-answers_balanced known command.Disconnect arguments stood stands reply is =
-    let so = quiet stood stands reply _ stood.phase is.0 refl is.1 refl in omega (arith, so)
-answers_balanced known (command.Refused why) arguments stood stands reply is =
+answers_balanced known _ arguments stood stands reply is =
     let so = quiet stood stands reply _ stood.phase is.0 refl is.1 refl in omega (arith, so)
 
 pub replies_balanced : {S : Type 0} (known : Known S) (asked : Command) (arguments : Option Data)

@@ -1,6 +1,6 @@
 -- Identifiers and references lead back to what they were shown of.
-use Rattle.std.specs.Prelude.{◌&&◌, nat_eq, nat_le, if◌then◌else◌}
-use Rattle.std.proofs.Common.{◌≡◌, ◌<◌, ◌≤◌, ◌+◌, ◌-◌, ◌*◌, ◌/◌, ◌%◌, ◌∙◌, ℕ, List, ap, arith, false, None, Some}
+use Rattle.std.specs.Prelude.{nat_eq}
+use Rattle.std.proofs.Common.{◌≡◌, ◌<◌, ◌≤◌, ◌+◌, ◌-◌, ◌*◌, ℕ, List, arith, false, None, Some}
 use Rattle.std.proofs.lemmas.Bool.{le-leb, le-ltb, lt-ltb, ne_eqb}
 use Rattle.std.proofs.lemmas.Nat.{div-mul-add, mod-mul-add}
 use Rattle.dap_debug.specs.Inspecting.{frame_of_reference, frame_with, index_of_reference, scope_limit, shown_frame, shown_scope, frame_limit, inside_base, number_limit, number_of_reference, reference_inside}
@@ -12,9 +12,7 @@ frame_found many index inside =
     let one : 1 ≤ index + 1 = omega arith in
     let low : index + 1 ≤ many = omega (arith, inside) in
     let back : index + 1 - 1 ≡ index = omega arith in
-    ap (λ b. if b && nat_le (index + 1) many then Some (index + 1 - 1) else None) (le-leb 1 (index + 1) one)
-    ∙ ap (λ b. if b then Some (index + 1 - 1) else None) (le-leb (index + 1) many low)
-    ∙ ap (λ n. Some n) back
+    cc (le-leb 1 (index + 1) one, le-leb (index + 1) many low)
 
 pub frames_found : (counting : Counting) (path : List ℕ) (many index : ℕ) (frame : PlainFrame) → index < many
     → frame_with many (shown_frame counting path index frame).id ≡ Some index
@@ -29,11 +27,9 @@ scopes_found many frame index name inside near few =
     let low : reference ≤ inside_base = omega (arith, near, few) in
     let before : reference - 1 ≡ frame * 16 + index = omega arith in
     let some : nat_eq reference 0 ≡ false = ne_eqb reference 0 (λ none. omega (arith, none)) in (
-      ap (λ b. if b then Some (reference - inside_base - 1) else None) (le-ltb inside_base reference low),
-      ap (λ b. if b then None else frame_with many ((reference - 1) / 16 + 1)) some
-          ∙ ap (λ n. frame_with many (n / 16 + 1)) before
-          ∙ ap (λ n. frame_with many (n + 1)) (div-mul-add frame 16 index few) ∙ frame_found many frame inside,
-      ap (λ n. n % 16) before ∙ mod-mul-add frame 16 index few,
+      cc (le-ltb inside_base reference low),
+      cc (div-mul-add frame 16 index few, frame_found many frame inside),
+      cc (mod-mul-add frame 16 index few),
     )
 
 pub variables_found : (number : ℕ) → number < number_limit
@@ -42,6 +38,4 @@ variables_found number few =
     let reference = inside_base + 1 + number in
     let high : inside_base < reference = omega arith in
     let back : reference - inside_base - 1 ≡ number = omega arith in
-    ap (λ b. number_of_reference (if b then reference else 0)) (lt-ltb number number_limit few)
-    ∙ ap (λ b. if b then Some (reference - inside_base - 1) else None) (lt-ltb inside_base reference high)
-    ∙ ap (λ n. Some n) back
+    cc (lt-ltb number number_limit few, lt-ltb inside_base reference high)

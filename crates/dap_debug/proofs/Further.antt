@@ -19,7 +19,7 @@ use Rattle.dap_debug.specs.Standings.{Standing, line_offset, program_in}
 use Rattle.dap_bodies.specs.Arguments.{list_at}
 use Rattle.debuggee.specs.Shown.{PlainFrame, Shows}
 use Rattle.dap_debug.specs.Inspecting.{ShowsFrame, ShowFrames, shown_scope, shown_scopes}
-use Rattle.dap_debug.specs.Breakpoints.{IsSet, AreSet, AreUnset, SetsIn, Own, Other, SetsOnly, SetsFrom, Sets, answers_reply, source_asked}
+use Rattle.dap_debug.specs.Breakpoints.{IsSet, AreSet, AreUnset, SetsIn, Own, Other, SetsOnly, Sets, answers_reply, source_asked}
 
 -- ---- frames
 
@@ -42,12 +42,9 @@ pub one_frame : {S : Type 0} (frame_of : S → ℕ → PlainFrame → Type 0) (c
     → ShowFrames frame_of counting path a first (map plain_shown_frame new)
     × (length (map plain_shown_frame new) + first ≡ index + 1)
 one_frame frame_of counting path a first index values new value grown are at is =
-    let all = ap (map plain_shown_frame) grown ∙ map-append plain_shown_frame values (value ∷ []) in
-    let long = ap length all ∙ length_push (map plain_shown_frame values) (plain_shown_frame value) in (
-      subst (ShowFrames frame_of counting path a first) (sym all)
-          (shows_more frame_of counting path a first index _ _ are at is),
-      omega (arith, long, at),
-    )
+    let all = ap (map plain_shown_frame) grown ∙ map-append plain_shown_frame values _ in
+    let long = ap length all ∙ length_push _ _ in
+    (rw all (shows_more frame_of counting path a first index _ _ are at is), omega (arith, long, at))
 
 -- ---- scopes and variables
 
@@ -58,9 +55,7 @@ scopes_more frame index [] one =
     let e : index ≡ index + 0 = omega arith in ap (λ n. shown_scope frame n one ∷ []) e
 scopes_more frame index (x ∷ names) one =
     let e : (index + 1) + length names ≡ index + length (x ∷ names) = omega arith in
-    ap (λ l. shown_scope frame index x ∷ l)
-    (scopes_more frame (index + 1) names one
-    ∙ ap (λ n. shown_scopes frame (index + 1) names ++ shown_scope frame n one ∷ []) e)
+    cc (scopes_more frame (index + 1) names one)
 
 -- one scope more
 pub one_scope : (frame : ℕ) (names : List (String Global)) (one : String Global) (values new : List bodies.Scope)
@@ -91,8 +86,7 @@ pub set_own : {S : Type 0} (shows : Shows S) (less : ℕ) (arguments : Option Da
     → asked ≡ list_at (codes "breakpoints") arguments → source_asked arguments ≡ Some path
     → AreSet shows less program asked answers new → reply ≡ answers_reply answers
     → SetsIn shows less arguments program path old reply new
-set_own shows less arguments program path old new reply asked answers at own are is =
-    Own own answers (subst (λ l. AreSet shows less program l answers new) at are) is
+set_own shows less arguments program path old new reply asked answers at own are is = Own own answers (rw (← at) are) is
 
 pub refuse_other : {S : Type 0} (shows : Shows S) (less : ℕ) (arguments : Option Data)
     (program : S) (path : List ℕ) (old : List PlainBreakpoint) (reply : PlainReply) (asked : Items)
@@ -107,18 +101,12 @@ pub set_within : {S : Type 0} (shows : Shows S) (arguments : Option Data) (progr
     → less ≡ line_offset stood.counting → stands ≡ record stood { breakpoints = stands.breakpoints }
     → SetsIn shows less arguments program path stood.breakpoints reply stands.breakpoints
     → SetsOnly shows arguments program stood reply stands
-set_within shows arguments program path less stood stands reply at so only is = (
-  subst (λ p. SetsIn shows (line_offset stood.counting) arguments program p stood.breakpoints reply stands.breakpoints)
-      at
-      (subst (λ n. SetsIn shows n arguments program path stood.breakpoints reply stands.breakpoints) so is),
-  only,
-)
+set_within shows arguments program path less stood stands reply at so only is = (rw (← at) (rw (← so) is), only)
 
 pub sets_from : {S : Type 0} (shows : Shows S) (arguments : Option Data) (program : S)
     (stood stands : Standing S) (reply : PlainReply) → Some program ≡ program_in stood.phase
     → SetsOnly shows arguments program stood reply stands → Sets shows arguments stood reply stands
-sets_from shows arguments program stood stands reply at is =
-    subst (λ found. SetsFrom shows found arguments stood reply stands) at is
+sets_from shows arguments program stood stands reply at is = rw (← at) is
 
 set_more : {S : Type 0} (shows : Shows S) (less : ℕ) (a : S) (asked : List Data)
     (answers : List ShownBreakpoint) (set : List PlainBreakpoint) (more : Option PlainBreakpoint) (one : Data)
@@ -126,10 +114,7 @@ set_more : {S : Type 0} (shows : Shows S) (less : ℕ) (a : S) (asked : List Dat
     → AreSet shows less a (items_of asked) answers set → IsSet shows less a one answer more
     → AreSet shows less a (items_of (asked ++ one ∷ [])) (answers ++ answer ∷ [])
     (set ++ option_to_list more)
-set_more shows less a [] [] set more one answer are is =
-    (more, [], ap (λ l. l ++ option_to_list more) are ∙ sym (append-nil (option_to_list more)), is, refl)
-set_more shows less a [] (x ∷ answers) set more one answer are is = absurd are
-set_more shows less a (x ∷ asked) [] set more one answer are is = absurd are
+set_more shows less a [] [] set more one answer are is = (more, [], cc (append-nil (option_to_list more)), is, refl)
 set_more shows less a (x ∷ asked) (y ∷ answers) set more one answer are is = (
   are.0,
   are.1 ++ option_to_list more,
@@ -137,27 +122,24 @@ set_more shows less a (x ∷ asked) (y ∷ answers) set more one answer are is =
   are.3,
   set_more shows less a asked answers are.1 more one answer are.4 is,
 )
+set_more shows less a _ _ set more one answer are is = absurd are
 
 unset_more : (asked : List Data) (answers : List ShownBreakpoint) (one : Data) (answer : ShownBreakpoint)
     → AreUnset (items_of asked) answers → ((why : List ℕ) × (answer ≡ Refused why))
     → AreUnset (items_of (asked ++ one ∷ [])) (answers ++ answer ∷ [])
 unset_more [] [] one answer are is = (is, tt)
-unset_more [] (x ∷ answers) one answer are is = absurd are
-unset_more (x ∷ asked) [] one answer are is = absurd are
 unset_more (x ∷ asked) (y ∷ answers) one answer are is = (are.0, unset_more asked answers one answer are.1 is)
+unset_more _ _ one answer are is = absurd are
 
 -- one more of a slice
 taken : (asked : List Value) (i : ℕ) (one : Value) → i < length asked → one ≡ get_or asked i one
     → map view (take (i + 1) asked) ≡ map view (take i asked) ++ view one ∷ []
 taken asked i one within here =
-    ap (λ k. map view (take k asked)) (add-one i) ∙ ap (map view) (take-suc asked i one within)
-    ∙ map-append view (take i asked) (get_or asked i one ∷ [])
-    ∙ ap (λ x. map view (take i asked) ++ view x ∷ []) (sym here)
+    cc (add-one i, take-suc asked i one within, map-append view (take i asked) (get_or asked i one ∷ []))
 
 grown_to : (answers new : List AnswerValue) (answer : AnswerValue) → new ≡ answers ++ answer ∷ []
     → map plain_shown_breakpoint new ≡ map plain_shown_breakpoint answers ++ plain_shown_breakpoint answer ∷ []
-grown_to answers new answer grown =
-    ap (map plain_shown_breakpoint) grown ∙ map-append plain_shown_breakpoint answers (answer ∷ [])
+grown_to answers new answer grown = cc (map-append plain_shown_breakpoint answers (answer ∷ []))
 
 pub one_set : {S : Type 0} (shows : Shows S) (less : ℕ) (a : S) (asked : List Value) (i : ℕ)
     (one : Value) (answers new : List AnswerValue) (answer : AnswerValue) (set all : List PlainBreakpoint)
@@ -167,14 +149,8 @@ pub one_set : {S : Type 0} (shows : Shows S) (less : ℕ) (a : S) (asked : List 
     → IsSet shows less a (view one) (plain_shown_breakpoint answer) more
     → AreSet shows less a (items_of (map view (take (i + 1) asked))) (map plain_shown_breakpoint new) all
 one_set shows less a asked i one answers new answer set all more within here grown kept are is =
-    subst (λ l. AreSet shows less a (items_of l) (map plain_shown_breakpoint new) all)
-    (sym (taken asked i one within here))
-    (subst (λ l. AreSet shows less a (items_of (map view (take i asked) ++ view one ∷ [])) l all)
-    (sym (grown_to answers new answer grown))
-    (subst (AreSet shows less a (items_of (map view (take i asked) ++ view one ∷ []))
-    (map plain_shown_breakpoint answers ++ plain_shown_breakpoint answer ∷ [])) (sym kept)
-    (set_more shows less a (map view (take i asked)) (map plain_shown_breakpoint answers) set more (view one)
-    (plain_shown_breakpoint answer) are is)))
+    rw (taken asked i one within here) (rw (grown_to answers new answer grown) (rw kept (set_more shows less a (map view
+    (take i asked)) (map plain_shown_breakpoint answers) set more (view one) (plain_shown_breakpoint answer) are is)))
 
 pub one_unset : (asked : List Value) (i : ℕ) (one : Value) (answers new : List AnswerValue) (answer : AnswerValue)
     (why : List ℕ) → i < length asked → one ≡ get_or asked i one → new ≡ answers ++ answer ∷ []
@@ -182,7 +158,4 @@ pub one_unset : (asked : List Value) (i : ℕ) (one : Value) (answers new : List
     → plain_shown_breakpoint answer ≡ Refused why
     → AreUnset (items_of (map view (take (i + 1) asked))) (map plain_shown_breakpoint new)
 one_unset asked i one answers new answer why within here grown are is =
-    subst (λ l. AreUnset (items_of l) (map plain_shown_breakpoint new)) (sym (taken asked i one within here))
-    (subst (AreUnset (items_of (map view (take i asked) ++ view one ∷ []))) (sym (grown_to answers new answer grown))
-    (unset_more (map view (take i asked)) (map plain_shown_breakpoint answers) (view one)
-    (plain_shown_breakpoint answer) are (why, is)))
+    rw (taken asked i one within here) (rw (grown_to answers new answer grown) (unset_more _ _ _ _ are (why, is)))

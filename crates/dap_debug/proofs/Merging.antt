@@ -39,8 +39,7 @@ pub one_text : (told kept new : List Output) (one : Output)
     → map plain_output new ≡ end_with (map plain_output kept) (plain_output one)
     → map plain_output new ≡ merged (map plain_output (told ++ one ∷ []))
 one_text told kept new one are is =
-    is ∙ ap (λ l. end_with l (plain_output one)) are ∙ sym (merged_more (map plain_output told) (plain_output one))
-    ∙ ap merged (sym (map-append plain_output told (one ∷ [])))
+    cc (merged_more (map plain_output told) (plain_output one), map-append plain_output told (one ∷ []))
 
 -- ---- one text more, by the last one
 
@@ -57,49 +56,38 @@ end_at (first ∷ before) last one = end_from_last first before last one
 pub after_last : (before old new : List Output) (last one : Output) → old ≡ before ++ last ∷ []
     → map plain_output new ≡ map plain_output before ++ merge (plain_output last) (plain_output one ∷ [])
     → map plain_output new ≡ end_with (map plain_output old) (plain_output one)
-after_last before old new last one popped is =
-    is
-    ∙ sym (ap (λ l. end_with l (plain_output one)) (ap (map plain_output) popped
-    ∙ map-append plain_output before (last ∷ []))
-    ∙ end_at (map plain_output before) (plain_output last) (plain_output one))
+after_last before old new last one popped is = cc (map-append plain_output before (last ∷ []), end_at _ _ _)
 
 -- ---- what merged texts keep
 
 bytes_kept : (first : PlainOutput) (texts : List PlainOutput)
     → flat_map bytes_of (merge first texts) ≡ bytes_of first ++ flat_map bytes_of texts
-bytes_kept (Printed a) [] = refl
-bytes_kept (Logged a) [] = refl
 bytes_kept (Printed a) (Printed b ∷ others) =
     ap (λ l. l ++ flat_map bytes_of others) (map-append (λ byte. (true, byte)) a b)
     ∙ append_assoc (bytes_of (Printed a)) (bytes_of (Printed b)) (flat_map bytes_of others)
-bytes_kept (Printed a) (Logged b ∷ others) = refl
-bytes_kept (Logged a) (Printed b ∷ others) = refl
 bytes_kept (Logged a) (Logged b ∷ others) =
     ap (λ l. l ++ flat_map bytes_of others) (map-append (λ byte. (false, byte)) a b)
     ∙ append_assoc (bytes_of (Logged a)) (bytes_of (Logged b)) (flat_map bytes_of others)
+bytes_kept _ _ = refl
 
 pub all_bytes_kept : (told : List PlainOutput) → flat_map bytes_of (merged told) ≡ flat_map bytes_of told
 all_bytes_kept [] = refl
-all_bytes_kept (first ∷ told) =
-    bytes_kept first (merged told) ∙ ap (λ l. bytes_of first ++ l) (all_bytes_kept told)
+all_bytes_kept (first ∷ told) = cc (bytes_kept first (merged told), all_bytes_kept told)
 
 printed_differs : (a b : List ℕ) (others : List PlainOutput) → Differs (Printed b) others → Differs (Printed a) others
-printed_differs a b [] is = tt
 printed_differs a b (Printed c ∷ others) is = absurd is
-printed_differs a b (Logged c ∷ others) is = tt
+printed_differs a b _ is = tt
 
 logged_differs : (a b : List ℕ) (others : List PlainOutput) → Differs (Logged b) others → Differs (Logged a) others
-logged_differs a b [] is = tt
-logged_differs a b (Printed c ∷ others) is = tt
 logged_differs a b (Logged c ∷ others) is = absurd is
+logged_differs a b _ is = tt
 
 merge_alternates : (first : PlainOutput) (texts : List PlainOutput) → Alternates texts → Alternates (merge first texts)
 merge_alternates (Printed a) [] is = (tt, tt)
 merge_alternates (Logged a) [] is = (tt, tt)
 merge_alternates (Printed a) (Printed b ∷ others) is = (printed_differs (a ++ b) b others is.0, is.1)
-merge_alternates (Printed a) (Logged b ∷ others) is = (tt, is)
-merge_alternates (Logged a) (Printed b ∷ others) is = (tt, is)
 merge_alternates (Logged a) (Logged b ∷ others) is = (logged_differs (a ++ b) b others is.0, is.1)
+merge_alternates _ _ is = (tt, is)
 
 pub alternate : (told : List PlainOutput) → Alternates (merged told)
 alternate [] = tt

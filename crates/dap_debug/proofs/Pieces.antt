@@ -29,15 +29,13 @@ added_to : (category piece : List ℕ) (pieces : List (List ℕ)) (old events ne
     → events ≡ old ++ map (output category) pieces → new ≡ events ++ output category piece ∷ []
     → new ≡ old ++ map (output category) (pieces ++ piece ∷ [])
 added_to category piece pieces old events new before is =
-    is ∙ ap (λ l. l ++ output category piece ∷ []) before
-    ∙ append_assoc old (map (output category) pieces) (output category piece ∷ [])
-    ∙ ap (λ l. old ++ l) (sym (map-append (output category) pieces (piece ∷ [])))
+    is ∙ ap (λ l. l ++ output category piece ∷ []) before ∙ append_assoc old _ _ ∙ ap (λ l. old ++ l) (sym (map-append _
+    pieces _))
 
 cut_off : (rest piece left : List ℕ) (later : List (List ℕ)) → text_limit < length rest
     → piece ≡ take (fit_of rest) rest → left ≡ drop (fit_of rest) rest → AreCut left later → AreCut rest (piece ∷ later)
 cut_off rest piece left [] long front back is = absurd is
-cut_off rest piece left (next ∷ later) long front back is =
-    (long, front, subst (λ l. AreCut l (next ∷ later)) back is)
+cut_off rest piece left (next ∷ later) long front back is = (long, front, rw (← back) is)
 
 pub told_more : (category text : List ℕ) (old events new : List PlainEvent) (rest piece left : List ℕ)
     → ToldTo category text old events rest → text_limit < length rest → piece ≡ take (fit_of rest) rest
@@ -105,8 +103,7 @@ kept text (piece ∷ (next ∷ pieces)) are =
 
 all_more : (told : List PlainOutput) (one : PlainOutput) (events more : List PlainEvent) → TellAll told events
     → TellOne one more → TellAll (told ++ one ∷ []) (events ++ more)
-all_more [] one events more are is =
-    (more, [], is, refl, ap (λ l. l ++ more) are ∙ sym (append-nil more))
+all_more [] one events more are is = (more, [], is, refl, cc (append-nil more))
 all_more (first ∷ told) one events more are is = (
   are.0,
   are.1 ++ more,
@@ -118,10 +115,7 @@ all_more (first ∷ told) one events more are is = (
 pub one_told : (told : List Output) (one : Output) (events new : List PlainEvent)
     → TellAll (map plain_output told) events
     → AddsEvents (TellOne (plain_output one)) events new → TellAll (map plain_output (told ++ one ∷ [])) new
-one_told told one events new are is =
-    subst (λ l. TellAll l new) (sym (map-append plain_output told (one ∷ [])))
-    (subst (TellAll (map plain_output told ++ plain_output one ∷ [])) (sym is.2)
-    (all_more (map plain_output told) (plain_output one) events is.0 are is.1))
+one_told told one events new are is = rw (map-append plain_output told _) (rw is.2 (all_more _ _ events is.0 are is.1))
 
 -- a text is cut in one way
 pub cut_one : (text : List ℕ) (pieces others : List (List ℕ)) → AreCut text pieces → AreCut text others

@@ -1,10 +1,10 @@
 -- What a session promises of what is seen of it, its conversation keeps of what is seen.
-use Rattle.std.proofs.Common.{◌≡◌, ℕ, Bool, true, List, [], ◌∷◌, ap, subst, Option, None, Some, inl, inr, rules}
+use Rattle.std.proofs.Common.{◌≡◌, ℕ, Bool, List, [], ◌∷◌, ap, subst, Option, None, Some, inl, inr, rules}
 use Rattle.std.specs.Prelude.{Result, Ok, Err, IfOk}
 use Rattle.byte_streams.specs.Streams.{StreamLog, Supply, Output}
 use Rattle.dap_server.specs.Requests.{Request}
 use Rattle.dap_server.specs.Conversation.{State, state, Replies, Handles, Conversation}
-use Rattle.dap_server.specs.Inbox.{PlainItem, Bytes, Event, End, Failed, NoMemory, Gives, TakesOne}
+use Rattle.dap_server.specs.Inbox.{PlainItem, Bytes, Event, Gives, TakesOne}
 use Rattle.dap_server.specs.Serving.{FailsAt, FailsInFront, IsDone, BreaksWithin}
 use Rattle.dap_server.specs.ServingInbox.{ServingEndsBy, EndsWithin, EndsAt}
 use Rattle.dap_server.specs.Working as courses
@@ -63,9 +63,7 @@ took : {S T : Type 0} (see : S → T) (replies : Replies T) (a b : State S) (res
     → TakesOne replies (seen see a) rest item texts (seen see b) later
 took see replies a b rest later (Bytes bytes) texts is = (is.0, is.1, talked see replies a b is.0 texts is.2)
 took see replies a b rest later (Event event) texts is = (is.0, ap (seen see) is.1, is.2)
-took see replies a b rest later End texts is = absurd is
-took see replies a b rest later Failed texts is = absurd is
-took see replies a b rest later NoMemory texts is = absurd is
+took see replies a b rest later _ texts is = absurd is
 
 coursed : {S T I : Type 0} (see : S → T) (replies : Replies T) (works : Works T) (busy : T → Bool) (gives : Gives I)
     (polls : Polls I) (a : State S) (inbox : I) (b : State S) (rest : List ℕ) (left : I) (texts : List (List ℕ))
@@ -102,11 +100,10 @@ failed_at see fault.Output replies b request adapter written later is = (
   ap see is.2,
 )
 failed_at see fault.NoSeq replies b None adapter written later is = absurd is.0
-failed_at see fault.NoSeq replies b (Some request) adapter written later is = is
 failed_at see fault.NoMemory replies b None adapter written later is = (ap see is.0, is.1)
-failed_at see fault.NoMemory replies b (Some request) adapter written later is = is
 failed_at see fault.Input replies b request adapter written later is = absurd is
 failed_at see (fault.Framing f) replies b request adapter written later is = absurd is
+failed_at see _ replies b (Some request) adapter written later is = is
 
 failed_in_front : {S T : Type 0} (see : S → T) (f : ServeFault) (replies : Replies T) (b : State S) (rest : List ℕ)
     (adapter : S) (written later : StreamLog)
@@ -135,10 +132,9 @@ ended_within : {S T : Type 0} (see : S → T) (result : Result Ending ServeFault
     → EndsWithin result replies (seen see b) rest (see adapter) written later
 ended_within see (Ok ending.Disconnected) replies b rest adapter written later is =
     (done see b adapter written later is.0, is.1)
-ended_within see (Ok ending.InputEnded) replies b rest adapter written later is = absurd is
-ended_within see (Ok ending.InputCut) replies b rest adapter written later is = absurd is
 ended_within see (Err f) replies b rest adapter written later is =
     (is.0, broke see f replies b rest adapter written later is.1)
+ended_within see _ replies b rest adapter written later is = absurd is
 
 ended_by : {S T : Type 0} (see : S → T) (item : PlainItem) (result : Result Ending ServeFault) (b : State S)
     (rest : List ℕ) (adapter : S) (written later : StreamLog) → ServingEndsBy item result b rest adapter written later
@@ -146,9 +142,7 @@ ended_by : {S T : Type 0} (see : S → T) (item : PlainItem) (result : Result En
 ended_by see (Bytes bytes) result b rest adapter written later is =
     (is.0, is.1, done see b adapter written later is.2)
 ended_by see (Event event) result b rest adapter written later is = (is.0, is.1, ap see is.2, is.3)
-ended_by see End result b rest adapter written later is = (is.0, done see b adapter written later is.1)
-ended_by see Failed result b rest adapter written later is = (is.0, done see b adapter written later is.1)
-ended_by see NoMemory result b rest adapter written later is = (is.0, done see b adapter written later is.1)
+ended_by see _ result b rest adapter written later is = (is.0, done see b adapter written later is.1)
 
 ended_at : {S T I : Type 0} (see : S → T) (last : Option PlainItem) (gives : Gives I) (inbox left : I)
     (result : Result Ending ServeFault) (replies : Replies T) (b : State S) (rest : List ℕ) (adapter : S)
@@ -183,21 +177,19 @@ pub served : {S T I : Type 0} (see : S → T) (replies : Replies T) (works : Wor
     → ServedWorker (seen_replies see replies) (seen_works see works) (λ s. busy (see s)) gives polls before after inbox
     left written later result
     → ServedWorker replies works busy gives polls (see before) (see after) inbox left written later result
-served see replies works busy gives polls before after inbox left written later result is = record {
-  reached = seen see is.reached;
-  rest = is.rest;
-  answers = is.answers;
-  taken = is.taken;
-  working = record {
-    texts = is.working.texts;
-    course =
-        coursed see replies works busy gives polls (state before 1 true) inbox is.reached is.rest is.taken
-        is.working.texts is.working.course;
-    written = is.working.written;
-  };
-  ends =
-      ended see works busy gives polls is.taken left result replies is.reached is.rest after is.answers later is.ends;
-}
+served see replies works busy gives polls before after inbox left written later result is =
+    record {
+      reached = seen see is.reached;
+      rest = is.rest;
+      answers = is.answers;
+      taken = is.taken;
+      working = record {
+        texts = is.working.texts;
+        course = coursed see replies works busy gives polls _ inbox _ _ _ _ is.working.course;
+        written = is.working.written;
+      };
+      ends = ended see works busy gives polls _ left result replies _ _ after _ later is.ends;
+    }
 
 -- the same of a session, from one without a program on
 module _ {S T F I : Type 0} (see : S → Situation T F) (known : Known T) (reads : ReadsFiles F) (gives : Gives I)
@@ -207,16 +199,12 @@ module _ {S T F I : Type 0} (see : S → Situation T F) (known : Known T) (reads
       → ServedWorker (seen_replies see (replied_by known reads)) (seen_works see (worked_by known))
       (λ s. runs_in (see s)) gives polls before after inbox left written later result
       → Debugged known reads gives polls files later_files inbox left written later result
-  debugged before after files later_files inbox left written later result first kept is = record {
-    last = (see after).stands;
-    served =
-        subst (λ f. ServedWorker (replied_by known reads) (worked_by known) runs_in gives polls (situation unused files)
-        (situation (see after).stands f) inbox left written later result) kept
-        (subst (λ start. ServedWorker (replied_by known reads) (worked_by known) runs_in gives polls start (see after)
-        inbox left written later result) first
-        (served see (replied_by known reads) (worked_by known) runs_in gives polls before after inbox left written
-        later result is));
-  }
+  debugged before after files later_files inbox left written later result first kept is =
+      record {
+        last = (see after).stands;
+        served = rw (← kept) (rw (← first) (served see (replied_by known reads)
+            (worked_by known) runs_in gives polls before after inbox left written later result is));
+      }
 
   pub owes : (before : S) (files : F) (inbox now : I) (written later : StreamLog)
       → see before ≡ situation unused files
@@ -224,16 +212,13 @@ module _ {S T F I : Type 0} (see : S → Situation T F) (known : Known T) (reads
       (λ s. runs_in (see s)) gives polls before inbox now written later
       → OwesNothing known reads gives polls files inbox now written later
   owes before files inbox now written later first is =
-      subst (λ start. WorkerOwesNothing (replied_by known reads) (worked_by known) runs_in gives polls start inbox now
-      written later) first
-      (record {
+      rw (← first) (record {
         reached = seen see is.reached;
         rest = is.rest;
         working = record {
           texts = is.working.texts;
-          course = coursed see (replied_by known reads) (worked_by known) runs_in gives polls
-              (state before 1 true) inbox
-              is.reached is.rest now is.working.texts is.working.course;
+          course = coursed see _ _ runs_in gives polls _ inbox is.reached is.rest now is.working.texts
+              is.working.course;
           written = is.working.written;
         };
         there = is.there;

@@ -1,12 +1,12 @@
 -- Each run of a conversation ends once: the sum of what its turns owe.
-use Rattle.std.proofs.Common.{◌≡◌, ◌+◌, ℕ, Bool, true, false, List, [], ◌∷◌, ◌∙◌, refl, sym, ap, subst, arith, Option, None, Some}
-use Rattle.std.specs.Prelude.{codes, if◌then◌else◌}
+use Rattle.std.proofs.Common.{◌≡◌, ◌+◌, ℕ, Bool, true, false, List, [], ◌∷◌, refl, ap, subst, arith, Option, None, Some}
+use Rattle.std.specs.Prelude.{codes}
 use Rattle.std.proofs.lemmas.Slice.Eq.{bytes_eq-Decides}
 use Rattle.serde_json.specs.Data.{Data}
 use Rattle.dap_server.specs.Messages.{PlainReply, events_after, leaves}
 use Rattle.dap_server.specs.Requests.{Request}
 use Rattle.dap_server.specs.Conversation.{State, Handles, Conversation}
-use Rattle.dap_server.specs.Inbox.{PlainItem, Bytes, Event, End, Failed, NoMemory, Gives, TakesOne}
+use Rattle.dap_server.specs.Inbox.{PlainItem, Bytes, Event, Gives, TakesOne}
 use Rattle.dap_server.specs.Working as courses
 use Rattle.dap_server.specs.Working.{Polls, Course}
 use Rattle.dap_debug.specs.Commands.{command_of}
@@ -22,13 +22,11 @@ use Rattle.dap_debug.proofs.Balance.{work_balanced, replies_balanced}
 sent_alike : {S : Type 0} (known : Known S) (name : List ℕ) (arguments : Option Data) (stood stands : Standing S)
     (reply : PlainReply) (b : Bool) → leaves name ≡ b → RepliesTo known (command_of name) arguments stood reply stands
     → ends_told (events_after name reply.events) ≡ ends_told reply.events
-sent_alike known name arguments stood stands reply false stays is =
-    ap (λ c. ends_told (if c then [] else reply.events)) stays
+sent_alike known name arguments stood stands reply false stays is = cc
 sent_alike known name arguments stood stands reply true left is =
     let same : name ≡ codes "disconnect" = (bytes_eq-Decides name (codes "disconnect")).0 left in
     let quiet = subst (λ n. RepliesTo known (command_of n) arguments stood reply stands) same is in
-    ap (λ c. ends_told (if c then [] else reply.events)) left
-    ∙ sym (ap (λ (r : PlainReply). ends_told r.events) quiet.0)
+    cc quiet.0
 
 still : {S F : Type 0} (a b : State (Situation S F)) → b ≡ a → owed b.adapter.stands.phase ≡ owed a.adapter.stands.phase
 still a b is = ap (λ (s : State (Situation _ _)). owed s.adapter.stands.phase) is
@@ -40,8 +38,7 @@ answered : {S F : Type 0} (known : Known S) (reads : ReadsFiles F) (a b : State 
     request
 answered known reads a b None texts is = let same = still a b is.1 in omega (arith, same)
 answered known reads a b (Some request) texts is =
-    let sum = replies_balanced known (command_of request.command) request.arguments a.adapter.stands
-    b.adapter.stands is.reply is.replied.0 in
+    let sum = replies_balanced known _ request.arguments a.adapter.stands b.adapter.stands is.reply is.replied.0 in
     let sent = sent_alike known request.command request.arguments a.adapter.stands b.adapter.stands is.reply _ refl
     is.replied.0 in
     omega (arith, sum, sent)
@@ -64,9 +61,7 @@ took : {S F : Type 0} (known : Known S) (reads : ReadsFiles F) (a b : State (Sit
     ≡ owed a.adapter.stands.phase + asked_at known reads a b rest later item texts is
 took known reads a b rest later (Bytes bytes) texts is = talked known reads a b is.0 texts is.2
 took known reads a b rest later (Event event) texts is = let same = still _ b is.1 in omega (arith, same)
-took known reads a b rest later End texts is = absurd is
-took known reads a b rest later Failed texts is = absurd is
-took known reads a b rest later NoMemory texts is = absurd is
+took known reads a b rest later _ texts is = absurd is
 
 pub each_ends_once : {S F I : Type 0} (known : Known S) (reads : ReadsFiles F) (gives : Gives I) (polls : Polls I)
     (a : State (Situation S F))

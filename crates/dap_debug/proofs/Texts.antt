@@ -1,5 +1,5 @@
 -- Decimal texts, and texts with expressions in braces.
-use Rattle.std.proofs.Common.{◌≡◌, ◌≢◌, ◌==◌, ◌<◌, ◌++◌, ℕ, Bool, true, false, List, [], ◌∷◌, inl, inr, length, get_or, append_assoc, ap, sym, subst, ◌∙◌, arith, eq-zero-or-pos}
+use Rattle.std.proofs.Common.{◌≡◌, ◌≢◌, ◌==◌, ◌<◌, ◌++◌, ℕ, Bool, true, false, List, [], ◌∷◌, inl, inr, length, get_or, append_assoc, ap, sym, ◌∙◌, arith, eq-zero-or-pos}
 use Rattle.std.specs.Prelude.{decimal, Result, Ok, Err, Option, Some, None}
 use Rattle.std.specs.Bool.{Decides}
 use Rattle.std.specs.Str.Parse.{AllDigits, digits_value, ParsesUnsigned}
@@ -122,7 +122,6 @@ ReadTo text parts rest = (more : List PlainPart) → AreParts rest more → AreP
 pub read_on : (text : List ℕ) (parts new : List PlainPart) (rest before inner later : List ℕ) → ReadTo text parts rest
     → HasExpression rest before inner later → new ≡ parts ++ (Text before ∷ (Expression inner ∷ []))
     → ReadTo text new later
-read_on text parts new rest before inner later was has grown = λ more are.
-    subst (AreParts text)
-    (sym (ap (λ l. l ++ more) grown ∙ append_assoc parts (Text before ∷ (Expression inner ∷ [])) more))
-    (was (Text before ∷ (Expression inner ∷ more)) (later, has, are))
+read_on text parts new rest before inner later was has grown =
+    λ more are. rw (ap (λ l. l ++ more) grown ∙ append_assoc parts (Text before ∷ (Expression inner ∷ [])) more) (was
+    (Text before ∷ (Expression inner ∷ more)) (later, has, are))
