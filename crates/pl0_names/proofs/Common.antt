@@ -1,9 +1,11 @@
 -- What several lemma files import, from the libraries and from the definitions.
+pub use Rattle.pl0_names.specs.AllFaults.{AreAllFaults, fault_at}
 pub use Rattle.pl0_names.specs.Blocks.{blocks_of, declared_in, found_at, found_in, names, no_names, or_declared}
 pub use Rattle.pl0_names.specs.Homes.{IsHomeAnswer, meaning_of}
-pub use Rattle.pl0_names.specs.Judging.{allows, block_verdicts, Chain, chain_names, declared_fault, declared_verdict, declared_verdicts, first_fault, home_names, inside_verdicts, is_before, IsTableOf, Known, known, means, Names, outside_fault, outside_verdict, outside_verdicts, own, procedure_declared, row_verdicts, same_meaning, Judges, stack_names, told, use_fault, use_verdict, use_verdicts, Verdict, verdict_first, within}
+pub use Rattle.pl0_names.specs.Judging.{allows, block_verdicts, Chain, chain_names, declared_fault, declared_verdict, declared_verdicts, faults_among, Finds, first_fault, home_names, inside_verdicts, is_before, IsTableOf, Known, known, means, Names, outside_fault, outside_verdict, outside_verdicts, own, procedure_declared, row_verdicts, same_meaning, Judges, stack_names, told, use_fault, use_verdict, use_verdicts, Verdict, verdict_first, within}
 pub use Rattle.pl0_names.specs.Logs.{at_level, ends_at, index_of, is_at, IsIndexed, IsLinked, IsNested, IsTable, nearest, placed_at, placed_in}
 pub use Rattle.pl0_names.specs.Numbering.{block_count, nested_in, nestings_of_block, nestings_of_row, numbered, numbered_block, numbered_row, numbered_statement, row_count}
+pub use Rattle.pl0_names.specs.declared.check.NameFault.{NameFault}
 pub use Rattle.pl0_names.specs.declared.scope.Declared.{Declared}
 pub use Rattle.pl0_tree.specs.Ascending.{Ascend}
 pub use Rattle.pl0_tree.specs.Blocks.{AreNestings, IsNesting, name_of_block, procedure_name}
