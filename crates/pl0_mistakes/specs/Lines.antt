@@ -3,6 +3,10 @@ use Rattle.std.specs.Prelude.{ℕ, ◌≡◌, Bool, true, false, List, ◌++◌,
 use Rattle.pl0_tree.specs.declared.tree.Place.{Place}
 use Rattle.pl0_tree.specs.declared.fault.FaultKind.{FaultKind}
 use Rattle.pl0_tree.specs.declared.fault.FaultKind.TheVariants.{Twice, Unknown, TooEarly, WrongKind}
+use Rattle.pl0_tree.specs.Faults.{IsNameFault, level_limit}
+use Rattle.pl0_tree.specs.Reading.{ReadsProgram}
+use Rattle.pl0_tree.specs.Tokens.{tokens_of}
+use Rattle.pl0_tree.specs.Tree.{Block}
 use Rattle.pl0_meaning.specs.declared.RunFault.{RunFault}
 use Rattle.pl0_mistakes.specs.Found.{token_at, token_before}
 use Rattle.pl0_mistakes.specs.Sentences.{IsMistakeSentence, fault_sentence}
@@ -27,16 +31,21 @@ is_of_names TooEarly = true
 is_of_names WrongKind = true
 is_of_names _ = false
 
--- the same of a mistake with its place
-abbrev pub IsOfNames : FaultKind × Place → Type 0
-IsOfNames mistake = is_of_names mistake.0 ≡ true
+-- a fault of the names in the program that a text is read as
+abbrev pub IsNameFaultIn : List ℕ → FaultKind → Place → Type 0
+IsNameFaultIn text kind place =
+    (main : Block) × ReadsProgram level_limit (tokens_of text) main × IsNameFault main kind place
 
--- Lines tell mistakes in a file with this text: the first, and if that is one of a name, further ones of names. Which
--- ones these are is tested.
+-- a mistake that may be told behind the first one, with its place
+abbrev pub IsFurther : (FaultKind → Place → Type 0) → FaultKind × Place → Type 0
+IsFurther Fault mistake = (is_of_names mistake.0 ≡ true) × Fault mistake.0 mistake.1
+
+-- Lines tell mistakes in a file with this text: the first, and if that is one of a name, further ones of names. It is
+-- tested that one is told of each name, and of 20 names at most.
 pub data AreMistakeLines (file text : List ℕ) (kind : FaultKind) (place : Place) : List ℕ → Type 0 where
   first_line : {line : List ℕ} → IsMistakeLine file text kind place line → AreMistakeLines file text kind place line
   further_line : {lines line : List ℕ} (other : FaultKind) (behind : Place) → is_of_names kind ≡ true →
-      is_of_names other ≡ true → AreMistakeLines file text kind place lines →
+      IsFurther (IsNameFaultIn text) (other, behind) → AreMistakeLines file text kind place lines →
       IsMistakeLine file text other behind line → AreMistakeLines file text kind place (lines ++ line)
 
 -- the line of a fault at a step of a file's program

@@ -1,13 +1,20 @@
 //! All mistakes of a text that are told at once: the first, and behind one of a name the others of names.
 
 ghost use Rattle.std.specs.Prelude.{◌≡◌, true, All, IfOk};
-ghost use Rattle.pl0_mistakes.specs.Lines.{AreMistakeLines, IsOfNames, is_of_names};
+ghost use Rattle.pl0_tree.specs.Faults.{IsNameFault, level_limit};
+ghost use Rattle.pl0_tree.specs.Plain.{plain_block};
+ghost use Rattle.pl0_tree.specs.Reading.{ReadsProgram};
+ghost use Rattle.pl0_tree.specs.Tokens.{tokens_of};
+ghost use Rattle.pl0_mistakes.specs.Lines.{AreMistakeLines, IsFurther, IsNameFaultIn, is_of_names};
 
-use crate::judging::name_mistakes;
 use crate::lines::mistake_line;
-use pl0_parser::tokenize;
-use pl0_tree::{FaultKind, Place, SyntaxFault};
+use pl0_names::name_faults;
+use pl0_parser::{parse_program, tokenize};
+use pl0_tree::{Block, FaultKind, Place, SyntaxFault};
 use std::alloc::{AllocError, Global};
+
+/// Of how many names a mistake is told.
+const MOST: usize = 20;
 
 /// Returns the lines that tell mistakes of a program's text, each as [`mistake_line`] does: the first, of which these are the
 /// kind and the place, and where it is one of a name, others of names behind it, in the order of the text. Of a name one
@@ -71,11 +78,44 @@ fn mistakes_behind(
     text: &[u8],
     first: Place,
 ) -> Result<Vec<(FaultKind, Place)>, AllocError>
-    ensures { IfOk result (λ mistakes. All IsOfNames mistakes.items) }
+    ensures { IfOk result (λ mistakes. All (IsFurther (IsNameFaultIn text.now)) mistakes.items) }
 {
-    match tokenize(alloc, text) {
-        Ok((tokens, _)) => name_mistakes(alloc, tokens.as_slice(), first),
+    match program_of(alloc, text) {
+        Ok(main) => mistakes_in(alloc, &main, first),
         Err(SyntaxFault::NoMemory) => Err(AllocError),
         Err(SyntaxFault::InText { .. }) => Ok(Vec::new(alloc)),
     }
+}
+
+/// Returns the program that a text is read as, whatever its names.
+fn program_of(alloc: Global, text: &[u8]) -> Result<Block, SyntaxFault>
+    ensures { IfOk result (λ main. ReadsProgram level_limit (tokens_of text.now) (plain_block main)) }
+{
+    let (tokens, end) = tokenize(alloc, text)?;
+    parse_program(alloc, tokens.as_slice(), end)
+}
+
+/// Returns the mistakes of names in a program, in the order of its text, but for the one at this place: of each name the
+/// first, and of 20 names at most.
+fn mistakes_in(
+    alloc: Global,
+    main: &Block,
+    but: Place,
+) -> Result<Vec<(FaultKind, Place)>, AllocError>
+    ensures { IfOk result (λ mistakes. All (IsFurther (IsNameFault (plain_block main.now))) mistakes.items) }
+{
+    let faults = name_faults(alloc, main)?;
+    let mut mistakes = Vec::new(alloc);
+    let mut words = Vec::new(alloc);
+    for fault in faults.iter() {
+        let word = fault.name.text.as_str();
+        if words.len() == MOST || words.contains(&word) || !is_of_names(fault.kind) {
+            continue;
+        }
+        words.push(word)?;
+        if fault.name.place != but {
+            mistakes.push((fault.kind, fault.name.place))?;
+        }
+    }
+    Ok(mistakes)
 }
