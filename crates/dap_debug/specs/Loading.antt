@@ -50,36 +50,31 @@ abbrev pub IsJsonOf : Option Data → List ℕ → Type 0
 IsJsonOf None text = text ≡ []
 IsJsonOf (Some value) text = depth value ≤ max_depth → read text ≡ Some value
 
--- The language reads a text that is UTF-8, with the arguments.
-abbrev pub LoadsText : {S : Type 0} → (List ℕ → List ℕ → Result S (List ℕ) → Type 0) → Option Data → List ℕ → Standing S
-    → PlainReply → Standing S → Type 0
-LoadsText {S} reads_as arguments bytes stood reply stands =
-    (IsUtf8 bytes × (json : List ℕ) × IsJsonOf arguments json × (loaded : Result S (List ℕ))
-    × reads_as bytes json loaded × LoadsAs arguments loaded stood reply stands)
-    ⊎ ((¬ IsUtf8 bytes) × IsQuiet (refusal (codes "the program isn't UTF-8")) stood reply stands)
-
--- What was read of a file, or why it couldn't be opened or read. A text that isn't too long was read to its end.
-abbrev pub LoadsRead : {S : Type 0} → (List ℕ → List ℕ → Result S (List ℕ) → Type 0) → Option Data
-    → Result (List ℕ) FileFault
-    → Standing S → PlainReply → Standing S → Type 0
-LoadsRead reads_as arguments (Err why) stood reply stands = IsQuiet (refusal (unread_text why)) stood reply stands
-LoadsRead reads_as arguments (Ok bytes) stood reply stands =
-    ((text_limit < length bytes) × IsQuiet (refusal (codes "tooLong")) stood reply stands)
-    ⊎ ((length bytes ≤ text_limit) × LoadsText reads_as arguments bytes stood reply stands)
-
 -- the file that a request reads: its path, and what reading it gave; or none
 abbrev pub FileRead : Type 0
 FileRead = Option (List ℕ × Result (List ℕ) FileFault)
 
--- a path has to be given, and the file there is read
-abbrev pub LoadsAt : {S : Type 0} → (List ℕ → List ℕ → Result S (List ℕ) → Type 0) → Option Data → Option (List ℕ)
-    → FileRead
-    → Standing S → PlainReply → Standing S → Type 0
-LoadsAt reads_as arguments None file stood reply stands =
-    (file ≡ None) × IsQuiet (refusal (codes "`program` is missing")) stood reply stands
-LoadsAt reads_as arguments (Some path) file stood reply stands =
-    (read : Result (List ℕ) FileFault) × (file ≡ Some (path, read))
-    × LoadsRead reads_as arguments read stood reply stands
+module _ {S : Type 0} (reads_as : List ℕ → List ℕ → Result S (List ℕ) → Type 0) (arguments : Option Data) where
+  -- The language reads a text that is UTF-8, with the arguments.
+  abbrev pub LoadsText : List ℕ → Standing S → PlainReply → Standing S → Type 0
+  LoadsText bytes stood reply stands =
+      (IsUtf8 bytes × (json : List ℕ) × IsJsonOf arguments json × (loaded : Result S (List ℕ))
+      × reads_as bytes json loaded × LoadsAs arguments loaded stood reply stands)
+      ⊎ ((¬ IsUtf8 bytes) × IsQuiet (refusal (codes "the program isn't UTF-8")) stood reply stands)
+
+  -- What was read of a file, or why it couldn't be opened or read. A text that isn't too long was read to its end.
+  abbrev pub LoadsRead : Result (List ℕ) FileFault → Standing S → PlainReply → Standing S → Type 0
+  LoadsRead (Err why) stood reply stands = IsQuiet (refusal (unread_text why)) stood reply stands
+  LoadsRead (Ok bytes) stood reply stands =
+      ((text_limit < length bytes) × IsQuiet (refusal (codes "tooLong")) stood reply stands)
+      ⊎ ((length bytes ≤ text_limit) × LoadsText bytes stood reply stands)
+
+  -- a path has to be given, and the file there is read
+  abbrev pub LoadsAt : Option (List ℕ) → FileRead → Standing S → PlainReply → Standing S → Type 0
+  LoadsAt None file stood reply stands =
+      (file ≡ None) × IsQuiet (refusal (codes "`program` is missing")) stood reply stands
+  LoadsAt (Some path) file stood reply stands =
+      (read : Result (List ℕ) FileFault) × (file ≡ Some (path, read)) × LoadsRead read stood reply stands
 
 -- a program is loaded in the place of another, but for one that runs
 abbrev pub LoadsFrom : {S : Type 0} → (List ℕ → List ℕ → Result S (List ℕ) → Type 0) → Phase S → Option Data → FileRead

@@ -72,8 +72,5 @@ abbrev pub end_with : List PlainOutput → PlainOutput → List PlainOutput
 end_with [] one = one ∷ []
 end_with (first ∷ others) one = end_from first others one
 
-abbrev pub Added : List PlainEvent → List PlainEvent → List PlainEvent → Type 0
-Added more old new = new ≡ old ++ more
-
 abbrev pub AddsEvents : (List PlainEvent → Type 0) → List PlainEvent → List PlainEvent → Type 0
 AddsEvents tell old new = (more : List PlainEvent) × tell more × (new ≡ old ++ more)

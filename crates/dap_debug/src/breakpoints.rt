@@ -1,15 +1,14 @@
 //! Setting breakpoints.
 
-ghost use Rattle.std.specs.Prelude.{◌≡◌, ◌≢◌, ◌≤◌, ℕ, length, Option, ◌++◌, ◌∷◌, [], codes, decimal, None, Some, IfNone, IfOk, IfSome, OnOk, map, option_map, string_bytes};
+ghost use Rattle.std.specs.Prelude.{◌≡◌, ◌≢◌, ℕ, Option, ◌++◌, ◌∷◌, [], codes, decimal, None, Some, IfNone, IfOk, IfSome, OnOk, map, option_map, string_bytes};
 ghost use Rattle.std.specs.Bool.{Decides};
 ghost use Rattle.std.specs.Option.{option_to_list};
 ghost use Rattle.serde_json.specs.View.{items_view, view};
 ghost use Rattle.dap_bodies.specs.Bodies.{Refused, plain_shown_breakpoint};
 ghost use Rattle.dap_server.specs.Messages.{plain_reply};
 ghost use Rattle.debuggee.specs.Plain.{Text, Expression, plain_breakpoint, plain_part};
-ghost use Rattle.dap_bodies.specs.Arguments.{list_at};
 ghost use Rattle.dap_debug.specs.Standings.{standing};
-ghost use Rattle.dap_debug.specs.Breakpoints.{AreParts, AreSet, AreUnset, HasExpression, HasMistake, IsAnswered, IsBreakpoint, IsCount, IsMessage, IsUnclosed, IsRule, IsSet, Sets, SetsIn, answers_reply, condition_of, counted_at, message_limit, source_asked, text_of, unless_empty};
+ghost use Rattle.dap_debug.specs.Breakpoints.{AreParts, AreSet, AreUnset, HasExpression, HasMistake, IsAnswered, IsCount, IsMessage, IsUnclosed, IsRule, IsSet, Sets, SetsIn, answers_reply, counted_at, source_asked, text_of, unless_empty};
 
 use crate::state::State;
 use dap_bodies::{list, member, text, whole};
@@ -99,8 +98,7 @@ fn is_source(arguments: Option<&Value>, path: &str) -> bool
 fn reply_with(alloc: Global, answers: Vec<dap_bodies::Breakpoint>) -> Result<Reply, AllocError>
     ensures { IfOk result (λ reply. plain_reply reply ≡ answers_reply (map plain_shown_breakpoint answers.items)) }
 {
-    let body = dap_bodies::breakpoints(alloc, answers)?;
-    Ok(Reply::with_body(alloc, body))
+    Ok(Reply::with_body(alloc, dap_bodies::breakpoints(alloc, answers)?))
 }
 
 /// Answers that none of these breakpoints is set.
@@ -142,9 +140,8 @@ fn keep(breakpoints: &mut Vec<Breakpoint>, breakpoint: Option<Breakpoint>) -> Re
     ensures { OnOk result (map plain_breakpoint breakpoints.new.items ≡
         map plain_breakpoint breakpoints.old.items ++ option_to_list (option_map plain_breakpoint breakpoint)) }
 {
-    match breakpoint {
-        Some(breakpoint) => breakpoints.push(breakpoint)?,
-        None => {}
+    if let Some(breakpoint) = breakpoint {
+        breakpoints.push(breakpoint)?;
     }
     Ok(())
 }
@@ -172,16 +169,15 @@ fn set_one<L: Language>(
 fn counted_at(less: u64, first: Option<Location>) -> Option<Location>
     ensures { result ≡ option_map (counted_at less) first }
 {
-    match first {
-        Some(Location { place, line }) => Some(Location {
-            place,
-            line: line.saturating_sub(less),
-        }),
-        None => None,
-    }
+    let Location { place, line } = first?;
+    Some(Location {
+        place,
+        line: line.saturating_sub(less),
+    })
 }
 
-/// Sets a breakpoint where the first place for its line is this one, with its line as the client counts.
+/// Sets a breakpoint where the first place for its line is this one, with its line as the client counts, unless its rule,
+/// message or condition is wrong.
 fn set_at<L: Language>(
     alloc: Global,
     program: &L,
@@ -191,57 +187,28 @@ fn set_at<L: Language>(
     ensures { IfOk result (λ set. IsAnswered L.shows program.now (view asked.now) first
         (plain_shown_breakpoint set.answer) (option_map plain_breakpoint set.breakpoint)) }
 {
-    match first {
-        Some(location) => match rule_of(text_of(asked, "hitCondition")) {
-            Some(rule) => set_short(alloc, program, asked, location, rule),
-            None => refuse(alloc, "a hit condition is N, =N or %N"),
-        },
-        None => refuse(alloc, "no place is at this line or after it"),
-    }
-}
-
-/// Sets a breakpoint with this rule, unless its message is too long or its condition has a mistake.
-fn set_short<L: Language>(
-    alloc: Global,
-    program: &L,
-    asked: &Value,
-    location: Location,
-    rule: Option<Rule>,
-) -> Result<Answered, AllocError>
-    requires { IsRule (text_of (codes "hitCondition") (view asked.now)) rule }
-    ensures { IfOk result (λ set. IsAnswered L.shows program.now (view asked.now) (Some location)
-        (plain_shown_breakpoint set.answer) (option_map plain_breakpoint set.breakpoint)) }
-{
+    let Some(location) = first else {
+        return refuse(alloc, "no place is at this line or after it");
+    };
+    let Some(rule) = rule_of(text_of(asked, "hitCondition")) else {
+        return refuse(alloc, "a hit condition is N, =N or %N");
+    };
     if MESSAGE_LIMIT < text_of(asked, "logMessage").len() {
-        refuse(alloc, "a message has at most 65,536 bytes")
-    } else {
-        set_with(alloc, program, asked, location, rule)
+        return refuse(alloc, "a message has at most 65,536 bytes");
     }
-}
-
-/// Sets a breakpoint with this rule, unless its condition has a mistake.
-fn set_with<L: Language>(
-    alloc: Global,
-    program: &L,
-    asked: &Value,
-    location: Location,
-    rule: Option<Rule>,
-) -> Result<Answered, AllocError>
-    requires rule { IsRule (text_of (codes "hitCondition") (view asked.now)) rule }
-    requires short { length (text_of (codes "logMessage") (view asked.now)) ≤ message_limit }
-    ensures { IfOk result (λ set. IsAnswered L.shows program.now (view asked.now) (Some location)
-        (plain_shown_breakpoint set.answer) (option_map plain_breakpoint set.breakpoint)) }
-{
     let condition = unless_empty(alloc, text_of(asked, "condition"))?;
     match mistake_in(alloc, program, location.place, &condition)? {
         Some(why) => refuse(alloc, why.as_str()),
-        None => {
-            let breakpoint = breakpoint_at(alloc, asked, location.place, rule, condition)?;
-            Ok(Answered {
-                breakpoint: Some(breakpoint),
-                answer: dap_bodies::Breakpoint::SetAt(location.line),
-            })
-        }
+        None => Ok(Answered {
+            breakpoint: Some(Breakpoint {
+                place: location.place,
+                condition,
+                rule,
+                arrivals: 0,
+                message: message_of(alloc, text_of(asked, "logMessage"))?,
+            }),
+            answer: dap_bodies::Breakpoint::SetAt(location.line),
+        }),
     }
 }
 
@@ -259,28 +226,6 @@ fn mistake_in<L: Language>(
         Some(condition) => program.mistake_in(alloc, place, condition.as_str()),
         None => Ok(None),
     }
-}
-
-/// Returns the breakpoint that is asked for.
-fn breakpoint_at(
-    alloc: Global,
-    asked: &Value,
-    place: usize,
-    rule: Option<Rule>,
-    condition: Option<String>,
-) -> Result<Breakpoint, AllocError>
-    requires rule { IsRule (text_of (codes "hitCondition") (view asked.now)) rule }
-    requires condition { option_map string_bytes condition ≡ condition_of (view asked.now) }
-    requires short { length (text_of (codes "logMessage") (view asked.now)) ≤ message_limit }
-    ensures { IfOk result (λ breakpoint. IsBreakpoint (view asked.now) place (plain_breakpoint breakpoint)) }
-{
-    Ok(Breakpoint {
-        place,
-        condition,
-        rule,
-        arrivals: 0,
-        message: message_of(alloc, text_of(asked, "logMessage"))?,
-    })
 }
 
 /// Answers that a breakpoint isn't set, and why.

@@ -1,13 +1,13 @@
 //! Questions about the program where it stands.
 
-ghost use Rattle.std.specs.Prelude.{◌≡◌, ◌<◌, ◌≤◌, ◌^◌, ◌-◌, codes, length, slice_get, take, None, Some, IfOk, map, option_map, string_bytes};
+ghost use Rattle.std.specs.Prelude.{◌≡◌, ◌<◌, ◌≤◌, ◌^◌, ◌-◌, codes, length, None, Some, IfOk, map, option_map, string_bytes};
 ghost use Rattle.serde_json.specs.View.{view};
 ghost use Rattle.dap_bodies.specs.Bodies.{plain_shown_frame, plain_shown_scope, plain_shown_variable};
 ghost use Rattle.dap_server.specs.Messages.{plain_reply};
 ghost use Rattle.dap_bodies.specs.Arguments.{text_at};
-ghost use Rattle.debuggee.specs.Shown.{plain_frame, plain_variable};
+ghost use Rattle.debuggee.specs.Shown.{plain_variable};
 ghost use Rattle.dap_debug.specs.Standings.{standing};
-ghost use Rattle.dap_debug.specs.Inspecting.{Inspects, AnswersQuestion, ShowsFrame, ShowsInside, ShowsPage, ShowsScopes, ShowsStack, ShowsVariables, Evaluates, Explains, frame_asked, frame_count, frame_limit, frame_of_reference, frame_to_evaluate, frame_with, first_frame, index_of_reference, number_of_reference, page_asked, page_count, reference_asked, reference_inside, scope_limit, scopes_reply, shown_scope, shown_scopes, shown_variable, variables_reply};
+ghost use Rattle.dap_debug.specs.Inspecting.{Inspects, AnswersQuestion, ShowsFrame, ShowsInside, ShowsScopes, ShowsStack, ShowsVariables, Evaluates, Explains, frame_asked, frame_count, frame_limit, frame_of_reference, frame_to_evaluate, frame_with, first_frame, index_of_reference, number_of_reference, page_asked, page_count, reference_asked, reference_inside, scope_limit, shown_scope, shown_scopes, shown_variable, variables_reply};
 
 use crate::command::Question;
 use crate::state::{Counting, Phase, State};
@@ -121,8 +121,7 @@ fn stack_trace<L: Language>(
     for index in first..first + count {
         frames.push(frame(alloc, program, index, counting, path)?)?;
     }
-    let body = dap_bodies::stack_trace(alloc, frames, depth as u64)?;
-    Ok(Reply::with_body(alloc, body))
+    Ok(Reply::with_body(alloc, dap_bodies::stack_trace(alloc, frames, depth as u64)?))
 }
 
 /// Returns the first of so many frames that is asked for; how many there are, where none is.
@@ -200,33 +199,10 @@ fn scopes<L: Language>(alloc: Global, program: &L, frame: usize) -> Result<Reply
     requires near { frame < frame_limit }
     ensures { IfOk result (λ reply. ShowsScopes L.shows (Some frame) program.now (plain_reply reply)) }
 {
-    let names = program.scopes(alloc, frame)?;
-    reply_with_scopes(alloc, frame, names)
-}
-
-/// Returns the reply that shows the scopes of a frame that have these names.
-fn reply_with_scopes(alloc: Global, frame: usize, names: Vec<String>) -> Result<Reply, AllocError>
-    requires near { frame < frame_limit }
-    ensures { IfOk result (λ reply. plain_reply reply ≡ scopes_reply frame (map string_bytes names.items)) }
-{
-    let shown = first_scopes(alloc, frame, names)?;
-    let body = dap_bodies::scopes(alloc, shown)?;
+    let mut names = program.scopes(alloc, frame)?;
+    names.truncate(SCOPE_LIMIT);
+    let body = dap_bodies::scopes(alloc, all_scopes(alloc, frame, names)?)?;
     Ok(Reply::with_body(alloc, body))
-}
-
-/// Shows as many scopes as are shown at most.
-fn first_scopes(
-    alloc: Global,
-    frame: usize,
-    names: Vec<String>,
-) -> Result<Vec<dap_bodies::Scope>, AllocError>
-    requires near { frame < frame_limit }
-    ensures { IfOk result (λ shown. map plain_shown_scope shown.items ≡
-        shown_scopes frame 0 (take scope_limit (map string_bytes names.items))) }
-{
-    let mut first = names;
-    first.truncate(SCOPE_LIMIT);
-    all_scopes(alloc, frame, first)
 }
 
 /// Shows scopes.
@@ -327,26 +303,10 @@ fn variables_of_frame<L: Language>(
 {
     let names = program.scopes(alloc, frame)?;
     if index < names.len() {
-        variables_of_scope(alloc, program, frame, index, page)
+        reply_with_variables(alloc, program.variables(alloc, frame, index, page)?)
     } else {
         Reply::refused(alloc, NO_VARIABLES)
     }
-}
-
-/// Shows variables of a scope of a frame.
-fn variables_of_scope<L: Language>(
-    alloc: Global,
-    program: &L,
-    frame: usize,
-    index: usize,
-    page: Page,
-) -> Result<Reply, AllocError>
-    requires { frame < L.sees.depth_of program.now }
-    ensures { IfOk result (λ reply. ShowsPage (L.shows.variables_of program.now frame index) page
-        (plain_reply reply)) }
-{
-    let variables = program.variables(alloc, frame, index, page)?;
-    reply_with_variables(alloc, variables)
 }
 
 /// Returns the number of the variable whose inside has a reference, if it is one of these.
@@ -382,8 +342,7 @@ fn index_of_reference(reference: u64) -> usize
 fn reply_with_variables(alloc: Global, variables: Vec<Variable>) -> Result<Reply, AllocError>
     ensures { IfOk result (λ reply. plain_reply reply ≡ variables_reply (map plain_variable variables.items)) }
 {
-    let shown = all_variables(alloc, variables)?;
-    let body = dap_bodies::variables(alloc, shown)?;
+    let body = dap_bodies::variables(alloc, all_variables(alloc, variables)?)?;
     Ok(Reply::with_body(alloc, body))
 }
 
@@ -418,14 +377,8 @@ fn reference_inside(number: Option<usize>) -> u64
     ensures { result ≡ reference_inside number }
 {
     match number {
-        None => 0,
-        Some(number) => {
-            if number < NUMBER_LIMIT {
-                INSIDE_BASE + 1 + number as u64
-            } else {
-                0
-            }
-        }
+        Some(number) if number < NUMBER_LIMIT => INSIDE_BASE + 1 + number as u64,
+        _ => 0,
     }
 }
 
@@ -448,10 +401,7 @@ fn evaluate<L: Language>(
         return Reply::refused(alloc, "no such frame is alive");
     };
     match program.evaluate(alloc, frame, expression)? {
-        Evaluated::Value(value, _) => {
-            let body = evaluated(alloc, value, 0)?;
-            Ok(Reply::with_body(alloc, body))
-        }
+        Evaluated::Value(value, _) => Ok(Reply::with_body(alloc, evaluated(alloc, value, 0)?)),
         Evaluated::NoValue(why) => Reply::refused(alloc, shown_text(why)?.as_str()),
     }
 }

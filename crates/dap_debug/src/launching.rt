@@ -4,7 +4,7 @@ ghost use Rattle.std.specs.Prelude.{◌≡◌, IfOk, Ok, Some, codes, option_map
 ghost use Rattle.serde_json.specs.View.{view};
 ghost use Rattle.dap_server.specs.Messages.{plain_reply};
 ghost use Rattle.dap_bodies.specs.Arguments.{text_at};
-ghost use Rattle.dap_debug.specs.Loading.{IsJsonOf, Launches, LoadsRead, LoadsText, reads_by, situation, unread_text};
+ghost use Rattle.dap_debug.specs.Loading.{IsJsonOf, Launches, LoadsRead, reads_by, situation, unread_text};
 ghost use Rattle.dap_debug.specs.Standings.{standing};
 
 use crate::state::{Phase, State};
@@ -64,21 +64,6 @@ impl<L: Language> State<L> {
         if bytes.len() > TEXT_LIMIT {
             return Reply::refused(alloc, "tooLong");
         }
-        self.load_text(alloc, arguments, path, bytes)
-    }
-
-    /// Loads the program of these bytes, which the file at this path has.
-    fn load_text(
-        &mut self,
-        alloc: Global,
-        arguments: Option<&Value>,
-        path: &str,
-        bytes: Vec<u8>,
-    ) -> Result<Reply, AllocError>
-        requires { text_at (codes "program") (option_map (λ v. view v.now) arguments) ≡ Some path.now }
-        ensures { IfOk result (λ reply. LoadsText L.shows.reads_as (option_map (λ v. view v.now) arguments.entry)
-            bytes.items (standing self.old) (plain_reply reply) (standing self.new)) }
-    {
         let Ok(source) = String::from_utf8(bytes) else {
             return Reply::refused(alloc, "the program isn't UTF-8");
         };

@@ -1,6 +1,6 @@
 //! Starting a program, and letting it go on.
 
-ghost use Rattle.std.specs.Prelude.{◌≡◌, ◌++◌, [], None, IfOk, map, option_map};
+ghost use Rattle.std.specs.Prelude.{◌≡◌, [], None, IfOk, map, option_map};
 ghost use Rattle.dap_server.specs.Messages.{plain_event, plain_reply};
 ghost use Rattle.debuggee.specs.Plain.{plain_breakpoint, plain_fault, plain_halt};
 ghost use Rattle.dap_debug.specs.Standings.{standing};
@@ -59,8 +59,9 @@ impl<L: Language> State<L> {
     {
         match mem::replace(&mut self.phase, Phase::NoProgram) {
             Phase::Configuring(program, stop_on_entry) => {
-                let events = self.arrive_and_go_on(alloc, program, stop_on_entry)?;
-                Ok(done_with(alloc, events))
+                let mut reply = Reply::done(alloc);
+                reply.events = self.arrive_and_go_on(alloc, program, stop_on_entry)?;
+                Ok(reply)
             }
             phase => {
                 self.phase = phase;
@@ -83,8 +84,8 @@ impl<L: Language> State<L> {
         let ran = arrive_first(alloc, program, &mut self.breakpoints)?;
         self.phase = ran.phase;
         self.fault = ran.fault;
-        let more = self.go_on(alloc, stop_on_entry)?;
-        let events = joined(ran.events, more)?;
+        let mut events = ran.events;
+        events.append(&mut self.go_on(alloc, stop_on_entry)?)?;
         Ok(events)
     }
 
@@ -205,26 +206,6 @@ fn arrive_first<L: Language>(
         fault: fault_of(halt),
         events,
     })
-}
-
-/// Returns events, and then others.
-fn joined(first: Vec<Event>, more: Vec<Event>) -> Result<Vec<Event>, AllocError>
-    ensures { IfOk result (λ all. map plain_event all.items
-        ≡ map plain_event first.items ++ map plain_event more.items) }
-{
-    let mut all = first;
-    let mut others = more;
-    all.append(&mut others)?;
-    Ok(all)
-}
-
-/// Returns a successful response with no body, and these events after it.
-fn done_with(alloc: Global, events: Vec<Event>) -> Reply
-    ensures { plain_reply result ≡ success None (map plain_event events.items) }
-{
-    let mut reply = Reply::done(alloc);
-    reply.events = events;
-    reply
 }
 
 /// Runs a program for a slice.

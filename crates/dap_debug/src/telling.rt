@@ -4,7 +4,7 @@ ghost use Rattle.std.specs.Prelude.{◌≡◌, ◌++◌, ◌∷◌, [], IfOk, On
 ghost use Rattle.dap_server.specs.Messages.{plain_event};
 ghost use Rattle.debuggee.specs.Plain.{plain_halt, plain_output};
 ghost use Rattle.dap_bodies.specs.Events.{output};
-ghost use Rattle.dap_debug.specs.Telling.{Added, AddsEvents, TellAll, TellOne, TellPieces, Tells, end_with, merge, merged, told_end};
+ghost use Rattle.dap_debug.specs.Telling.{AddsEvents, TellAll, TellOne, TellPieces, Tells, end_with, merge, merged, told_end};
 
 use dap_bodies::{exited, output, split_text, stopped, terminated};
 use dap_server::Event;
@@ -141,8 +141,8 @@ fn tell_piece(
 
 /// Adds why a run halted, if it did.
 fn tell_end(alloc: Global, halt: &Option<Halt>, events: &mut Vec<Event>) -> Result<(), AllocError>
-    ensures { OnOk result (Added (told_end (option_map plain_halt halt.now)) (map plain_event events.old.items)
-        (map plain_event events.new.items)) }
+    ensures { OnOk result (map plain_event events.new.items ≡
+        map plain_event events.old.items ++ told_end (option_map plain_halt halt.now)) }
 {
     match halt {
         None => {}
