@@ -7,10 +7,10 @@ pub use Rattle.pl0_machine.specs.declared.outcome.StepOutcome.TheVariants.{Done,
 pub use Rattle.pl0_meaning.proofs.Linking.{at_next, frame_at-below, frame_at-top, frame_within}
 pub use Rattle.pl0_meaning.specs.Values.{Configuration, Frame, frame_at, next_step, number_of, truth, value}
 pub use Rattle.pl0_tool.specs.Drawing.{behind, is_begun, IsHead, IsReturn}
-pub use Rattle.pl0_tool.specs.Faulting.{fault_report, first_line, frame_line, frame_lines, more_line, place_line, shown}
+pub use Rattle.pl0_tool.specs.Faulting.{fault_report, first_line, frame_line, frame_lines, more_line, place_line}
 pub use Rattle.pl0_tool.specs.Pending.{Holds}
 pub use Rattle.pl0_tool.specs.Running.{HasRun, IsLast, lines_between, number_lines, Ran, told_numbers}
-pub use Rattle.pl0_tool.specs.Tracing.{at_position, IsFrameRow, IsRow, IsTold, numbers_in, step_before}
+pub use Rattle.pl0_tool.specs.Tracing.{at_position, IsFrameRow, IsRow, IsTold, numbers_in, step_before, told_frames}
 pub use Rattle.pl0_tree.specs.Blocks.{AreNestings, frame_name}
 pub use Rattle.pl0_tree.specs.Scope.{block_at, home, Path}
 pub use Rattle.pl0_tree.specs.Steps.{AreSteps, blocks, StepAt, steps}

@@ -1,5 +1,5 @@
 -- What is told of a fault: lines that are added one by one, and the places of steps.
-use Rattle.pl0_tool.proofs.Common.{[], add-one, ap, append_assoc, blocks, depth_of, Frame, frame_line, frame_lines, frame_name, frame_of, FrameView, get_or, length, List, min, more_line, next_step, None, Option, option_map, option_map_or, Path, place_line, program, program_of, refl, same_Some, shown, Shows, slice_get, Some, Standing, StepAt, sym, ℕ, ◌++◌, ◌+◌, ◌-◌, ◌<◌, ◌∙◌, ◌≡◌}
+use Rattle.pl0_tool.proofs.Common.{[], add-one, ap, append_assoc, blocks, depth_of, Frame, frame_line, frame_lines, frame_name, frame_of, FrameView, get_or, length, List, min, more_line, next_step, None, Option, option_map, option_map_or, Path, place_line, program, program_of, refl, same_Some, told_frames, Shows, slice_get, Some, Standing, StepAt, sym, ℕ, ◌++◌, ◌+◌, ◌-◌, ◌<◌, ◌∙◌, ◌≡◌}
 use Rattle.pl0_tree.specs.declared.tree.Place.{Place}
 use Rattle.pl0_tree.specs.declared.step.Step.{Step}
 use Rattle.pl0_unit.specs.declared.unit.Unit.{Unit as Compiled}
@@ -49,11 +49,11 @@ lines_more file m first report line n frame at told is =
 
 -- all lines: the first, those of the frames that are told, and that of the rest
 pub all_lines : (file : List ℕ) (m : Standing) (first report line : List ℕ) (n more : ℕ)
-    → n ≡ min (depth_of m) shown → more ≡ depth_of m - shown → report ≡ first ++ frame_lines file m n
+    → n ≡ min (depth_of m) told_frames → more ≡ depth_of m - told_frames → report ≡ first ++ frame_lines file m n
     → line ≡ more_line more → report ++ line ≡ with_frames first file m
 all_lines file m first report line n more at left told is =
-    let lines = frame_lines file m (min (depth_of m) shown) in
-    let rest = more_line (depth_of m - shown) in
+    let lines = frame_lines file m (min (depth_of m) told_frames) in
+    let rest = more_line (depth_of m - told_frames) in
     ap (λ l. report ++ l) (is ∙ ap (λ k. more_line k) left)
     ∙ ap (λ l. l ++ rest) (told ∙ ap (λ k. first ++ frame_lines file m k) at)
     ∙ append_assoc first lines rest

@@ -352,13 +352,7 @@ pub slice_over : WrittenJoins → (limit : ℕ) (start now new : Standing) (resu
 slice_over joins limit start now new result before after came r (inl (is, wrote)) =
     let came_here = (stretched_on joins limit start now new came r).0 in
     subst (λ r. HasRunSlice limit r start new before after) (sym is)
-    (record {
-      steps = came_here.0;
-      led = came_here.1;
-      there = r.ran.1;
-      running = r.ran.0.running;
-      wrote = wrote;
-    })
+    ((came_here.0, came_here.1, r.ran.0.running, wrote), r.ran.1)
 slice_over joins limit start now new result before after came r (inr (is, failed)) =
     let came_here = (stretched_on joins limit start now new came r).0 in
     let there : new.position ≡ limit = r.ran.1 in

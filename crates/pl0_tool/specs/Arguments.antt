@@ -32,18 +32,9 @@ number_option name least most = record (new_rule name) {
   parser = Some (Unsigned least most);
 }
 
--- the flag by which the machine is drawn
-abbrev pub machine_flag : Rule
-machine_flag = record (new_rule (codes "machine")) { long = Some (codes "machine"); action = Some SetTrue }
-
--- the flag by which instructions are told
-abbrev pub instructions_flag : Rule
-instructions_flag =
-    record (new_rule (codes "instructions")) { long = Some (codes "instructions"); action = Some SetTrue }
-
--- the flag by which the names are listed
-abbrev pub names_flag : Rule
-names_flag = record (new_rule (codes "names")) { long = Some (codes "names"); action = Some SetTrue }
+-- a flag
+abbrev pub flag : Text → Rule
+flag name = record (new_rule name) { long = Some name; action = Some SetTrue }
 
 -- a command with these arguments
 abbrev pub command_with : Text → List Rule → Shape
@@ -75,19 +66,16 @@ run_command = command_with (codes "run") (one_file ∷ number_option (codes "ste
 abbrev pub trace_command : Shape
 trace_command =
     command_with (codes "trace") (one_file ∷ number_option (codes "from") 0 usize_max
-    ∷ number_option (codes "steps") 1 most_steps ∷ machine_flag ∷ instructions_flag ∷ [])
+    ∷ number_option (codes "steps") 1 most_steps ∷ flag (codes "machine") ∷ flag (codes "instructions") ∷ [])
 
 abbrev pub check_command : Shape
 check_command = command_with (codes "check") (files ∷ [])
 
 abbrev pub list_command : Shape
-list_command = command_with (codes "list") (one_file ∷ names_flag ∷ [])
+list_command = command_with (codes "list") (one_file ∷ flag (codes "names") ∷ [])
 
-abbrev pub tree_command : Shape
-tree_command = command_with (codes "tree") (one_file ∷ [])
-
-abbrev pub tokens_command : Shape
-tokens_command = command_with (codes "tokens") (one_file ∷ [])
+abbrev pub file_command : Text → Shape
+file_command name = command_with name (one_file ∷ [])
 
 -- a command, below which there is none
 abbrev pub alone : Shape → App
@@ -96,7 +84,8 @@ alone command = record { top = command; subs = [] }
 abbrev pub command_line : App
 command_line =
     with_subcommand (with_subcommand (with_subcommand (with_subcommand (with_subcommand (with_subcommand program
-    run_command) trace_command) check_command) list_command) tree_command) tokens_command
+    run_command) trace_command) check_command) list_command) (file_command (codes "tree")))
+    (file_command (codes "tokens"))
 
 -- ---- what is asked for
 

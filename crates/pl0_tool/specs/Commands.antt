@@ -46,18 +46,19 @@ RunTells limit file start report before after =
 
 -- ---- a trace
 
-abbrev pub goes_on_line : ℕ → List ℕ
-goes_on_line position = codes "pl0: the run goes on at position " ++ (decimal position ++ codes "\n")
-
-abbrev pub ends_line : ℕ → List ℕ
-ends_line position = codes "pl0: the run ends at position " ++ (decimal position ++ codes "\n")
+-- the line that says where a run goes on or ends
+abbrev pub position_line : List ℕ → ℕ → List ℕ
+position_line does position =
+    codes "pl0: the run " ++ (does ++ (codes " at position " ++ (decimal position ++ codes "\n")))
 
 -- What is told, by how the trace ended where a machine stands: what is pending of the table, and where the run goes on,
 -- ended before the first position or faults. Where the output failed nothing is.
 abbrev pub IsTraceReport : TraceEnd → List ℕ → Standing → List ℕ → Report → Type 0
-IsTraceReport GoesOn file m pending report = IsReport pending (goes_on_line m.position) Success report
+IsTraceReport GoesOn file m pending report =
+    IsReport pending (position_line (codes "goes on") m.position) Success report
 IsTraceReport TraceEnded file m pending report = IsReport pending [] Success report
-IsTraceReport EndedBefore file m pending report = IsReport pending (ends_line m.position) Success report
+IsTraceReport EndedBefore file m pending report =
+    IsReport pending (position_line (codes "ends") m.position) Success report
 IsTraceReport (TraceFaulted fault) file m pending report = IsReport pending (fault_report file m fault) Fault report
 IsTraceReport TraceUnwritten file m pending report = IsReport [] [] Unwritten report
 

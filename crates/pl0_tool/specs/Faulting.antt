@@ -8,7 +8,7 @@ use Rattle.pl0_meaning.specs.declared.RunFault.{RunFault}
 use Rattle.pl0_meaning.specs.Values.{Frame, next_step}
 use Rattle.pl0_machine.specs.Machine.{Standing, program, frame_of, depth_of}
 use Rattle.pl0_mistakes.specs.Lines.{fault_line, message_line}
-use Rattle.pl0_tool.specs.Tracing.{step_before}
+use Rattle.pl0_tool.specs.Tracing.{step_before, told_frames}
 
 -- the line of a fault at the step that comes next
 abbrev pub first_line : List ℕ → Standing → RunFault → List ℕ
@@ -39,10 +39,7 @@ frame_lines file m zero = []
 frame_lines file m (suc n) =
     frame_lines file m n ++ frame_line file (program m) (frame_of m (depth_of m - 1 - n))
 
--- how many frames are told, and how many are left out
-abbrev pub shown : ℕ
-shown = 16
-
+-- how many frames are left out
 abbrev pub more_line : ℕ → List ℕ
 more_line zero = []
 more_line (suc n) = codes "  and " ++ (decimal (suc n) ++ codes " more\n")
@@ -50,7 +47,7 @@ more_line (suc n) = codes "  and " ++ (decimal (suc n) ++ codes " more\n")
 -- a line, and under it those of frames
 abbrev pub with_frames : List ℕ → List ℕ → Standing → List ℕ
 with_frames first file m =
-    first ++ (frame_lines file m (min (depth_of m) shown) ++ more_line (depth_of m - shown))
+    first ++ (frame_lines file m (min (depth_of m) told_frames) ++ more_line (depth_of m - told_frames))
 
 abbrev pub fault_report : List ℕ → Standing → RunFault → List ℕ
 fault_report file m fault = with_frames (first_line file m fault) file m

@@ -15,15 +15,12 @@ status_of Unwritten = 3
 status_of NotUnderstood = 4
 status_of Stopped = 5
 
--- how two commands end, one after the other: as the one of the greater status
-abbrev pub joined_ending : Ending → Ending → Ending
-joined_ending first next = if nat_lt (status_of first) (status_of next) then next else first
-
--- what two commands tell, one after the other
+-- what two commands tell, one after the other, which end as the one of the greater status
 pub record IsSum (first next sum : Report) : Type 0 where
   pub output : sum.output.items ≡ first.output.items ++ next.output.items
   pub errors : sum.errors.items ≡ first.errors.items ++ next.errors.items
-  pub ending : sum.ending ≡ joined_ending first.ending next.ending
+  pub ending :
+      sum.ending ≡ (if nat_lt (status_of first.ending) (status_of next.ending) then next.ending else first.ending)
 
 -- A report was told: its bytes for the output were written, and the command ends as the report says; or the output
 -- failed in them. Its bytes for standard error were written, or a prefix of them.

@@ -74,16 +74,8 @@ IsWithin limit end m = m.position ≤ limit
 abbrev pub slice_steps : ℕ
 slice_steps = 65536
 
--- A slice of a run is over at its limit, and the run goes on: all that its steps wrote was written.
-pub record RunsOn (limit : ℕ) (old new : Standing) (before after : Output) : Type 0 where
-  pub steps : ℕ
-  pub led : new ≡ ahead old steps
-  pub there : new.position ≡ limit
-  pub running : 0 < depth_of new
-  pub wrote : WritesAll (lines_between old new) before after
-
--- a slice after which the run goes on, or with which it ended
+-- a slice that stops at its limit, where the run goes on, or with which it ended
 abbrev pub HasRunSlice : ℕ → Option RunEnd → Standing → Standing → Output → Output → Type 0
-HasRunSlice limit None old new before after = RunsOn limit old new before after
+HasRunSlice limit None old new before after = HasRun StoppedAt old new before after × (new.position ≡ limit)
 HasRunSlice limit (Some StoppedAt) old new before after = ⊥
 HasRunSlice limit (Some end) old new before after = HasRun end old new before after × (new.position ≤ limit)

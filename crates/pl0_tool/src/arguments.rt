@@ -1,11 +1,10 @@
 //! What the command line asks for, as `clap` reads it.
 
 ghost use Rattle.std.specs.Prelude.{◌≡◌, IfOk, map, false, [], codes, unwrap_or};
-ghost use Rattle.clap.specs.Lexer.{usize_max};
 ghost use Rattle.clap.specs.Words.{all_of, app_of, found_of, one_of, rows_of, rule_of};
 ghost use Rattle.pl0_tool.specs.Arguments.{IsNumber, IsParsed, IsTask, alone, command_line, program};
-ghost use Rattle.pl0_tool.specs.Arguments.{check_command, list_command, run_command, tokens_command, trace_command, tree_command};
-ghost use Rattle.pl0_tool.specs.Arguments.{files, instructions_flag, machine_flag, most_steps, names_flag, number_option, one_file};
+ghost use Rattle.pl0_tool.specs.Arguments.{check_command, file_command, list_command, run_command, trace_command};
+ghost use Rattle.pl0_tool.specs.Arguments.{files, flag, number_option, one_file};
 
 use crate::tracing::View;
 use clap::builder::ValueParser;
@@ -52,6 +51,27 @@ Exit status:
   3  a file can't be read, the output failed, or memory ran out
   4  the command line was not understood
   5  the program's run was stopped after as many steps as it may take";
+
+// What `--help` says of commands and options.
+const TREE_ABOUT: &str = "Draw the tree of a program, with the level and address of each name";
+
+const TOKENS_ABOUT: &str =
+    "Show the tokens of a text: place, kind and text of each, and its first mistake";
+
+const LIMIT_HELP: &str =
+    "How many steps may be taken; the run is stopped before the next one, with status 5";
+
+const FROM_HELP: &str = "The position to begin at; 0 if not given";
+
+const STEPS_HELP: &str = "How many steps to tell, 65,536 at most; 100 if not given";
+
+const MACHINE_HELP: &str =
+    "Show the machine: P, B and T, and of each frame its first cell, links and return address";
+
+const INSTRUCTIONS_HELP: &str =
+    "Show the instructions of each step, with the operands on the stack before each";
+
+const NAMES_HELP: &str = "List the names instead, with the level and address of each";
 
 /// Reads the arguments, the program's name first.
 ///
@@ -137,8 +157,8 @@ fn command_line<'a>(alloc: Global) -> Result<Command<'a>, AllocError>
         .subcommand(trace_command(alloc)?)?
         .subcommand(check_command(alloc)?)?
         .subcommand(list_command(alloc)?)?
-        .subcommand(tree_command(alloc)?)?
-        .subcommand(tokens_command(alloc)?)
+        .subcommand(file_command(alloc, "tree", TREE_ABOUT)?)?
+        .subcommand(file_command(alloc, "tokens", TOKENS_ABOUT)?)
 }
 
 /// Returns the program, without its commands.
@@ -161,7 +181,7 @@ fn run_command<'a>(alloc: Global) -> Result<Command<'a>, AllocError>
     Command::new(alloc, "run")
         .about("Run a program: each number that it writes is a line")
         .arg(one_file(alloc))?
-        .arg(limit(alloc))
+        .arg(number_option(alloc, "steps", 1, u64::MAX, LIMIT_HELP))
 }
 
 /// Returns the command that traces a program.
@@ -173,10 +193,10 @@ fn trace_command<'a>(alloc: Global) -> Result<Command<'a>, AllocError>
             "Tell a run step by step: place, source, what is written, and the frames before the step",
         )
         .arg(one_file(alloc))?
-        .arg(from(alloc))?
-        .arg(steps(alloc))?
-        .arg(machine(alloc))?
-        .arg(instructions(alloc))
+        .arg(number_option(alloc, "from", 0, u64::MAX, FROM_HELP))?
+        .arg(number_option(alloc, "steps", 1, MOST_STEPS, STEPS_HELP))?
+        .arg(flag(alloc, "machine", MACHINE_HELP))?
+        .arg(flag(alloc, "instructions", INSTRUCTIONS_HELP))
 }
 
 /// Returns the command that checks texts.
@@ -197,25 +217,14 @@ fn list_command<'a>(alloc: Global) -> Result<Command<'a>, AllocError>
     Command::new(alloc, "list")
         .about("List the machine's code under each line of a program, or its names")
         .arg(one_file(alloc))?
-        .arg(names(alloc))
+        .arg(flag(alloc, "names", NAMES_HELP))
 }
 
-/// Returns the command that draws a program's tree.
-fn tree_command<'a>(alloc: Global) -> Result<Command<'a>, AllocError>
-    ensures { IfOk result (λ command. app_of command ≡ alone tree_command) }
+/// Returns a command for one file, with no options.
+fn file_command<'a>(alloc: Global, name: &'a str, about: &'a str) -> Result<Command<'a>, AllocError>
+    ensures { IfOk result (λ command. app_of command ≡ alone (file_command name.entry.now)) }
 {
-    Command::new(alloc, "tree")
-        .about("Draw the tree of a program, with the level and address of each name")
-        .arg(one_file(alloc))
-}
-
-/// Returns the command that shows a text's tokens.
-fn tokens_command<'a>(alloc: Global) -> Result<Command<'a>, AllocError>
-    ensures { IfOk result (λ command. app_of command ≡ alone tokens_command) }
-{
-    Command::new(alloc, "tokens")
-        .about("Show the tokens of a text: place, kind and text of each, and its first mistake")
-        .arg(one_file(alloc))
+    Command::new(alloc, name).about(about).arg(one_file(alloc))
 }
 
 /// Returns the argument for the file that a command is for.
@@ -241,73 +250,25 @@ fn files<'a>(alloc: Global) -> Arg<'a>
         .help("Texts of programs; - is standard input")
 }
 
-/// Returns the option for the position at which a trace begins.
-fn from<'a>(alloc: Global) -> Arg<'a>
-    ensures rule { rule_of result ≡ number_option (codes "from") 0 usize_max }
+/// Returns an option with a number from `least` to `most`.
+fn number_option<'a>(alloc: Global, name: &'a str, least: u64, most: u64, help: &'a str) -> Arg<'a>
+    ensures rule { rule_of result ≡ number_option name.entry.now least most }
     ensures own { result.global ≡ false }
 {
-    Arg::new(alloc, "from")
-        .long("from")
+    Arg::new(alloc, name)
+        .long(name)
         .value_name("N")
-        .value_parser(ValueParser::unsigned(0, u64::MAX))
-        .help("The position to begin at; 0 if not given")
+        .value_parser(ValueParser::unsigned(least, most))
+        .help(help)
 }
 
-/// Returns the option for how many positions are traced.
-fn steps<'a>(alloc: Global) -> Arg<'a>
-    ensures rule { rule_of result ≡ number_option (codes "steps") 1 most_steps }
+/// Returns a flag.
+fn flag<'a>(alloc: Global, name: &'a str, help: &'a str) -> Arg<'a>
+    ensures rule { rule_of result ≡ flag name.entry.now }
     ensures own { result.global ≡ false }
 {
-    Arg::new(alloc, "steps")
-        .long("steps")
-        .value_name("N")
-        .value_parser(ValueParser::unsigned(1, MOST_STEPS))
-        .help("How many steps to tell, 65,536 at most; 100 if not given")
-}
-
-/// Returns the option for how many steps a run may take.
-fn limit<'a>(alloc: Global) -> Arg<'a>
-    ensures rule { rule_of result ≡ number_option (codes "steps") 1 usize_max }
-    ensures own { result.global ≡ false }
-{
-    Arg::new(alloc, "steps")
-        .long("steps")
-        .value_name("N")
-        .value_parser(ValueParser::unsigned(1, u64::MAX))
-        .help("How many steps may be taken; the run is stopped before the next one, with status 5")
-}
-
-/// Returns the flag by which the machine is drawn.
-fn machine<'a>(alloc: Global) -> Arg<'a>
-    ensures rule { rule_of result ≡ machine_flag }
-    ensures own { result.global ≡ false }
-{
-    Arg::new(alloc, "machine")
-        .long("machine")
+    Arg::new(alloc, name)
+        .long(name)
         .action(ArgAction::SetTrue)
-        .help(
-            "Show the machine: P, B and T, and of each frame its first cell, links and return address",
-        )
-}
-
-/// Returns the flag by which instructions are told.
-fn instructions<'a>(alloc: Global) -> Arg<'a>
-    ensures rule { rule_of result ≡ instructions_flag }
-    ensures own { result.global ≡ false }
-{
-    Arg::new(alloc, "instructions")
-        .long("instructions")
-        .action(ArgAction::SetTrue)
-        .help("Show the instructions of each step, with the operands on the stack before each")
-}
-
-/// Returns the flag by which the names are listed.
-fn names<'a>(alloc: Global) -> Arg<'a>
-    ensures rule { rule_of result ≡ names_flag }
-    ensures own { result.global ≡ false }
-{
-    Arg::new(alloc, "names")
-        .long("names")
-        .action(ArgAction::SetTrue)
-        .help("List the names instead, with the level and address of each")
+        .help(help)
 }

@@ -1,16 +1,17 @@
 //! The commands: what each one makes of a text.
 
-ghost use Rattle.std.specs.Prelude.{◌≡◌, ◌<◌, ◌≤◌, [], IfOk, MatchResult, string_bytes};
+ghost use Rattle.std.specs.Prelude.{◌<◌, ◌≤◌, [], IfOk, MatchResult};
 ghost use Rattle.pl0_tree.specs.Faults.{IsFirstFault};
 ghost use Rattle.pl0_machine.specs.Machine.{depth_of};
+ghost use Rattle.pl0_mistakes.specs.Warnings.{warning_lines};
 ghost use Rattle.pl0_tool.specs.Commands.{AreMistakesTold, IsPage, MistakeTells, PageTells, Tells, ProgramTells, RunTells, TraceTells, IsReport, start_of};
 ghost use Rattle.pl0_tool.specs.Commands.{WritesNumbers, ProgramWrites, StartTraces, StartWrites, WritesRun};
-ghost use Rattle.pl0_tool.specs.Commands.{IsRunReport, IsTraceReport, ends_line, goes_on_line};
+ghost use Rattle.pl0_tool.specs.Commands.{IsRunReport, IsTraceReport, position_line};
 ghost use Rattle.pl0_tool.specs.Faulting.{fault_report};
+ghost use Rattle.pl0_tool.specs.declared.report.Ending.TheVariants.{Success};
 ghost use Rattle.pl0_tool.specs.declared.running.RunEnd.TheVariants.{StoppedAt};
 
 use crate::arguments::Task;
-use crate::checking::check_program;
 use crate::fault::{fault_report, stop_report};
 use crate::listing::listing;
 use crate::report::{Ending, Report};
@@ -23,7 +24,7 @@ use byte_streams::Sink;
 use pl0_lessons::{name_table, program_tree};
 use pl0_machine::Machine;
 use pl0_meaning::RunFault;
-use pl0_mistakes::{mistake_line, mistake_lines};
+use pl0_mistakes::{mistake_line, mistake_lines, warning_lines};
 use pl0_tree::{FaultKind, Place, SyntaxFault};
 use pl0_unit::Unit;
 use std::alloc::{AllocError, Global};
@@ -163,6 +164,14 @@ fn page_told(page: Result<Vec<u8>, AllocError>, alloc: Global) -> Result<Report,
     Ok(Report::new(page?, Vec::new(alloc), Ending::Success))
 }
 
+/// Checks a program, which is warned of statements that are perhaps empty by mistake.
+fn check_program(alloc: Global, file: &str, unit: &Unit) -> Result<Report, AllocError>
+    ensures { IfOk result (IsReport [] (warning_lines file.now unit.now.tree.text.items) Success) }
+{
+    let warnings = warning_lines(alloc, file, unit.tree.text.as_slice())?;
+    Ok(Report::new(Vec::new(alloc), warnings, Ending::Success))
+}
+
 /// Lists a program, or its names.
 fn list_program(alloc: Global, unit: &Unit, names: bool) -> Result<Report, AllocError>
     ensures { IfOk result PageTells }
@@ -279,30 +288,23 @@ fn trace_report(
     ensures { IfOk result (IsTraceReport end file.now machine.now page.items) }
 {
     match end {
-        TraceEnd::GoesOn => {
-            let line = goes_on_line(alloc, machine.position())?;
-            Ok(Report::new(page, line.into_bytes(), Ending::Success))
-        }
+        TraceEnd::GoesOn => position_told(alloc, page, "goes on", machine.position()),
         TraceEnd::Ended => Ok(Report::new(page, Vec::new(alloc), Ending::Success)),
-        TraceEnd::EndedBefore => {
-            let line = ends_line(alloc, machine.position())?;
-            Ok(Report::new(page, line.into_bytes(), Ending::Success))
-        }
+        TraceEnd::EndedBefore => position_told(alloc, page, "ends", machine.position()),
         TraceEnd::Faulted(fault) => fault_told(alloc, file, machine, fault, page, Ending::Fault),
         TraceEnd::WriteFailed => Ok(nothing_told(alloc, Ending::Unwritten)),
     }
 }
 
-/// Returns the line that says where a run goes on.
-fn goes_on_line(alloc: Global, position: u64) -> Result<String, AllocError>
-    ensures { IfOk result (λ line. string_bytes line ≡ goes_on_line position) }
+/// Returns a report of these bytes for the output, and of a line that says where a run goes on or ends.
+fn position_told(
+    alloc: Global,
+    output: Vec<u8>,
+    does: &str,
+    position: u64,
+) -> Result<Report, AllocError>
+    ensures { IfOk result (IsReport output.items (position_line does.now position) Success) }
 {
-    format!(in alloc; "pl0: the run goes on at position {position}\n")
-}
-
-/// Returns the line that says where a run ended.
-fn ends_line(alloc: Global, position: u64) -> Result<String, AllocError>
-    ensures { IfOk result (λ line. string_bytes line ≡ ends_line position) }
-{
-    format!(in alloc; "pl0: the run ends at position {position}\n")
+    let line = format!(in alloc; "pl0: the run {does} at position {position}\n")?;
+    Ok(Report::new(output, line.into_bytes(), Ending::Success))
 }

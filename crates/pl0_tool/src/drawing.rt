@@ -3,7 +3,7 @@
 ghost use Rattle.std.specs.Prelude.{◌≡◌, ◌<◌, ◌≤◌, ◌+◌, IfOk, position};
 ghost use Rattle.pl0_machine.specs.Frames.{base_of};
 ghost use Rattle.pl0_machine.specs.Machine.{frames, frame_of, depth_of, variables_of};
-ghost use Rattle.pl0_tool.specs.Drawing.{IsDrawn, IsDrawing, IsHead, AreHeads, IsReturn, behind, is_begun};
+ghost use Rattle.pl0_tool.specs.Drawing.{IsDrawn, IsHead, AreHeads, IsReturn, behind, is_begun};
 
 use crate::tracing::variable_count;
 use pl0_machine::Machine;
@@ -50,29 +50,19 @@ pub fn draw_if(
     requires within { hidden ≤ depth_of machine.now }
     ensures { IfOk result (IsDrawn drawn machine.now hidden) }
 {
-    if drawn {
-        Ok(Some(draw(alloc, machine, hidden)?))
-    } else {
-        Ok(None)
+    if !drawn {
+        return Ok(None);
     }
-}
-
-/// Draws a machine.
-fn draw(alloc: Global, machine: &Machine, hidden: usize) -> Result<Drawing, AllocError>
-    requires alive { 0 < depth_of machine.now }
-    requires within { hidden ≤ depth_of machine.now }
-    ensures { IfOk result (IsDrawing machine.now hidden) }
-{
     let newest = machine.depth() - 1;
     let base = base(machine, newest)?;
     let above = above(machine, newest, base)?;
     let heads = heads_of(alloc, machine, hidden)?;
-    Ok(Drawing {
+    Ok(Some(Drawing {
         address: machine.address(),
         base,
         top: above - 1,
         heads,
-    })
+    }))
 }
 
 /// Returns the heads of a machine's frames without the oldest ones, of which `hidden` are left out.

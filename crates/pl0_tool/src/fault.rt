@@ -6,15 +6,13 @@ ghost use Rattle.pl0_tool.specs.Faulting.{fault_report, first_line, frame_line, 
 ghost use Rattle.pl0_tool.specs.Tracing.{step_before};
 
 use crate::blocks::frame_name;
+use crate::tracing::TOLD_FRAMES;
 use pl0_machine::Machine;
 use pl0_meaning::RunFault;
 use pl0_mistakes::fault_line;
 use pl0_tree::Place;
 use pl0_unit::Unit;
 use std::alloc::{AllocError, Global};
-
-/// How many frames are told, the newest first.
-const SHOWN: usize = 16;
 
 /// Returns the line of a fault of the step at which a machine stands, and under it a line for each of the newest frames
 /// that are alive, the newest first.
@@ -95,11 +93,11 @@ fn with_frames(
 {
     let mut report = first;
     let depth = machine.depth();
-    for index in 0..depth.min(SHOWN) {
+    for index in 0..depth.min(TOLD_FRAMES) {
         let line = frame_line(alloc, file, machine, depth - 1 - index)?;
         report.extend_from_slice(line.as_bytes())?;
     }
-    let more = more_line(alloc, depth.saturating_sub(SHOWN))?;
+    let more = more_line(alloc, depth.saturating_sub(TOLD_FRAMES))?;
     report.extend_from_slice(more.as_bytes())?;
     Ok(report)
 }

@@ -6,7 +6,7 @@ ghost use Rattle.pl0_meaning.specs.Values.{number_of};
 ghost use Rattle.pl0_machine.specs.Machine.{depth_of, frame_of, frames, number_up};
 ghost use Rattle.pl0_lessons.specs.Interpreter.{after, step_led, step_lines, with_number};
 ghost use Rattle.pl0_lessons.specs.Taken.{IsTaken};
-ghost use Rattle.pl0_tool.specs.Instructing.{HasBegun, IsBegun, finished};
+ghost use Rattle.pl0_tool.specs.Instructing.{IsBegun, finished};
 
 use crate::drawing::return_address;
 use crate::tracing::variable_count;
@@ -23,7 +23,8 @@ pub struct Begun {
     pub to: Option<usize>,
 }
 
-/// Tells the instructions of a machine's next step, if they are to be `told`.
+/// Tells the instructions of a machine's next step, if they are to be `told`, and at position 0 those that were passed on
+/// the way to it.
 ///
 /// # Errors
 ///
@@ -32,11 +33,17 @@ pub fn begin_if(told: bool, alloc: Global, machine: &Machine) -> Result<Option<B
     requires { 0 < depth_of machine.now }
     ensures { IfOk result (IsBegun told machine.now) }
 {
-    if told {
-        Ok(Some(begin(alloc, machine)?))
-    } else {
-        Ok(None)
+    if !told {
+        return Ok(None);
     }
+    let unit: &Unit = machine.unit();
+    let code: &[Instruction] = &unit.code;
+    let address = machine.address();
+    let back = return_address(machine, machine.depth() - 1);
+    let mut lines = Vec::new(alloc);
+    put_first(alloc, &mut lines, code, machine.position())?;
+    let to = put_step(alloc, &mut lines, machine, code, address, back)?;
+    Ok(Some(Begun { lines, to }))
 }
 
 /// Returns the lines of a step of this outcome, with what is passed behind it in its code.
@@ -60,21 +67,6 @@ pub fn finish(
         }
         None => Ok(Vec::new(alloc)),
     }
-}
-
-/// Tells the instructions of a machine's next step, and at position 0 those that were passed on the way to it.
-fn begin(alloc: Global, machine: &Machine) -> Result<Begun, AllocError>
-    requires { 0 < depth_of machine.now }
-    ensures { IfOk result (HasBegun machine.now) }
-{
-    let unit: &Unit = machine.unit();
-    let code: &[Instruction] = &unit.code;
-    let address = machine.address();
-    let back = return_address(machine, machine.depth() - 1);
-    let mut lines = Vec::new(alloc);
-    put_first(alloc, &mut lines, code, machine.position())?;
-    let to = put_step(alloc, &mut lines, machine, code, address, back)?;
-    Ok(Begun { lines, to })
 }
 
 /// Appends the lines of a step of a machine, whose code stands from an address on, and returns where it leads.

@@ -15,7 +15,6 @@
 mod answering;
 mod arguments;
 mod blocks;
-mod checking;
 mod commands;
 mod drawing;
 mod fault;

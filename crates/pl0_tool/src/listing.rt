@@ -44,31 +44,21 @@ fn put_lines<'a>(
 ) -> Result<&'a [u8], AllocError> {
     let mut left = text;
     for put in 0..count {
-        left = put_line(listed, left)?;
+        let Some((line, behind)) = first_line(left) else {
+            return Ok(left);
+        };
+        listed.extend_from_slice(line)?;
+        listed.push(b'\n')?;
+        left = behind;
     }
     Ok(left)
 }
 
-/// Appends the first line of a text that has one, and returns what follows it.
-fn put_line<'a>(listed: &mut Vec<u8>, text: &'a [u8]) -> Result<&'a [u8], AllocError> {
-    match first_line(text) {
-        None => Ok(text),
-        Some((line, left)) => {
-            listed.extend_from_slice(line)?;
-            listed.push(b'\n')?;
-            Ok(left)
-        }
-    }
-}
-
 /// Returns the line under which an instruction stands, by its number: that of its step, and 0 where it has none.
 fn line_of(unit: &Unit, address: usize, instruction: Instruction) -> u32 {
-    let Some(number) = step_of(unit, address, instruction) else {
-        return 0;
-    };
-    match unit.steps.get(number) {
-        Some(step) => step.place.line,
-        None => 0,
+    match step_of(unit, address, instruction) {
+        Some(number) if number < unit.steps.len() => unit.steps[number].place.line,
+        _ => 0,
     }
 }
 
@@ -103,10 +93,7 @@ fn first_begun(begun: &[Option<StepNumber>], address: usize) -> Option<StepNumbe
 
 /// Returns the step that the instruction at an address begins, if it begins one.
 fn step_at(unit: &Unit, address: usize) -> Option<StepNumber> {
-    match unit.begun_steps.get(address) {
-        Some(step) => *step,
-        None => None,
-    }
+    *unit.begun_steps.get(address)?
 }
 
 /// Appends an instruction.
@@ -124,8 +111,7 @@ fn put_instruction(
     put_right(listed, ADDRESS_WIDTH, number.as_bytes())?;
     listed.push(b' ')?;
     put_text(alloc, listed, instruction)?;
-    listed.push(b'\n')?;
-    Ok(())
+    listed.extend_from_slice(b"\n")
 }
 
 /// Returns the mark of a step that is begun, if one is.

@@ -1,6 +1,6 @@
 //! The program from its arguments to its exit status.
 
-ghost use Rattle.std.specs.Prelude.{◌≡◌, ◌≢◌, Result, IfOk, MatchBool, MatchResult, map, string_bytes};
+ghost use Rattle.std.specs.Prelude.{◌≡◌, ◌≢◌, Result, IfOk, MatchResult, map};
 ghost use Rattle.std.specs.Process.{exit_status};
 ghost use Rattle.byte_streams.specs.Streams.{output as output_at};
 ghost use Rattle.byte_streams.specs.declared.files.FileKinds.TheVariants.{All};
@@ -97,49 +97,17 @@ where
         (E.output errors.old) (E.output errors.new) }
 {
     match given {
-        Ok(given) => match collect_arguments(rt.alloc(), given) {
-            Ok(strings) => execute_strings(
-                rt,
-                strings.as_slice(),
-                files,
-                input,
-                output,
-                errors,
-                room,
-            ),
-            Err(AllocError) => no_memory(rt, errors),
-        },
+        Ok(given) => {
+            let Ok(strings) = collect_arguments(rt.alloc(), given) else {
+                return no_memory(rt, errors);
+            };
+            let Ok(arguments) = borrow_texts(rt.alloc(), strings.as_slice()) else {
+                return no_memory(rt, errors);
+            };
+            execute(rt, arguments.as_slice(), files, input, output, errors, room)
+        }
         Err(error) if error.kind() == io::ErrorKind::OutOfMemory => no_memory(rt, errors),
         Err(_) => not_text(rt, errors),
-    }
-}
-
-/// Does what the arguments ask for, as [`execute`] does.
-fn execute_strings<R, F, I, O, E>(
-    rt: &R,
-    arguments: &[String],
-    files: &mut F,
-    input: &mut I,
-    output: &mut O,
-    errors: &mut E,
-    room: usize,
-) -> Ending
-where
-    R: Wait + AllocGlobal,
-    F: Opener,
-    I: Source,
-    O: Sink,
-    E: Sink,
-    ensures { Executes (F.opens All) F.closes F.File.supply
-        (map string_bytes arguments.now) result
-        (origins files.old (I.supply input.old))
-        (origins files.new (I.supply input.new))
-        (O.output output.old) (O.output output.new)
-        (E.output errors.old) (E.output errors.new) }
-{
-    match borrow_texts(rt.alloc(), arguments) {
-        Ok(arguments) => execute(rt, arguments.as_slice(), files, input, output, errors, room),
-        Err(AllocError) => no_memory(rt, errors),
     }
 }
 

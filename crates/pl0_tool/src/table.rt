@@ -11,7 +11,7 @@ use crate::tracing::{FrameRow, Row, View};
 use pl0_lessons::{put_left_column, put_right, put_right_column};
 use pl0_machine::StepOutcome;
 use pl0_syntax::block;
-use pl0_tree::{Name, Place, StepKind};
+use pl0_tree::{Place, StepKind};
 use pl0_unit::Unit;
 use std::alloc::{AllocError, Global};
 
@@ -63,25 +63,17 @@ const RETURN_ADDRESS_WIDTH: usize = 14;
 ///
 /// `AllocError`, where an allocation failed.
 pub(crate) fn put_head(page: &mut Vec<u8>, view: View) -> Result<(), AllocError> {
-    put_text(page, STEP_HEAD)?;
-    put_text(page, state_head(view.machine))?;
-    put_text(page, instructions_head(view.instructions))?;
+    page.extend_from_slice(STEP_HEAD.as_bytes())?;
+    let state = if view.machine {
+        MACHINE_HEAD
+    } else {
+        FRAMES_HEAD
+    };
+    page.extend_from_slice(state.as_bytes())?;
+    if view.instructions {
+        page.extend_from_slice(INSTRUCTIONS_HEAD.as_bytes())?;
+    }
     Ok(())
-}
-
-/// Appends a text.
-fn put_text(page: &mut Vec<u8>, text: &str) -> Result<(), AllocError> {
-    page.extend_from_slice(text.as_bytes())
-}
-
-/// Returns what stands above the state of a machine.
-fn state_head(drawn: bool) -> &'static str {
-    if drawn { MACHINE_HEAD } else { FRAMES_HEAD }
-}
-
-/// Returns what stands above instructions, where they are told.
-fn instructions_head(told: bool) -> &'static str {
-    if told { INSTRUCTIONS_HEAD } else { "" }
 }
 
 /// Appends what is told of a position.
@@ -150,26 +142,15 @@ fn put_column(
 fn put_step(alloc: Global, page: &mut Vec<u8>, text: &[u8], row: &Row) -> Result<(), AllocError> {
     put_place(alloc, page, row.place)?;
     put_left_column(page, SOURCE_WIDTH, source(text, row.kind, row.place))?;
-    put_written(alloc, page, row.outcome)
-}
-
-/// Appends a place, and the space to the next column.
-fn put_place(alloc: Global, page: &mut Vec<u8>, place: Place) -> Result<(), AllocError> {
-    let place = place_text(alloc, place)?;
-    put_left_column(page, PLACE_WIDTH, place.as_bytes())
-}
-
-/// Appends the number that a step writes, if it writes one, and the space to the next column.
-fn put_written(alloc: Global, page: &mut Vec<u8>, outcome: StepOutcome) -> Result<(), AllocError> {
-    let written = written_text(alloc, outcome)?;
+    let written = written_text(alloc, row.outcome)?;
     put_right_column(page, WRITTEN_WIDTH, written.as_bytes())
 }
 
-/// Returns a place: its line and column.
-fn place_text(alloc: Global, place: Place) -> Result<String, AllocError> {
-    let line = place.line;
-    let column = place.column;
-    format!(in alloc; "{line}:{column}")
+/// Appends a place, and the space to the next column.
+pub(crate) fn put_place(alloc: Global, page: &mut Vec<u8>, place: Place) -> Result<(), AllocError> {
+    let Place { line, column } = place;
+    let place = format!(in alloc; "{line}:{column}")?;
+    put_left_column(page, PLACE_WIDTH, place.as_bytes())
 }
 
 /// Returns the number that a step writes, if it writes one.
@@ -206,38 +187,22 @@ fn line_at(text: &[u8], index: usize) -> &[u8] {
     }
 }
 
-/// Returns the length of the source at the beginning of a line.
+/// Returns the length of the source at the beginning of a line: up to its first semicolon or carriage return.
 fn source_length(line: &[u8]) -> usize {
-    source_end(line).unwrap_or(line.len())
-}
-
-/// Returns where a line has its first semicolon or carriage return.
-fn source_end(line: &[u8]) -> Option<usize> {
-    line.iter().position(|byte| ends_source(*byte))
-}
-
-/// Whether a byte ends a source: a semicolon or a carriage return.
-fn ends_source(byte: u8) -> bool {
-    byte == b';' || byte == b'\r'
+    let end = line.iter().position(|byte| matches!(*byte, b';' | b'\r'));
+    end.unwrap_or(line.len())
 }
 
 // ---- frames
 
 /// Appends the frames of a row, and ends the line.
 fn put_frames(alloc: Global, page: &mut Vec<u8>, unit: &Unit, row: &Row) -> Result<(), AllocError> {
-    let more = more_before(alloc, row.hidden)?;
-    page.extend_from_slice(more.as_bytes())?;
-    put_barred(alloc, page, unit, row.frames.as_slice())?;
-    page.extend_from_slice(b"\n")?;
-    Ok(())
-}
-
-/// Returns what says how many frames are left out, and nothing where none is.
-fn more_before(alloc: Global, hidden: usize) -> Result<String, AllocError> {
-    if hidden == 0 {
-        return Ok(String::new(alloc));
+    if row.hidden > 0 {
+        put_number(alloc, page, 0, row.hidden as u64)?;
+        page.extend_from_slice(b" more | ")?;
     }
-    format!(in alloc; "{hidden} more | ")
+    put_barred(alloc, page, unit, row.frames.as_slice())?;
+    page.extend_from_slice(b"\n")
 }
 
 /// Appends frames with a bar between them.
@@ -270,36 +235,17 @@ fn put_frame(
     }
     page.extend_from_slice(frame_name(unit, frame.block).as_bytes())?;
     let declaring = block(&unit.tree.program, &unit.nestings, frame.block);
-    put_variables(
-        alloc,
-        page,
-        declaring.variables.as_slice(),
-        frame.numbers.as_slice(),
-    )
-}
-
-/// Appends variables, each with its number.
-fn put_variables(
-    alloc: Global,
-    page: &mut Vec<u8>,
-    names: &[Name],
-    numbers: &[i64],
-) -> Result<(), AllocError> {
-    for index in 0..names.len().min(numbers.len()) {
-        let variable = variable_text(alloc, names[index].text.as_str(), numbers[index])?;
+    for (variable, number) in declaring.variables.iter().zip(frame.numbers.iter()) {
+        let name = variable.text.as_str();
+        let variable = format!(in alloc; " {name}={number}")?;
         page.extend_from_slice(variable.as_bytes())?;
     }
     Ok(())
 }
 
-/// Returns a variable with its number, and a space before it.
-fn variable_text(alloc: Global, name: &str, number: i64) -> Result<String, AllocError> {
-    format!(in alloc; " {name}={number}")
-}
-
 // ---- the machine
 
-/// Appends the registers, ends the line, and appends a line for each frame, the newest first.
+/// Appends the registers, ends the line, and appends a line for each frame, the newest first, and how many are left out.
 fn put_machine(
     alloc: Global,
     page: &mut Vec<u8>,
@@ -308,14 +254,16 @@ fn put_machine(
     drawing: &Drawing,
 ) -> Result<(), AllocError> {
     put_registers(alloc, page, drawing)?;
-    put_frame_lines(
-        alloc,
-        page,
-        unit,
-        row.frames.as_slice(),
-        drawing.heads.as_slice(),
-    )?;
-    put_more(alloc, page, row.hidden)
+    let count = row.frames.len().min(drawing.heads.len());
+    for put in 0..count {
+        let frame = count - 1 - put;
+        put_frame_line(alloc, page, unit, &row.frames[frame], &drawing.heads[frame])?;
+    }
+    if row.hidden > 0 {
+        put_number(alloc, page, CELL_WIDTH, row.hidden as u64)?;
+        page.extend_from_slice(b" more\n")?;
+    }
+    Ok(())
 }
 
 /// Appends the registers, and ends the line.
@@ -323,24 +271,7 @@ fn put_registers(alloc: Global, page: &mut Vec<u8>, drawing: &Drawing) -> Result
     put_column(alloc, page, REGISTER_WIDTH, drawing.address as u64)?;
     put_column(alloc, page, REGISTER_WIDTH, drawing.base as u64)?;
     put_number(alloc, page, REGISTER_WIDTH, drawing.top as u64)?;
-    page.extend_from_slice(b"\n")?;
-    Ok(())
-}
-
-/// Appends a line for each frame, the newest first.
-fn put_frame_lines(
-    alloc: Global,
-    page: &mut Vec<u8>,
-    unit: &Unit,
-    frames: &[FrameRow],
-    heads: &[FrameHead],
-) -> Result<(), AllocError> {
-    let count = frames.len().min(heads.len());
-    for put in 0..count {
-        let frame = count - 1 - put;
-        put_frame_line(alloc, page, unit, &frames[frame], &heads[frame])?;
-    }
-    Ok(())
+    page.extend_from_slice(b"\n")
 }
 
 /// Appends the line of a frame.
@@ -361,15 +292,5 @@ fn put_frame_line(
         head.return_address as u64,
     )?;
     put_frame(alloc, page, unit, frame)?;
-    page.extend_from_slice(b"\n")?;
-    Ok(())
-}
-
-/// Appends a line that says how many frames are left out, and nothing where none is.
-fn put_more(alloc: Global, page: &mut Vec<u8>, hidden: usize) -> Result<(), AllocError> {
-    if hidden == 0 {
-        return Ok(());
-    }
-    put_number(alloc, page, CELL_WIDTH, hidden as u64)?;
-    page.extend_from_slice(b" more\n")
+    page.extend_from_slice(b"\n")
 }

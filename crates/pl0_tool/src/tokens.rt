@@ -1,5 +1,6 @@
 //! The tokens of a text.
 
+use crate::table::put_place;
 use pl0_lessons::put_left_column;
 use pl0_parser::tokenize;
 use pl0_tree::{Place, Symbol, SyntaxFault, Token};
@@ -7,9 +8,6 @@ use std::alloc::{AllocError, Global};
 
 /// What stands above the columns.
 const HEAD: &str = "place    kind     text\n";
-
-/// The width of the column of a place.
-const PLACE_WIDTH: usize = 7;
 
 /// The width of the column of a kind.
 const KIND_WIDTH: usize = 7;
@@ -94,14 +92,10 @@ fn put_row(
     token: &Token<'_>,
     spelling: &[u8],
 ) -> Result<(), AllocError> {
-    let line = token.place.line;
-    let column = token.place.column;
-    let place = format!(in alloc; "{line}:{column}")?;
-    put_left_column(page, PLACE_WIDTH, place.as_bytes())?;
+    put_place(alloc, page, token.place)?;
     put_left_column(page, KIND_WIDTH, kind(token.symbol, spelling).as_bytes())?;
     page.extend_from_slice(spelling)?;
-    page.push(b'\n')?;
-    Ok(())
+    page.extend_from_slice(b"\n")
 }
 
 /// Returns what a token is, by how it is written.

@@ -1,7 +1,7 @@
-use Rattle.std.proofs.Common.{◌≡◌, ◌∙◌, ap, ap₂, Bool}
+use Rattle.std.proofs.Common.{◌≡◌, ◌∙◌, ap, ap₂, Bool, codes}
 use Rattle.std.proofs.lemmas.Result.{IfOk-weaker}
 use Rattle.clap.specs.Words.{App, Shape, app_of, with_subcommand}
-use Rattle.pl0_tool.specs.Arguments.{check_command, list_command, program, run_command, trace_command, tree_command}
+use Rattle.pl0_tool.specs.Arguments.{check_command, file_command, list_command, program, run_command, trace_command}
 use Rattle.pl0_tool.proofs.CommandLine.{local_if_plain}
 use Rattle.pl0_tool.proofs.arguments.command_line.Goals as goal
 
@@ -37,9 +37,9 @@ returns c =
     c.in_ok-subcommand-4.ensures.shape (local_if_plain _ _ _ _ (ap is_plain c.in_ok-list_command.ensures))
     ∙ ap₂ with_subcommand has_check (ap top c.in_ok-list_command.ensures) in
     let has_tree : app_of c.in_ok-subcommand-5.field-0
-    ≡ with_subcommand (with_subcommand with_check list_command) tree_command =
-    c.in_ok-subcommand-5.ensures.shape (local_if_plain _ _ _ _ (ap is_plain c.in_ok-tree_command.ensures))
-    ∙ ap₂ with_subcommand has_list (ap top c.in_ok-tree_command.ensures) in
+    ≡ with_subcommand (with_subcommand with_check list_command) (file_command (codes "tree")) =
+    c.in_ok-subcommand-5.ensures.shape (local_if_plain _ _ _ _ (ap is_plain c.in_ok-file_command.ensures))
+    ∙ ap₂ with_subcommand has_list (ap top c.in_ok-file_command.ensures) in
     IfOk-weaker c.subcommand-6.result _ _ (λ command adds.
-    adds.shape (local_if_plain _ _ _ _ (ap is_plain c.in_ok-tokens_command.ensures))
-    ∙ ap₂ with_subcommand has_tree (ap top c.in_ok-tokens_command.ensures)) c.subcommand-6.ensures
+    adds.shape (local_if_plain _ _ _ _ (ap is_plain c.in_ok-file_command-2.ensures))
+    ∙ ap₂ with_subcommand has_tree (ap top c.in_ok-file_command-2.ensures)) c.subcommand-6.ensures

@@ -6,7 +6,7 @@ use Rattle.pl0_tool.proofs.arguments.run_command.Goals as goal
 
 pub returns : goal.returns
 returns c =
-    IfOk-weaker c.arg-2.result _ _ (λ command adds. adds.shape c.limit.ensures.own
+    IfOk-weaker c.arg-2.result _ _ (λ command adds. adds.shape c.number_option.ensures.own
     ∙ ap₂ with_rule (c.in_ok-arg.ensures.shape c.one_file.ensures.own
     ∙ ap₂ with_rule (ap app_of_fields c.about.ensures ∙ c.new.ensures.app) c.one_file.ensures.rule)
-    c.limit.ensures.rule) c.arg-2.ensures
+    c.number_option.ensures.rule) c.arg-2.ensures

@@ -3,7 +3,7 @@ use Rattle.std.proofs.lemmas.Result.{IfOk-weaker}
 use Rattle.clap.specs.Lexer.{usize_max}
 use Rattle.clap.specs.Words.{App, app_of, new_app, with_rule}
 use Rattle.clap.specs.Simple.{app_of_fields}
-use Rattle.pl0_tool.specs.Arguments.{machine_flag, most_steps, number_option, one_file}
+use Rattle.pl0_tool.specs.Arguments.{flag, most_steps, number_option, one_file}
 use Rattle.pl0_tool.proofs.arguments.trace_command.Goals as goal
 
 abbrev of_file : App
@@ -20,10 +20,10 @@ returns c =
     let has_file : app_of c.in_ok-arg.field-0 ≡ of_file = c.in_ok-arg.ensures.shape c.one_file.ensures.own
     ∙ ap₂ with_rule (ap app_of_fields c.about.ensures ∙ c.new.ensures.app) c.one_file.ensures.rule in
     let has_from : app_of c.in_ok-arg-2.field-0 ≡ from =
-    c.in_ok-arg-2.ensures.shape c.from.ensures.own ∙ ap₂ with_rule has_file c.from.ensures.rule in
+    c.in_ok-arg-2.ensures.shape c.number_option.ensures.own ∙ ap₂ with_rule has_file c.number_option.ensures.rule in
     let has_steps : app_of c.in_ok-arg-3.field-0 ≡ with_steps =
-    c.in_ok-arg-3.ensures.shape c.steps.ensures.own ∙ ap₂ with_rule has_from c.steps.ensures.rule in
-    let has_machine : app_of c.in_ok-arg-4.field-0 ≡ with_rule with_steps machine_flag =
-    c.in_ok-arg-4.ensures.shape c.machine.ensures.own ∙ ap₂ with_rule has_steps c.machine.ensures.rule in
-    IfOk-weaker c.arg-5.result _ _ (λ command adds. adds.shape c.instructions.ensures.own
-    ∙ ap₂ with_rule has_machine c.instructions.ensures.rule) c.arg-5.ensures
+    c.in_ok-arg-3.ensures.shape c.number_option-2.ensures.own ∙ ap₂ with_rule has_from c.number_option-2.ensures.rule in
+    let has_machine : app_of c.in_ok-arg-4.field-0 ≡ with_rule with_steps (flag (codes "machine")) =
+    c.in_ok-arg-4.ensures.shape c.flag.ensures.own ∙ ap₂ with_rule has_steps c.flag.ensures.rule in
+    IfOk-weaker c.arg-5.result _ _ (λ command adds. adds.shape c.flag-2.ensures.own
+    ∙ ap₂ with_rule has_machine c.flag-2.ensures.rule) c.arg-5.ensures

@@ -1,4 +1,4 @@
-use Rattle.pl0_tool.proofs.Common.{ap, arith, min, shown, ◌-◌, ◌∙◌, ◌≡◌}
+use Rattle.pl0_tool.proofs.Common.{ap, arith, min, told_frames, ◌-◌, ◌∙◌, ◌≡◌}
 use Rattle.pl0_tool.proofs.FaultLines.{lines_more, all_lines}
 use Rattle.pl0_tool.proofs.fault.with_frames.Goals as goal
 
@@ -19,6 +19,6 @@ returns c =
     c.in_ok-extend_from_slice-2.ensures.items
     ∙ all_lines c.args.file.now c.args.machine.now c.args.first.items c.loop-index.report.items c.as_bytes-2.result.now
     c.loop-index.index c.saturating_sub.result
-    (at ∙ c.min-index-end.ensures ∙ ap (λ d. min d shown) c.depth-depth.ensures.depth)
-    (c.saturating_sub.ensures ∙ ap (λ d. d - shown) c.depth-depth.ensures.depth) c.loop-index.invariant
+    (at ∙ c.min-index-end.ensures ∙ ap (λ d. min d told_frames) c.depth-depth.ensures.depth)
+    (c.saturating_sub.ensures ∙ ap (λ d. d - told_frames) c.depth-depth.ensures.depth) c.loop-index.invariant
     (c.as_bytes-2.ensures.value ∙ c.in_ok-more.ensures)

@@ -20,12 +20,11 @@ returns-then-until-limit-clause-ran g c =
     let mid = c.slices.machine in
     let new = c.run_slice.new.machine in
     let came = c.slices.invariant.1 in
-    let on = c.in-None-run_slice.ensures.ran in (
-      came.0 + on.steps,
-      came_both start mid new came.0 on.steps came.1 on.led,
-      on.running,
-      written_join c.meaning_laws.ensures.joins start mid new came.0 on.steps _ _ _ came.1 on.led
-          c.slices.invariant.3 on.wrote,
+    let on = c.in-None-run_slice.ensures.ran.0 in (
+      came.0 + on.0,
+      came_both start mid new came.0 on.0 came.1 on.1,
+      on.2,
+      written_join c.meaning_laws.ensures.joins start mid new came.0 on.0 _ _ _ came.1 on.1 c.slices.invariant.3 on.3,
     )
 
 pub slices-preserved : goal.slices-preserved
@@ -34,11 +33,11 @@ slices-preserved g c =
     let mid = c.slices.machine in
     let new = c.run_slice.new.machine in
     let came = c.slices.invariant.1 in
-    let on = c.in-None-run_slice.ensures.ran in (
-      on.running,
-      (came.0 + on.steps, came_both start mid new came.0 on.steps came.1 on.led),
+    let on = c.in-None-run_slice.ensures.ran.0 in (
+      on.2,
+      (came.0 + on.0, came_both start mid new came.0 on.0 came.1 on.1),
       c.in-None-run_slice.ensures.empty refl,
-      written_join c.meaning_laws.ensures.joins start mid new came.0 on.steps _ _ _ came.1 on.led
-          c.slices.invariant.3 on.wrote,
-      (let there = on.there in let short = c.slice_end-until.ensures.within in omega (arith, there, short)),
+      written_join c.meaning_laws.ensures.joins start mid new came.0 on.0 _ _ _ came.1 on.1 c.slices.invariant.3 on.3,
+      (let there = c.in-None-run_slice.ensures.ran.1 in let short = c.slice_end-until.ensures.within in
+          omega (arith, there, short)),
     )

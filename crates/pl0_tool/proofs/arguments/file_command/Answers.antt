@@ -2,7 +2,7 @@ use Rattle.std.proofs.Common.{◌∙◌, ap, ap₂}
 use Rattle.std.proofs.lemmas.Result.{IfOk-weaker}
 use Rattle.clap.specs.Words.{with_rule}
 use Rattle.clap.specs.Simple.{app_of_fields}
-use Rattle.pl0_tool.proofs.arguments.tree_command.Goals as goal
+use Rattle.pl0_tool.proofs.arguments.file_command.Goals as goal
 
 pub returns : goal.returns
 returns c =
