@@ -5,6 +5,8 @@ use Rattle.clap.specs.Words.{new_app, new_rule, with_rule}
 use Rattle.clap.specs.declared.builder.action.ArgAction.TheVariants.{Set}
 use Rattle.clap.specs.declared.error.kind.ErrorKind.{ErrorKind}
 use Rattle.clap.specs.declared.error.kind.ErrorKind.TheVariants.{DisplayHelp}
+use Rattle.byte_streams.specs.declared.files.FileKinds.{FileKinds}
+use Rattle.byte_streams.specs.declared.files.FileKinds.TheVariants.{All, Regular}
 use Rattle.adapter.specs.declared.arguments.Invocation.{Invocation}
 use Rattle.adapter.specs.declared.arguments.Invocation.TheVariants.{Serve, Check}
 use Rattle.adapter.specs.declared.arguments.ArgumentsFault.{ArgumentsFault}
@@ -42,3 +44,9 @@ IsParsed arguments (Err Help) = refusals arguments ≡ DisplayHelp ∷ []
 IsParsed arguments (Err NotUnderstood) =
     (kind : ErrorKind) × (kind ≢ DisplayHelp) × (refusals arguments ≡ kind ∷ [])
 IsParsed arguments (Err NoMemory) = Unit {0}
+
+-- the kinds of files that are opened: what may block only where a file is checked
+abbrev pub kinds_for : Result Invocation ArgumentsFault → FileKinds
+kinds_for (Ok (Check file)) = All
+kinds_for (Ok Serve) = Regular
+kinds_for (Err fault) = Regular

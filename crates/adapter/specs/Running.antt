@@ -27,7 +27,7 @@ use Rattle.adapter.specs.Loading.{AreLoaded}
 use Rattle.byte_streams.specs.Streams.{Supply, Output, WritesAll, FailsIn, WritesOrFails}
 use Rattle.byte_streams.specs.declared.files.FileFault.{FileFault}
 use Rattle.byte_streams.specs.declared.files.FileKinds.{FileKinds}
-use Rattle.byte_streams.specs.declared.files.FileKinds.TheVariants.{Regular}
+use Rattle.byte_streams.specs.declared.files.FileKinds.TheVariants.{All, Regular}
 
 -- A client that counts from `first` was served, through a gate that nothing had passed, and the reason says how that
 -- went.
@@ -103,13 +103,15 @@ pub record GetsNoArguments (error : ErrorKind) (reason : ExitReason) (old later 
 module _ {Files File : Type 0} (opens : FileKinds → Files → List ℕ → Result File FileFault → Files → Type 0)
     (closes : Files → File → Files → Type 0) (supply_of : File → Supply) where
   -- The program did what the arguments ask for, with a loader that was asked for no file before. What it answered is
-  -- what reading the files gave. Where a client was served, these were regular files alone.
+  -- what reading the files gave. Where a client was served, these were regular files alone; where a file was checked,
+  -- any was read, or none was asked for.
   pub record ExecutesOnFiles (first : FirstSeq) (arguments : List Text) (reason : ExitReason)
       (files later_files : Files) (old later : Streams) (errors later_errors : Output) : Type 0 where
     pub loads : List Load
     pub kinds : FileKinds
     pub loaded : ∥ AreLoaded (opens kinds) closes supply_of files loads later_files ∥₁
     pub regular : Reads arguments None → kinds ≡ Regular
+    pub any : (path : Text) → Reads arguments (Some path) → (loads ≡ []) ⊎ (kinds ≡ All)
     pub executes : Executes first arguments reason [] loads old later errors later_errors
 
   -- The program ran on the arguments that were given.

@@ -2,15 +2,14 @@
 
 ghost use Rattle.std.specs.Prelude.{◌≡◌, string_bytes, Err, IfOk, IfErr};
 ghost use Rattle.pl0_tree.specs.Faults.{IsFirstFault, FaultIs};
-ghost use Rattle.pl0_tree.specs.Plain.{plain_block};
-ghost use Rattle.adapter.specs.Checking.{IsChecked, IsListingOf, IsListingOfProgram};
+ghost use Rattle.adapter.specs.Checking.{IsChecked, IsListingOf};
 
 use crate::listing::listing;
 use byte_streams::{Sink, WriteFailed, write_all};
 use dap_session::{LoadFault, Loader};
-use pl0_code::{CodeFault, Unit, compile};
+use pl0_code::compile;
 use pl0_syntax::parse;
-use pl0_tree::{FaultKind, Place, SyntaxFault, Tree};
+use pl0_tree::{FaultKind, Place, SyntaxFault};
 use std::alloc::{AllocError, Global};
 use std::sync::Wait;
 
@@ -112,35 +111,11 @@ fn list(alloc: Global, text: &[u8]) -> Result<String, SyntaxFault>
     ensures err { IfErr result (FaultIs (IsFirstFault text.now)) }
 {
     let tree = parse(alloc, text)?;
-    match list_program(alloc, tree) {
+    let Ok(unit) = compile(alloc, tree) else {
+        return Err(SyntaxFault::NoMemory);
+    };
+    match listing(alloc, &unit) {
         Ok(listing) => Ok(listing),
         Err(AllocError) => Err(SyntaxFault::NoMemory),
     }
-}
-
-/// Returns the listing of a program.
-///
-/// # Errors
-///
-/// `AllocError`, where an allocation failed.
-fn list_program(alloc: Global, tree: Tree) -> Result<String, AllocError>
-    ensures { IfOk result (λ listing. IsListingOfProgram (plain_block tree.program) (string_bytes listing)) }
-{
-    match compile(alloc, tree) {
-        Ok(unit) => list_unit(alloc, unit),
-        Err(CodeFault::NoMemory) => Err(AllocError),
-    }
-}
-
-/// Returns the listing of a program that was compiled.
-///
-/// # Errors
-///
-/// `AllocError`, where an allocation failed.
-fn list_unit(alloc: Global, unit: Unit) -> Result<String, AllocError>
-    ensures { IfOk result (λ listing. IsListingOfProgram (plain_block unit.tree.program) (string_bytes listing)) }
-{
-    let text = listing(alloc, &unit);
-    drop(unit);
-    text
 }

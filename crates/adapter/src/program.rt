@@ -1,10 +1,11 @@
 //! The program from its arguments to its end.
 
-ghost use Rattle.std.specs.Prelude.{◌≡◌, Result, map, string_bytes};
+ghost use Rattle.std.specs.Prelude.{◌≡◌, Result, IfErr, map, string_bytes};
 ghost use Rattle.std.specs.Process.{exit_status};
 ghost use Rattle.std.specs.Vec.Iter.{into_iter_items};
 ghost use Rattle.adapter.specs.declared.exit_reason.ExitReason.{ExitReason};
 ghost use Rattle.adapter.specs.declared.checking.CheckFault.{CheckFault};
+ghost use Rattle.adapter.specs.Arguments.{IsParsed, kinds_for};
 ghost use Rattle.adapter.specs.Checking.{IsChecked};
 ghost use Rattle.adapter.specs.ExitReasons.{reason_of_check, status_of};
 ghost use Rattle.adapter.specs.Running.{EndsServing, Reports, Executes, ExecutesOnFiles, Runs, EndsHelping, given_of};
@@ -78,7 +79,7 @@ where
 {
     match given {
         Ok(given) => run_given(rt, first, given, files, input, output, errors),
-        Err(error) => end_with(rt, &[], end_of_reading(&error), errors),
+        Err(error) => report(rt, &[], end_of_reading(&error), errors),
     }
 }
 
@@ -104,20 +105,36 @@ where
         (E.output errors.old) (E.output errors.new) }
 {
     let Ok(given) = collect_arguments(rt.alloc(), given) else {
-        return end_with(rt, &[], ExitReason::NoMemory, errors);
+        return report(rt, &[], ExitReason::NoMemory, errors);
     };
     let Ok(arguments) = borrow_texts(rt.alloc(), given.as_slice()) else {
-        return end_with(rt, &[], ExitReason::NoMemory, errors);
+        return report(rt, &[], ExitReason::NoMemory, errors);
     };
     let arguments = arguments.as_slice();
-    let kinds = match parse_arguments(rt.alloc(), arguments) {
-        Ok(Invocation::Check(_)) => FileKinds::All,
-        Ok(Invocation::Serve) | Err(_) => FileKinds::Regular,
-    };
-    let mut loader = FileLoader::new(rt, rt.alloc(), files, kinds);
-    let reason = execute(rt, first, arguments, &mut loader, input, output, errors);
+    let asked = parse_arguments(rt.alloc(), arguments);
+    let mut loader = FileLoader::new(rt, rt.alloc(), files, kinds_for(&asked));
+    let reason = carry_out(
+        rt,
+        first,
+        arguments,
+        asked,
+        &mut loader,
+        input,
+        output,
+        errors,
+    );
     end_loan(loader.into_files());
     reason
+}
+
+/// Returns the kinds of files that are opened for what was asked.
+fn kinds_for(asked: &Result<Invocation<'_>, ArgumentsFault>) -> FileKinds
+    ensures { result ≡ kinds_for asked.now }
+{
+    match asked {
+        Ok(Invocation::Check(_)) => FileKinds::All,
+        Ok(Invocation::Serve) | Err(_) => FileKinds::Regular,
+    }
 }
 
 /// Does what the arguments ask for, the program's name first, and returns how that ended. A client that is served may
@@ -145,27 +162,42 @@ where
         (E.output errors.old) (E.output errors.new) }
     ensures loader { L.origin loader.new ≡ L.origin loader.old }
 {
-    let reason = match parse_arguments(rt.alloc(), arguments) {
+    let asked = parse_arguments(rt.alloc(), arguments);
+    carry_out(rt, first, arguments, asked, loader, input, output, errors)
+}
+
+/// Does what was asked for by these arguments, as [`execute`] does.
+fn carry_out<R, L, I, O, E>(
+    rt: &R,
+    first: FirstSeq,
+    arguments: &[&str],
+    asked: Result<Invocation<'_>, ArgumentsFault>,
+    loader: &mut L,
+    input: &mut I,
+    output: &mut O,
+    errors: &mut E,
+) -> ExitReason
+where
+    R: Threads + Wait + Eprint + AllocGlobal + Copy + Drop + Send,
+    L: Loader,
+    I: Source + Send,
+    O: Sink + Send,
+    E: Sink,
+    requires { IsParsed (map (λ argument. argument.now) arguments.now) asked }
+    ensures executes { Executes first (map (λ argument. argument.now) arguments.entry.now) result (L.loaded loader.old)
+        (L.loaded loader.new)
+        (streams (I.supply input.old) (O.output output.old)) (streams (I.supply input.new) (O.output output.new))
+        (E.output errors.old) (E.output errors.new) }
+    ensures loader { L.origin loader.new ≡ L.origin loader.old }
+    ensures idle { IfErr asked.entry (λ _. L.loaded loader.new ≡ L.loaded loader.old) }
+{
+    let reason = match asked {
         Ok(Invocation::Serve) => return serve_client(rt, first, loader, input, output, errors),
         Ok(Invocation::Check(file)) => check_file(rt, file, loader, output),
         Err(ArgumentsFault::Help) => show_help(rt, output),
         Err(fault) => end_of_arguments(fault),
     };
-    end_with(rt, arguments, reason, errors)
-}
-
-/// Reports the reason on `errors`, and returns it.
-fn end_with<R: Wait + Eprint + AllocGlobal, E: Sink>(
-    rt: &R,
-    arguments: &[&str],
-    reason: ExitReason,
-    errors: &mut E,
-) -> ExitReason
-    ensures reason { result ≡ reason }
-    ensures reports { Reports result (E.output errors.old) (E.output errors.new) }
-{
-    report(rt, arguments, reason, errors);
-    reason
+    report(rt, arguments, reason, errors)
 }
 
 /// Serves a client that may count its requests from `first`, reports how that ended, and returns it.

@@ -56,17 +56,19 @@ impl<'a, R: Wait + Eprint + AllocGlobal, E: Sink> EndListener for EndReporter<'a
     }
 }
 
-/// Logs the reason, and says it as [`say_reason`] does.
+/// Logs the reason, says it as [`say_reason`] does, and returns it.
 pub(crate) fn report<R: Wait + Eprint + AllocGlobal, E: Sink>(
     rt: &R,
     arguments: &[&str],
     reason: ExitReason,
     errors: &mut E,
-)
-    ensures { Reports reason (E.output errors.old) (E.output errors.new) }
+) -> ExitReason
+    ensures reason { result ≡ reason }
+    ensures reports { Reports result (E.output errors.old) (E.output errors.new) }
 {
     log_end(rt, reason);
     say_reason(rt, arguments, reason, errors);
+    reason
 }
 
 /// Writes the reason to the log, unless nothing failed, or standard error has it in words: the usage, the mistake of a

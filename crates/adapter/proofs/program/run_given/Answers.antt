@@ -1,4 +1,4 @@
-use Rattle.std.proofs.Common.{[], refl, inr}
+use Rattle.std.proofs.Common.{[], refl, inl, inr}
 use Rattle.byte_streams.specs.declared.files.FileKinds.TheVariants.{Regular}
 use Rattle.adapter.specs.Loading.{none}
 use Rattle.adapter.proofs.program.run_given.Goals as goal
@@ -9,9 +9,10 @@ returns-in_default g c = record {
   kinds = Regular;
   loaded = ∣ none ∣₁;
   regular = λ reads. refl;
+  any = λ path reads. inl refl;
   executes = record {
-    performs = inr (inr (inr (refl, inr c.end_with.ensures.reason, refl)));
-    reports = c.end_with.ensures.reports;
+    performs = inr (inr (inr (refl, inr c.report.ensures.reason, refl)));
+    reports = c.report.ensures.reports;
   };
 }
 
@@ -21,8 +22,9 @@ returns-in_default-borrow_texts g c = record {
   kinds = Regular;
   loaded = ∣ none ∣₁;
   regular = λ reads. refl;
+  any = λ path reads. inl refl;
   executes = record {
-    performs = inr (inr (inr (refl, inr c.end_with-in_default-borrow_texts.ensures.reason, refl)));
-    reports = c.end_with-in_default-borrow_texts.ensures.reports;
+    performs = inr (inr (inr (refl, inr c.report-in_default-borrow_texts.ensures.reason, refl)));
+    reports = c.report-in_default-borrow_texts.ensures.reports;
   };
 }
