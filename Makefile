@@ -12,10 +12,10 @@ PROVED = out/proved
 BUILT = find crates \( -name out -o -name '*_tests' -o -name '*_runs' \) -prune -o -type f
 CODE = crates.txt $(shell $(BUILT) -name '*.rt' -print)
 SOURCES = $(CODE) $(shell $(BUILT) -name '*.antt' -print)
-# How many random sessions `make sessions` plays, from which check `make release` goes on, how many crates `make plants` tries side
-# by side, and for how many seconds `make soak` plays.
+# How many random sessions `make sessions` plays, which checks `make release` runs if not all, how many crates `make plants` tries
+# side by side, and for how many seconds `make soak` plays.
 SESSIONS ?= 500
-FROM ?=
+CHECK ?=
 FAST ?=
 JOBS ?= 1
 SOAK ?= 0
@@ -250,8 +250,8 @@ COUNTED = $(if $(FAST),$(UNPROVED)/fast_speed,$(SPEED))
 instructions: $(COUNTED)
 	python3 bench/instructions.py $(COUNTED)
 
-# Everything that the gate leaves out, with one line each at the end and in out/release.md. It takes hours: `make release
-# FROM=plants` goes on with a run that was broken off.
+# Everything that the gate leaves out, or CHECK of it, with one line each at the end and in out/release.md. It takes hours: what
+# tools/release.txt has as passed with the same files isn't run again.
 release:
 	@$(NEEDS_KIT)
-	python3 checks/release.py $(FROM)
+	python3 checks/release.py $(CHECK)

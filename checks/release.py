@@ -1,22 +1,26 @@
 #!/usr/bin/env python3
 """Runs everything that the merge gate leaves out, and writes one line of each to out/release.md.
 
-usage: release.py [CHECK]
+usage: release.py [CHECK..]
 
 Each check is a target of the Makefile. They are run one after the other, and all of them also where one fails. The
 tests come first, and have all cores, so that in a fresh clone their minutes are those of a beginner. Where there are
 four cores, two of them are then for what is run in clones, the tests once more and the merge gate, and the others for
 what stands before these: so the programs' minutes are those of two cores. The soak, which takes an hour, the random
 sessions, which take one core, and the plants are run beside those that stand before them. The benchmarks come last,
-alone. It says which commit, which kit and which computer, and refuses a tree that differs from its commit; the
-transcripts and pictures that `make editors` writes and the record of `make plants` aren't looked at. With CHECK it goes
-on from that check, and keeps what was found of those before it, which must be of the same commit and kit. A check that
-the Makefile doesn't have counts as not run. What each one printed is in out/release/. The status is 0 where every check
-passed, 1 where one failed, and 2 where none did, but one was not run or not whole.
+alone. A check that the Makefile doesn't have counts as not run. What each one printed is in out/release/.
+
+What was found is written to tools/release.txt: a row for each check, with a checksum of the kit and of the files that
+it reads, the commit, the day and the computer. A check isn't run where the record has it as passed with these files, so
+a release that is broken off goes on where it was, also after a change of pages alone. With CHECK only these are run. A
+tree that differs from its commit is refused; what the checks write isn't looked at. The status is 0 where every check
+has passed, 1 where one failed, and 2 where none did, but one was not run or not whole.
 """
 from __future__ import annotations
 
-import json
+import datetime
+import functools
+import hashlib
 import os
 import pathlib
 import platform
@@ -32,9 +36,14 @@ from typing import NamedTuple, NoReturn
 
 TOP = pathlib.Path(__file__).resolve().parent.parent
 OUT = TOP / "out"
-LOGS, STATE, PAGE = OUT / "release", OUT / "release.json", OUT / "release.md"
-# What `make editors` and `make plants` write.
-WRITTEN = ("docs/editors/", "docs/pictures/", "tools/plants.txt")
+LOGS, PAGE, RECORD = OUT / "release", OUT / "release.md", TOP / "tools" / "release.txt"
+HEAD = """# What each check of `make release` came to: its name, a checksum of the kit and of the files that it reads,
+# the commit, the day, the result, minutes, the computer, and the last line that it printed.
+"""
+# What `make editors`, `make plants` and this script write.
+WRITTEN = ("docs/editors/", "docs/pictures/", "tools/plants.txt", "tools/release.txt")
+# What is read by checks of pages alone, and this script.
+APART = re.compile(r"(README|CHANGELOG|docs/(?!PL0|PROTOCOL)\w+)\.md|checks/release\.py")
 PASSED, FAILED, PARTLY, MISSING = "passed", "FAILED", "not whole", "not run"
 CORES = sorted(os.sched_getaffinity(0))
 # How many cores the checks in clones have, where as many are left.
@@ -45,25 +54,38 @@ RUNNING: set[subprocess.Popen] = set()
 BROKEN_OFF = threading.Event()
 
 
+class Row(NamedTuple):
+    """What a check came to."""
+
+    check: str
+    sum: str
+    commit: str
+    day: str
+    result: str
+    minutes: str
+    computer: str
+    last: str
+
+
 class Check(NamedTuple):
-    """A target, or the name of a check of it, what it is, its variables, whether it is one to go on with another day,
-    with which check it begins where it is run beside others, and whether it is run in a clone."""
+    """A target, or the name of a check of it, what it is, its variables, with which check it begins where it is run
+    beside others, whether it is run in a clone, and whether it reads all pages."""
 
     name: str
     what: str
     variables: tuple[str, ...] = ()
-    is_long: bool = False
     beside: str = ""
     target: str = ""
     in_clone: bool = False
+    reads_pages: bool = False
     # Statuses of its last command that mean that something it needs is missing.
     partly: tuple[int, ...] = ()
 
 
 CHECKS = [
-    Check("test", "all tests, with nothing proved"),
-    Check("build", "all programs, proved", is_long=True),
-    Check("pages", "names on pages, lengths of functions and lines"),
+    Check("test", "all tests, with nothing proved", reads_pages=True),
+    Check("build", "all programs, proved"),
+    Check("pages", "names on pages, lengths of functions and lines", reads_pages=True),
     Check("rows", "worked inputs and sessions, both programs"),
     Check("hostile", "hostile inputs, both programs"),
     Check("compile-fail", "programs that the compiler must refuse"),
@@ -72,15 +94,15 @@ CHECKS = [
     Check("last-position", "the last position, in a copy of the crates"),
     Check("editors", "editors and their sessions", partly=(2,)),
     Check("beside", "random sessions beside the session over memory"),
-    Check("sessions", "2,000 random sessions beside a plain model", ("SESSIONS=2000",), is_long=True, beside="rows"),
-    Check("refusals", "each allocation, thread, read and write refused or hindered, all programs", is_long=True),
-    Check("soak", "sessions that leave nothing over, for an hour", ("SOAK=3600",), is_long=True, beside="pages"),
-    Check("streams", "streams cut at each byte, clients that leave, threads hindered", is_long=True),
-    Check("plants", "planted bugs, whole", ("JOBS=2",), is_long=True, beside="pages"),
-    Check("test-again", "all tests in a fresh clone, on two cores", target="test", beside="build", in_clone=True),
-    Check("gate-times", "the merge gate from nothing, within its budget", ("BESIDE=1",), is_long=True, beside="build",
-          in_clone=True),
-    Check("bench", "times and instructions", is_long=True),
+    Check("sessions", "2,000 random sessions beside a plain model", ("SESSIONS=2000",), beside="rows"),
+    Check("refusals", "each allocation, thread, read and write refused or hindered, all programs"),
+    Check("soak", "sessions that leave nothing over, for an hour", ("SOAK=3600",), beside="pages"),
+    Check("streams", "streams cut at each byte, clients that leave, threads hindered"),
+    Check("plants", "planted bugs, whole", ("JOBS=2",), beside="pages"),
+    Check("test-again", "all tests in a fresh clone, on two cores", target="test", beside="build", in_clone=True,
+          reads_pages=True),
+    Check("gate-times", "the merge gate from nothing, within its budget", ("BESIDE=1",), beside="build", in_clone=True),
+    Check("bench", "times and instructions"),
 ]
 NAMES = [check.name for check in CHECKS]
 # Those that have all cores.
@@ -111,12 +133,42 @@ def computer() -> str:
     return f"{len(CORES)} of {model}, {memory:.0f} GiB, {system}"
 
 
-def identity() -> dict[str, str]:
-    """What is checked, and by what."""
-    return {
-        "commit": output("git", "rev-parse", "HEAD"),
-        "kit": output("rt", "--version").splitlines()[0] if output("rt", "--version") else "no kit on the path",
-    }
+@functools.cache
+def kit() -> str:
+    return (output("rt", "--version").splitlines() or ["no kit on the path"])[0]
+
+
+def commit() -> str:
+    return output("git", "rev-parse", "--short=8", "HEAD")
+
+
+def sum_of(check: Check) -> str:
+    """A checksum of the kit, and of the files that a check reads."""
+    files = [line.partition("\t")[::2] for line in output("git", "ls-files", "--stage").splitlines()]
+    read = [f"{name} {content}" for content, name in files
+            if not name.startswith(WRITTEN) and (check.reads_pages or not APART.fullmatch(name))]
+    return hashlib.sha256("\n".join([kit(), *check.variables, *read]).encode()).hexdigest()[:16]
+
+
+def recorded() -> dict[str, Row]:
+    """The rows of the record, by their check."""
+    lines = RECORD.read_text(encoding="utf-8").splitlines() if RECORD.exists() else []
+    rows = [Row(*line.split("\t")) for line in lines if not line.startswith("#")]
+    return {row.check: row for row in rows}
+
+
+def record(row: Row) -> None:
+    """Puts a row in the place of the one that the record has of its check, and writes the page."""
+    rows = {**recorded(), row.check: row}
+    in_order = [rows[name] for name in NAMES if name in rows]
+    RECORD.write_text(HEAD + "".join("\t".join(row) + "\n" for row in in_order), encoding="utf-8")
+    PAGE.write_text(page(), encoding="utf-8")
+
+
+def result_of(check: Check) -> str:
+    """What the record has of a check with the files that it reads as they are."""
+    row = recorded().get(check.name)
+    return row.result if row and row.sum == sum_of(check) else MISSING
 
 
 def has_target(name: str) -> bool:
@@ -151,14 +203,17 @@ def folder_of(check: Check) -> pathlib.Path:
     return clone
 
 
-def run(check: Check) -> dict[str, object]:
+def run(check: Check) -> Row:
     """Runs a check, and returns how it went. What it prints goes to its log."""
-    target = check.target or check.name
+    target, day = check.target or check.name, datetime.date.today().isoformat()
+
+    def row(result: str, seconds: float, last: str) -> Row:
+        return Row(check.name, sum_of(check), commit(), day, result, f"{seconds / 60:.1f}", computer(), last)
+
     if not has_target(target):
-        return {"result": MISSING, "minutes": 0.0, "last": "the Makefile has no such target"}
+        return row(MISSING, 0, "the Makefile has no such target")
     if BROKEN_OFF.is_set():
-        return {"result": MISSING, "minutes": 0.0, "last": "the release was broken off"}
-    LOGS.mkdir(parents=True, exist_ok=True)
+        return row(MISSING, 0, "the release was broken off")
     command = ["make", "--no-print-directory", target, *check.variables]
     commands = set(output(*command, "--dry-run").splitlines())
     log, folder, begin = LOGS / f"{check.name}.log", folder_of(check), time.monotonic()
@@ -174,7 +229,7 @@ def run(check: Check) -> dict[str, object]:
     failures = [int(number) for number in re.findall(r"^make.*\*\*\* .* Error (\d+)", text, re.MULTILINE)]
     is_partly = bool(failures) and all(number in check.partly for number in failures)
     result = PASSED if status == 0 else PARTLY if is_partly else FAILED
-    return {"result": result, "minutes": (time.monotonic() - begin) / 60, "last": last_line(text, commands)}
+    return row(result, time.monotonic() - begin, last_line(text, commands).replace("\t", " "))
 
 
 def break_off(why: str) -> NoReturn:
@@ -190,33 +245,24 @@ def on_signal(number: int, _frame: object) -> None:
     break_off(f"ended by {signal.Signals(number).name}")
 
 
-def line(name: str, found: dict) -> str:
-    return f"{name:14} {found['result']:9} {found['minutes']:7.1f} min  {found['last']}"
+def line(row: Row) -> str:
+    return f"{row.check:14} {row.result:9} {row.minutes:>7} min  {row.commit}  {row.last}"
 
 
-def page(who: dict[str, str], results: dict[str, dict]) -> str:
-    rows = [
-        f"| `{' '.join(['make', check.target or check.name, *check.variables])}` | {check.what} | "
-        f"{results[check.name]['result']} | "
-        f"{results[check.name]['minutes']:.1f} | {str(results[check.name]['last']).replace('|', '/')} |"
-        for check in CHECKS if check.name in results
+def page() -> str:
+    """What the record has of all checks, and where the files that a check reads are others now."""
+    rows = recorded()
+    computers = dict.fromkeys(f"{row.day}: {row.computer}" for row in rows.values())
+    lines = [
+        f"| `{' '.join(['make', check.target or check.name, *check.variables])}` | {check.what} | {row.result} | "
+        f"{row.minutes} | `{row.commit}`{'' if row.sum == sum_of(check) else ', other files'} | "
+        f"{row.last.replace('|', '/')} |"
+        for check in CHECKS if (row := rows.get(check.name))
     ]
-    rest = [check.name for check in CHECKS if check.name not in results]
-    head = ["# What the gate leaves out", "", *(f"- {name}: {what}" for name, what in who.items())]
-    table = ["", "| Command | What | Result | Minutes | Its last line |", "|---|---|---|---|---|", *rows]
+    rest = [name for name in NAMES if name not in rows]
+    head = ["# What the gate leaves out", "", f"- kit: {kit()}", *(f"- {one}" for one in computers)]
+    table = ["", "| Command | What | Result | Minutes | Commit | Its last line |", "|---|---|---|---|---|---|", *lines]
     return "\n".join([*head, *table, *(["", f"Not tried yet: {', '.join(rest)}."] if rest else [])]) + "\n"
-
-
-def kept(who: dict[str, str], first: str) -> dict[str, dict]:
-    """What was found of the checks before the first one, by an earlier run of the same commit and kit."""
-    before = NAMES[:NAMES.index(first)]
-    state = json.loads(STATE.read_text(encoding="utf-8")) if STATE.exists() else {"who": {}, "results": {}}
-    if any(state["who"].get(name) != who[name] for name in ("commit", "kit")):
-        sys.exit(f"there is no earlier run of this commit and kit to go on with from {first}")
-    lacking = [name for name in before if name not in state["results"]]
-    if lacking:
-        sys.exit(f"the earlier run has nothing of {lacking[0]}: go on from there")
-    return {name: state["results"][name] for name in before}
 
 
 def begins_beside(check: Check, at: Check) -> bool:
@@ -225,38 +271,33 @@ def begins_beside(check: Check, at: Check) -> bool:
     return bool(is_asked) and NAMES.index(check.beside) <= NAMES.index(at.name)
 
 
-def run_all(checks: list[Check], who: dict[str, str], results: dict[str, dict]) -> None:
-    """Runs the checks, some beside others, and keeps what is found of each in its turn."""
+def run_all(checks: list[Check]) -> None:
+    """Runs the checks, some beside others, and records what is found of each in its turn."""
+    begun_at, begun = commit(), {}
     with ThreadPoolExecutor() as pool, ThreadPoolExecutor(1) as in_turn:
-        beside: dict[str, Future] = {}
         for check in checks:
-            begun = [one for one in checks if begins_beside(one, check) and one.name not in {*beside, *results}]
-            beside.update((one.name, (in_turn if one.in_clone else pool).submit(run, one)) for one in begun)
-            long = f" (long: `make release FROM={check.name}` goes on here)" if check.is_long else ""
-            print(f"{check.name}: {check.what}{long}", flush=True)
-            results[check.name] = beside[check.name].result() if check.name in beside else run(check)
-            STATE.write_text(json.dumps({"who": who, "results": results}, indent=1), encoding="utf-8")
-            PAGE.write_text(page(who, results), encoding="utf-8")
-            if identity()["commit"] != who["commit"] or changed():
+            for one in checks:
+                if begins_beside(one, check) and one.name not in begun:
+                    begun[one.name] = (in_turn if one.in_clone else pool).submit(run, one)
+            print(f"{check.name}: {check.what}", flush=True)
+            record(begun[check.name].result() if check.name in begun else run(check))
+            if commit() != begun_at or changed():
                 break_off(f"the tree changed while {check.name} ran: what was found is of no commit")
 
 
 def main() -> int:
-    if len(sys.argv) > 2 or any(name not in NAMES for name in sys.argv[1:]):
+    asked = sys.argv[1:]
+    if any(name not in NAMES for name in asked):
         sys.exit(f"{__doc__}\nChecks: {', '.join(NAMES)}")
     if files := changed():
         sys.exit(f"the tree differs from its commit: {', '.join(files[:5])}{' ..' if files[5:] else ''}")
-    who = identity()
-    results = kept(who, sys.argv[1]) if sys.argv[1:] else {}
-    who.update({"computer": computer(), "begun": time.strftime("%Y-%m-%d %H:%M UTC", time.gmtime()),
-                "load": f"{os.getloadavg()[0]:.2f}"})
-    OUT.mkdir(exist_ok=True)
+    LOGS.mkdir(parents=True, exist_ok=True)
     for number in (signal.SIGINT, signal.SIGTERM, signal.SIGHUP):
         signal.signal(number, on_signal)
-    print("\n".join(f"{name}: {what}" for name, what in who.items()), flush=True)
-    run_all(CHECKS[NAMES.index(sys.argv[1]) if sys.argv[1:] else 0:], who, results)
-    print("\n".join(["", *(line(name, found) for name, found in results.items())]))
-    found = {one["result"] for one in results.values()}
+    print(f"commit: {commit()}\nkit: {kit()}\ncomputer: {computer()}\nload: {os.getloadavg()[0]:.2f}", flush=True)
+    run_all([check for check in CHECKS if check.name in (asked or NAMES) and result_of(check) != PASSED])
+    print("\n".join(["", *(line(row) for row in recorded().values())]))
+    found = {result_of(check) for check in CHECKS}
     return 1 if FAILED in found else 2 if found & {PARTLY, MISSING} else 0
 
 
