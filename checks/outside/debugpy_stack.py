@@ -17,6 +17,8 @@ from debugpy_session import LIMIT, TOP, Session, differs, messaging
 DATA = os.path.join(TOP, "crates", "stack_adapter", "data")
 COUNTDOWN, SUM, MISTAKE, LOOP = (os.path.join(DATA, f"{name}.stk") for name in ("countdown", "sum", "mistake", "loop"))
 ARRAY = messaging.json.array()
+# The language's variables, each a letter, beside which the stack is shown.
+LETTERS = 26
 
 
 def waited(session: Session, *names: str) -> Iterator[str]:
@@ -26,6 +28,10 @@ def waited(session: Session, *names: str) -> Iterator[str]:
 
 def lines(session: Session) -> list[int]:
     return [frame["line"] for frame in session.ask("stackTrace", threadId=1)("stackFrames", ARRAY)]
+
+
+def variables(session: Session, reference: int) -> dict[str, messaging.MessageDict]:
+    return {one["name"]: one for one in session.ask("variables", variablesReference=reference)("variables", ARRAY)}
 
 
 def start(session: Session) -> Iterator[str]:
@@ -49,8 +55,8 @@ def look(session: Session) -> Iterator[str]:
     yield from differs("threads", session.names(session.ask("threads"), "threads"), ["main"])
     yield from differs("frames", lines(session), [9, 6])
     yield from differs("scopes", session.names(session.ask("scopes", frameId=1), "scopes"), ["variables"])
-    values = {one["name"]: one["value"] for one in session.ask("variables", variablesReference=1)("variables", ARRAY)}
-    yield from differs("variables", (len(values), values["n"]), (26, "3"))
+    shown = variables(session, 1)
+    yield from differs("variables", (len(shown), shown["n"]["value"]), (1 + LETTERS, "3"))
     session.ask("stepOut", threadId=1)
     yield from waited(session, "stopped")
     yield from differs("the line after the call", lines(session), [7])
@@ -76,6 +82,8 @@ def leave(session: Session) -> Iterator[str]:
     session.ask("continue", threadId=1)
     yield from waited(session, "stopped")
     yield from differs("the line of the fault", lines(session), [18])
+    inside = variables(session, variables(session, 1)["stack"]["variablesReference"])
+    yield from differs("the stack", [one["value"] for one in inside.values()], ["0", "7"])
     session.ask("launch", program=SUM)
     yield from waited(session, "initialized")
     session.ask("configurationDone")
