@@ -8,13 +8,14 @@ tests come first, and have all cores, so that in a fresh clone their minutes are
 four cores, two of them are then for what is run in clones, the tests once more and the merge gate, and the others for
 what stands before these: so the programs' minutes are those of two cores. The soak, which takes an hour, the random
 sessions, which take one core, and the plants are run beside those that stand before them. The benchmarks come last,
-alone. A check that the Makefile doesn't have counts as not run. What each one printed is in out/release/.
+alone. What each one printed is in out/release/.
 
-What was found is written to tools/release.txt: a row for each check, with a checksum of the kit and of the files that
-it reads, the commit, the day and the computer. A check isn't run where the record has it as passed with these files, so
-a release that is broken off goes on where it was, also after a change of pages alone. With CHECK only these are run. A
-tree that differs from its commit is refused; what the checks write isn't looked at. The status is 0 where every check
-has passed, 1 where one failed, and 2 where none did, but one was not run or not whole.
+What a check came to is written to tools/release.txt as it ends: a row with a checksum of the kit and of all files, for
+most checks but for pages and lines of comments in the crates, which decide nothing there; and the commit, the day and
+the computer. A check isn't run where the record has it as passed with the same sum, and what it makes is there: so a
+release that is broken off goes on where it was, also after a change of pages. With CHECK these are run, whatever the
+record has. A tree that differs from its commit is refused, but for what the checks write. The status is 0 where every
+check has passed, 1 where one failed, or nothing was run, and 2 where none did, but one was not run or not whole.
 """
 from __future__ import annotations
 
@@ -31,19 +32,24 @@ import subprocess
 import sys
 import threading
 import time
-from concurrent.futures import Future, ThreadPoolExecutor
+from concurrent.futures import ThreadPoolExecutor
 from typing import NamedTuple, NoReturn
 
 TOP = pathlib.Path(__file__).resolve().parent.parent
+sys.path.insert(0, str(TOP / "tools"))
+from plants import content  # noqa: E402
+
 OUT = TOP / "out"
 LOGS, PAGE, RECORD = OUT / "release", OUT / "release.md", TOP / "tools" / "release.txt"
 HEAD = """# What each check of `make release` came to: its name, a checksum of the kit and of the files that it reads,
 # the commit, the day, the result, minutes, the computer, and the last line that it printed.
 """
-# What `make editors`, `make plants` and this script write.
-WRITTEN = ("docs/editors/", "docs/pictures/", "tools/plants.txt", "tools/release.txt")
-# What is read by checks of pages alone, and this script.
-APART = re.compile(r"(README|CHANGELOG|docs/(?!PL0|PROTOCOL)\w+)\.md|checks/release\.py")
+# What `make editors`, `make plants` and this script write, of which only the editors' sessions are read.
+SESSIONS, UNREAD = "docs/editors/", ("docs/pictures/", "tools/plants.txt", "tools/release.txt")
+# Folders that one check reads alone, but for those that read all.
+OWN = {"clients": "checks/outside/", "compile-fail": "compile-fail/", "threads": "tools/threads/", "bench": "bench/"}
+# What is read by tests and checks of pages alone, and this script.
+APART = re.compile(r"(README|CHANGELOG|docs/(?!PL0|PROTOCOL)\w+)\.md|docs/\w+\.1|(checks/release|tools/tests)\.py")
 PASSED, FAILED, PARTLY, MISSING = "passed", "FAILED", "not whole", "not run"
 CORES = sorted(os.sched_getaffinity(0))
 # How many cores the checks in clones have, where as many are left.
@@ -52,6 +58,7 @@ CLONE_CORES = 2
 RUNNING: set[subprocess.Popen] = set()
 # Whether the release was broken off, so that no further check begins.
 BROKEN_OFF = threading.Event()
+RECORDING = threading.Lock()
 
 
 class Row(NamedTuple):
@@ -69,7 +76,7 @@ class Row(NamedTuple):
 
 class Check(NamedTuple):
     """A target, or the name of a check of it, what it is, its variables, with which check it begins where it is run
-    beside others, whether it is run in a clone, and whether it reads all pages."""
+    beside others, whether it is run in a clone, and whether it reads all pages and comments."""
 
     name: str
     what: str
@@ -89,12 +96,12 @@ CHECKS = [
     Check("rows", "worked inputs and sessions, both programs"),
     Check("hostile", "hostile inputs, both programs"),
     Check("compile-fail", "programs that the compiler must refuse"),
-    Check("clients", "other clients of the protocol"),
-    Check("threads", "the model of the threads, in every interleaving"),
+    Check("clients", "other clients of the protocol", partly=(2,)),
+    Check("threads", "the model of the threads, in every interleaving", partly=(2,)),
     Check("last-position", "the last position, in a copy of the crates"),
     Check("editors", "editors and their sessions", partly=(2,)),
     Check("beside", "random sessions beside the session over memory"),
-    Check("sessions", "2,000 random sessions beside a plain model", ("SESSIONS=2000",), beside="rows"),
+    Check("sessions", "2,000 random sessions beside a plain model", ("SESSIONS=2000",), beside="hostile"),
     Check("refusals", "each allocation, thread, read and write refused or hindered, all programs"),
     Check("soak", "sessions that leave nothing over, for an hour", ("SOAK=3600",), beside="pages"),
     Check("streams", "streams cut at each byte, clients that leave, threads hindered"),
@@ -121,7 +128,7 @@ def changed() -> list[str]:
     """The files that differ from the commit, but for what the checks write."""
     lines = subprocess.run(["git", "status", "--porcelain"], cwd=TOP, capture_output=True, text=True,
                            check=True).stdout.splitlines()
-    return [line[3:] for line in lines if not line[3:].startswith(WRITTEN)]
+    return [line[3:] for line in lines if not line[3:].startswith((SESSIONS, *UNREAD))]
 
 
 def computer() -> str:
@@ -142,11 +149,19 @@ def commit() -> str:
     return output("git", "rev-parse", "--short=8", "HEAD")
 
 
+@functools.cache
+def digests(with_pages: bool) -> dict[str, str]:
+    """A checksum of each file, of all but pages without its lines of comments, or of all as they are."""
+    names = [name for name in output("git", "ls-files").splitlines() if with_pages or not APART.fullmatch(name)]
+    texts = ((TOP / name).read_bytes() if with_pages else content(TOP / name) for name in names)
+    return {name: hashlib.sha256(text).hexdigest() for name, text in zip(names, texts)}
+
+
 def sum_of(check: Check) -> str:
-    """A checksum of the kit, and of the files that a check reads."""
-    files = [line.partition("\t")[::2] for line in output("git", "ls-files", "--stage").splitlines()]
-    read = [f"{name} {content}" for content, name in files
-            if not name.startswith(WRITTEN) and (check.reads_pages or not APART.fullmatch(name))]
+    """A checksum of all that decides what becomes of a check, but for the computer and what is installed."""
+    others = () if check.reads_pages else tuple(folder for name, folder in OWN.items() if name != check.name)
+    read = [f"{name} {digest}" for name, digest in digests(check.reads_pages).items()
+            if not name.startswith((*UNREAD, *others))]
     return hashlib.sha256("\n".join([kit(), *check.variables, *read]).encode()).hexdigest()[:16]
 
 
@@ -159,10 +174,11 @@ def recorded() -> dict[str, Row]:
 
 def record(row: Row) -> None:
     """Puts a row in the place of the one that the record has of its check, and writes the page."""
-    rows = {**recorded(), row.check: row}
-    in_order = [rows[name] for name in NAMES if name in rows]
-    RECORD.write_text(HEAD + "".join("\t".join(row) + "\n" for row in in_order), encoding="utf-8")
-    PAGE.write_text(page(), encoding="utf-8")
+    with RECORDING:
+        rows = {**recorded(), row.check: row}
+        lines = ["\t".join(rows[name]) + "\n" for name in NAMES if name in rows]
+        RECORD.write_text(HEAD + "".join(lines), encoding="utf-8")
+        PAGE.write_text(page(), encoding="utf-8")
 
 
 def result_of(check: Check) -> str:
@@ -171,8 +187,11 @@ def result_of(check: Check) -> str:
     return row.result if row and row.sum == sum_of(check) else MISSING
 
 
-def has_target(name: str) -> bool:
-    return re.search(rf"^{re.escape(name)}:", (TOP / "Makefile").read_text(encoding="utf-8"), re.MULTILINE) is not None
+def is_done(check: Check) -> bool:
+    """Whether a check needn't be run: it has passed, and the programs are there that it makes."""
+    question = ["make", "--question", "--silent", "build"]
+    made = check.name != "build" or subprocess.run(question, cwd=TOP, capture_output=True).returncode == 0
+    return made and result_of(check) == PASSED
 
 
 def last_line(text: str, commands: set[str]) -> str:
@@ -203,33 +222,30 @@ def folder_of(check: Check) -> pathlib.Path:
     return clone
 
 
-def run(check: Check) -> Row:
-    """Runs a check, and returns how it went. What it prints goes to its log."""
-    target, day = check.target or check.name, datetime.date.today().isoformat()
-
-    def row(result: str, seconds: float, last: str) -> Row:
-        return Row(check.name, sum_of(check), commit(), day, result, f"{seconds / 60:.1f}", computer(), last)
-
-    if not has_target(target):
-        return row(MISSING, 0, "the Makefile has no such target")
-    if BROKEN_OFF.is_set():
-        return row(MISSING, 0, "the release was broken off")
-    command = ["make", "--no-print-directory", target, *check.variables]
+def run(check: Check) -> None:
+    """Runs a check, and records how it went, unless the release is broken off. What it prints goes to its log."""
+    command = ["make", "--no-print-directory", check.target or check.name, *check.variables]
     commands = set(output(*command, "--dry-run").splitlines())
-    log, folder, begin = LOGS / f"{check.name}.log", folder_of(check), time.monotonic()
+    log, folder, begun_at, begin = LOGS / f"{check.name}.log", folder_of(check), commit(), time.monotonic()
     # A process has the cores of the thread that begins it.
     os.sched_setaffinity(0, cores_of(check))
+    if BROKEN_OFF.is_set():
+        return
     with open(log, "w", encoding="utf-8") as file:
         with subprocess.Popen(command, cwd=folder, stdin=subprocess.DEVNULL, stdout=file, stderr=subprocess.STDOUT,
                               start_new_session=True) as child:
             RUNNING.add(child)
             status = child.wait()
             RUNNING.remove(child)
+    if commit() != begun_at or changed():
+        break_off(f"the tree changed while {check.name} ran: what was found is of no commit")
     text = log.read_text(encoding="utf-8", errors="replace")
     failures = [int(number) for number in re.findall(r"^make.*\*\*\* .* Error (\d+)", text, re.MULTILINE)]
     is_partly = bool(failures) and all(number in check.partly for number in failures)
     result = PASSED if status == 0 else PARTLY if is_partly else FAILED
-    return row(result, time.monotonic() - begin, last_line(text, commands).replace("\t", " "))
+    if not BROKEN_OFF.is_set():
+        record(Row(check.name, sum_of(check), begun_at, datetime.date.today().isoformat(), result,
+                   f"{(time.monotonic() - begin) / 60:.1f}", computer(), last_line(text, commands).replace("\t", " ")))
 
 
 def break_off(why: str) -> NoReturn:
@@ -245,17 +261,13 @@ def on_signal(number: int, _frame: object) -> None:
     break_off(f"ended by {signal.Signals(number).name}")
 
 
-def line(row: Row) -> str:
-    return f"{row.check:14} {row.result:9} {row.minutes:>7} min  {row.commit}  {row.last}"
-
-
 def page() -> str:
-    """What the record has of all checks, and where the files that a check reads are others now."""
+    """What the record has of all checks, and where a sum is another one now."""
     rows = recorded()
     computers = dict.fromkeys(f"{row.day}: {row.computer}" for row in rows.values())
     lines = [
         f"| `{' '.join(['make', check.target or check.name, *check.variables])}` | {check.what} | {row.result} | "
-        f"{row.minutes} | `{row.commit}`{'' if row.sum == sum_of(check) else ', other files'} | "
+        f"{row.minutes} | `{row.commit}`{'' if row.sum == sum_of(check) else ', since changed'} | "
         f"{row.last.replace('|', '/')} |"
         for check in CHECKS if (row := rows.get(check.name))
     ]
@@ -272,17 +284,15 @@ def begins_beside(check: Check, at: Check) -> bool:
 
 
 def run_all(checks: list[Check]) -> None:
-    """Runs the checks, some beside others, and records what is found of each in its turn."""
-    begun_at, begun = commit(), {}
+    """Runs the checks, some beside others."""
     with ThreadPoolExecutor() as pool, ThreadPoolExecutor(1) as in_turn:
+        begun = {}
         for check in checks:
             for one in checks:
                 if begins_beside(one, check) and one.name not in begun:
                     begun[one.name] = (in_turn if one.in_clone else pool).submit(run, one)
             print(f"{check.name}: {check.what}", flush=True)
-            record(begun[check.name].result() if check.name in begun else run(check))
-            if commit() != begun_at or changed():
-                break_off(f"the tree changed while {check.name} ran: what was found is of no commit")
+            begun[check.name].result() if check.name in begun else run(check)
 
 
 def main() -> int:
@@ -295,9 +305,9 @@ def main() -> int:
     for number in (signal.SIGINT, signal.SIGTERM, signal.SIGHUP):
         signal.signal(number, on_signal)
     print(f"commit: {commit()}\nkit: {kit()}\ncomputer: {computer()}\nload: {os.getloadavg()[0]:.2f}", flush=True)
-    run_all([check for check in CHECKS if check.name in (asked or NAMES) and result_of(check) != PASSED])
-    print("\n".join(["", *(line(row) for row in recorded().values())]))
-    found = {result_of(check) for check in CHECKS}
+    run_all([check for check in CHECKS if (check.name in asked if asked else not is_done(check))])
+    print(page())
+    found = {result_of(check) for check in CHECKS if check.name in (asked or NAMES)}
     return 1 if FAILED in found else 2 if found & {PARTLY, MISSING} else 0
 
 

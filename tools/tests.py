@@ -123,7 +123,7 @@ def files_of(part: Part) -> Iterator[pathlib.Path]:
     if part.needs:
         yield from files_below(*(TOP / name for name in READ))
         yield from files_below(*(folder / name for folder in sorted((TOP / "crates").iterdir()) for name in STORED))
-    yield from files_below(TOP / "tools")
+    yield from sorted((TOP / "tools").glob("*.py"))
 
 
 def checksum(part: Part, kit: str) -> str:
