@@ -103,8 +103,8 @@ pub record GetsNoArguments (error : ErrorKind) (reason : ExitReason) (old later 
 module _ {Files File : Type 0} (opens : FileKinds → Files → List ℕ → Result File FileFault → Files → Type 0)
     (closes : Files → File → Files → Type 0) (supply_of : File → Supply) where
   -- The program did what the arguments ask for, with a loader that was asked for no file before. What it answered is
-  -- what reading the files gave. Where a client was served, these were regular files alone; where a file was checked,
-  -- any was read, or none was asked for.
+  -- what reading the files gave. Where a client was served, these were regular files alone; where the arguments name a
+  -- file to check, a file of any kind, or none if memory ran out before.
   pub record ExecutesOnFiles (first : FirstSeq) (arguments : List Text) (reason : ExitReason)
       (files later_files : Files) (old later : Streams) (errors later_errors : Output) : Type 0 where
     pub loads : List Load

@@ -166,7 +166,7 @@ where
     carry_out(rt, first, arguments, asked, loader, input, output, errors)
 }
 
-/// Does what was asked for by these arguments, as [`execute`] does.
+/// Does what these arguments ask for, parsed as `asked`, as [`execute`] does.
 fn carry_out<R, L, I, O, E>(
     rt: &R,
     first: FirstSeq,

@@ -76,7 +76,7 @@ pub record IsAnswerFor (loads : List Load) (path : List ℕ) (event : Incoming) 
   pub path_is : load.path ≡ path
   pub event_is : event ≡ File load.answer
 
--- If a launch waits, the next event is what the loader answered for its path.
+-- If a launch waits in a session that isn't closed, the next event is what the loader answered for its path.
 abbrev pub EachLaunchIsLoaded : Type 0
 EachLaunchIsLoaded =
     (first : FirstSeq) (events given : List Incoming) (loads : List Load) → Interleaves first [] events given loads

@@ -23,7 +23,8 @@ pub struct Frame {
     pub column: u64,
 }
 
-/// A variable, its value's text, and the number by which the variables inside it are asked for, if it has some.
+/// A variable, its value's text, and the number, less than 2^30 - 1, by which the variables inside it are asked for, if
+/// it has some.
 #[derive(Drop)]
 pub struct Variable {
     pub name: String,

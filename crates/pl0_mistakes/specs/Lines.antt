@@ -40,8 +40,8 @@ IsNameFaultIn text kind place =
 abbrev pub IsFurther : (FaultKind → Place → Type 0) → FaultKind × Place → Type 0
 IsFurther Fault mistake = (is_of_names mistake.0 ≡ true) × Fault mistake.0 mistake.1
 
--- Lines tell mistakes in a file with this text: the first, and if that is one of a name, further ones of names. It is
--- tested that one is told of each name, and of 20 names at most.
+-- Lines tell mistakes in a file with this text: the first, and if that is one of a name, further ones of names. Which
+-- of these are told, in which order, and each but once, is tested; so is that 20 are told at most.
 pub data AreMistakeLines (file text : List ℕ) (kind : FaultKind) (place : Place) : List ℕ → Type 0 where
   first_line : {line : List ℕ} → IsMistakeLine file text kind place line → AreMistakeLines file text kind place line
   further_line : {lines line : List ℕ} (other : FaultKind) (behind : Place) → is_of_names kind ≡ true →

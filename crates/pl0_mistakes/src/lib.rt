@@ -14,8 +14,8 @@
 //!
 //! The contracts are those of [`mistake_line`], [`mistake_lines`], [`fault_line`] and [`warning_lines`]: they return the
 //! lines that `specs/Lines` and `specs/Warnings` define, with the sentences of `specs/Sentences`. What is told behind a
-//! mistake of a name is a fault of the names too; how many are told is tested. What is said beside a token that
-//! can't stand where it does is a hint. `src/hints.rt` is a table of rows, of which the first that fits counts; `src/rows.rt`
+//! mistake of a name is a fault of the names too; which are told, and in which order, is tested. What is said beside a
+//! token that can't stand where it does is a hint. `src/hints.rt` is a table of rows, of which the first that fits counts; `src/rows.rt`
 //! reads one, by the tokens around the place (`src/scene.rt`). It is defined only that a hint stays in the line.
 #![tactic(auto)]
 

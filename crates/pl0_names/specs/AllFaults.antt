@@ -13,8 +13,8 @@ use Rattle.pl0_names.specs.declared.check.NameFault.{NameFault}
 abbrev pub fault_at : NameFault → FaultKind × Place
 fault_at f = (f.kind, f.name.now.place)
 
--- Each is a fault, and none is lost: one at the same place may be told before it. They stand in the order of the text,
--- where the tree was read from tokens in the order of their places.
+-- Each is a fault, and none is lost: where several have one place, the first in the order of kinds stands for all.
+-- Where the tree was read from tokens in the order of their places, they are in the order of the text, one at a place.
 pub record AreAllFaults (main : Block) (faults : List (FaultKind × Place)) : Type 0 where
   pub sound : All (λ f. IsNameFault main f.0 f.1) faults
   pub whole : (kind : FaultKind) (place : Place) → IsNameFault main kind place

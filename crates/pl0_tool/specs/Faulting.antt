@@ -39,7 +39,7 @@ frame_lines file m zero = []
 frame_lines file m (suc n) =
     frame_lines file m n ++ frame_line file (program m) (frame_of m (depth_of m - 1 - n))
 
--- how many frames are left out
+-- the line that says how many frames are left out, if any are
 abbrev pub more_line : ℕ → List ℕ
 more_line zero = []
 more_line (suc n) = codes "  and " ++ (decimal (suc n) ++ codes " more\n")

@@ -15,7 +15,7 @@ status_of Unwritten = 3
 status_of NotUnderstood = 4
 status_of Stopped = 5
 
--- what two commands tell, one after the other, which end as the one of the greater status
+-- what two commands tell, one after the other; together they end as the one of the greater status does
 pub record IsSum (first next sum : Report) : Type 0 where
   pub output : sum.output.items ≡ first.output.items ++ next.output.items
   pub errors : sum.errors.items ≡ first.errors.items ++ next.errors.items

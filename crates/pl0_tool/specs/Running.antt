@@ -74,7 +74,7 @@ IsWithin limit end m = m.position ≤ limit
 abbrev pub slice_steps : ℕ
 slice_steps = 65536
 
--- a slice that stops at its limit, where the run goes on, or with which it ended
+-- a slice that stops at its limit, where the run goes on, or with which the run ended
 abbrev pub HasRunSlice : ℕ → Option RunEnd → Standing → Standing → Output → Output → Type 0
 HasRunSlice limit None old new before after = HasRun StoppedAt old new before after × (new.position ≡ limit)
 HasRunSlice limit (Some StoppedAt) old new before after = ⊥

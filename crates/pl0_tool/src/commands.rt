@@ -164,7 +164,7 @@ fn page_told(page: Result<Vec<u8>, AllocError>, alloc: Global) -> Result<Report,
     Ok(Report::new(page?, Vec::new(alloc), Ending::Success))
 }
 
-/// Checks a program, which is warned of statements that are perhaps empty by mistake.
+/// Checks a program: warns of statements that are perhaps empty by mistake.
 fn check_program(alloc: Global, file: &str, unit: &Unit) -> Result<Report, AllocError>
     ensures { IfOk result (IsReport [] (warning_lines file.now unit.now.tree.text.items) Success) }
 {

@@ -19,7 +19,7 @@ use pl0_unit::Unit;
 use std::alloc::{AllocError, Global};
 use std::sync::Wait;
 
-/// How many frames are told of a position, or of a fault: the newest ones.
+/// How many frames are told of a position, a fault or a stop: the newest ones.
 pub const TOLD_FRAMES: usize = 16;
 
 /// A frame at some position: its block, by its number, and the numbers in its variables, in the order of declaration.
