@@ -55,16 +55,23 @@ class Terminal:
         time.sleep(PAUSE)
         self.type(*keys)
 
+    def process(self) -> str:
+        """The number of the command's process; nothing where it has ended."""
+        return self.do("list-panes", "-F", "#{pane_pid}").strip()
+
     def memory(self) -> int:
         """The MB that the command takes."""
-        with open(f"/proc/{self.do('list-panes', '-F', '#{pane_pid}').strip()}/status", encoding="ascii") as file:
+        with open(f"/proc/{self.process()}/status", encoding="ascii") as file:
             return next(int(line.split()[1]) // 1024 for line in file if line.startswith("VmRSS"))
 
     def screen(self) -> str:
         return self.do("capture-pane", "-p")
 
     def end(self) -> None:
+        """Ends the command, which writes to its folder until then."""
+        process = self.process()
         self.do("kill-server")
+        must("the command's end", lambda: not process or not os.path.exists(f"/proc/{process}"))
 
 
 def must(what: str, holds: Callable[[], bool]) -> None:
