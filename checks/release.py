@@ -46,9 +46,9 @@ HEAD = """# What each check of `make release` came to: its name, a checksum of t
 """
 # What `make editors`, `make plants` and this script write, of which only the editors' sessions are read.
 SESSIONS, UNREAD = "docs/editors/", ("docs/pictures/", "tools/plants.txt", "tools/release.txt")
-# Folders that few checks read, but for those that read all.
-READ_BY = {"checks/outside/": ["clients"], "editors/drive/": ["clients", "editors"], "compile-fail/": ["compile-fail"],
-           "tools/threads/": ["threads"], "bench/": ["bench"]}
+# What few checks read, but for those that read all.
+READ_BY = {r"crates/\w+/plants\.txt": ["plants"], "checks/outside/": ["clients"], "tools/threads/": ["threads"],
+           "editors/drive/": ["clients", "editors"], "compile-fail/": ["compile-fail"], "bench/": ["bench"]}
 # What is read by tests and checks of pages alone, and this script.
 APART = re.compile(r"(README|CHANGELOG|docs/(?!PL0|PROTOCOL)\w+)\.md|docs/\w+\.1|(checks/release|tools/tests)\.py")
 PASSED, FAILED, PARTLY, MISSING = "passed", "FAILED", "not whole", "not run"
@@ -160,9 +160,9 @@ def digests(with_pages: bool) -> dict[str, str]:
 
 def sum_of(check: Check) -> str:
     """A checksum of all that decides what becomes of a check, but for the computer and what is installed."""
-    others = [] if check.reads_pages else [folder for folder, names in READ_BY.items() if check.name not in names]
+    others = [] if check.reads_pages else [path for path, names in READ_BY.items() if check.name not in names]
     read = [f"{name} {digest}" for name, digest in digests(check.reads_pages).items()
-            if not name.startswith((*UNREAD, *others))]
+            if not any(re.match(path, name) for path in (*UNREAD, *others))]
     return hashlib.sha256("\n".join([kit(), *check.variables, *read]).encode()).hexdigest()[:16]
 
 
