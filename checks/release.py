@@ -293,7 +293,10 @@ def run_all(checks: list[Check]) -> None:
                 if begins_beside(one, check) and one.name not in begun:
                     begun[one.name] = (in_turn if one.in_clone else pool).submit(run, one)
             print(f"{check.name}: {check.what}", flush=True)
-            begun[check.name].result() if check.name in begun else run(check)
+            if check.name in begun:
+                begun[check.name].result()
+            else:
+                run(check)
 
 
 def main() -> int:
