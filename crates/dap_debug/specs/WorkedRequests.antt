@@ -123,8 +123,9 @@ LineIsAsked =
 abbrev pub asking : List ℕ → Data → Option Data
 asking key value = Some (object (member key value no_members))
 
--- How a client counts that says nothing of it, or that it counts lines, or columns, from 0. Where it counts both so,
--- line 2 is the third, the first place for it is on the fourth, which is line 3; and so is a frame there, in column 0.
+-- How a client counts that says nothing of it, or that it counts lines, or columns, from 0. Where it counts lines so,
+-- line 2 is the third, the first place for it is on the fourth, which is line 3; and so is a frame there, in column 1.
+-- Where it counts columns so, that frame is on line 4, in column 0.
 abbrev pub CountingIsAsked : Type 0
 CountingIsAsked =
     (map counting_asked (arguments ∷ asking (codes "linesStartAt1") (boolean false)
@@ -132,9 +133,10 @@ CountingIsAsked =
     ≡ from_one ∷ record from_one { lines_start_at_1 = false } ∷ record from_one { columns_start_at_1 = false } ∷ [])
     × IsSet shows 1 (tt {0}) (object (member (codes "line") (number (unsigned 2)) no_members)) (SetAt 3)
     (Some (record { place = 7; condition = None; rule = None; arrivals = 0; message = None }))
-    × (shown_frame (record { lines_start_at_1 = false; columns_start_at_1 = false }) [] 0
-    (record { name = []; line = 4; column = 1 })
-    ≡ record { id = 1; name = []; path = []; line = 3; column = 0 })
+    × (map (λ counting. shown_frame counting [] 0 (record { name = []; line = 4; column = 1 }))
+    (record from_one { lines_start_at_1 = false } ∷ record from_one { columns_start_at_1 = false } ∷ [])
+    ≡ record { id = 1; name = []; path = []; line = 3; column = 1 }
+    ∷ record { id = 1; name = []; path = []; line = 4; column = 0 } ∷ [])
 
 -- what is refused for its arguments: a launch without a debugger, another thread, and lines alone
 abbrev pub CommandsAreChecked : Type 0
