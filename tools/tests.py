@@ -99,7 +99,7 @@ PARTS = [
     script("pl0_pages", "pl0"),
     script("hostile", "pl0dap", "--stack", "1024"),
     script("nonblocking", "pl0dap"),
-    script("stack_sessions", "stack_adapter", "40"),
+    script("stack_sessions", "stack_adapter", "60"),
     script("stack_pause", "stack_adapter"),
     script("stack_sizes", "stack_adapter"),
     Part("adapter_kit", "", (sys.executable, "tools/adapter_kit.py", "--test")),
