@@ -11,11 +11,12 @@ sessions, which take one core, and the plants are run beside those that stand be
 alone. What each one printed is in out/release/.
 
 What a check came to is written to tools/release.txt as it ends: a row with a checksum of the kit and of all files, for
-most checks but for pages and lines of comments in the crates, which decide nothing there; and the commit, the day and
-the computer. A check isn't run where the record has it as passed with the same sum, and what it makes is there: so a
-release that is broken off goes on where it was, also after a change of pages. With CHECK these are run, whatever the
-record has. A tree that differs from its commit is refused, but for what the checks write. The status is 0 where every
-check has passed, 1 where one failed, or nothing was run, and 2 where none did, but one was not run or not whole.
+most checks but for pages and lines of comments in the crates, which decide nothing there, and for definitions and
+proofs, of which no program is made; and the commit, the day and the computer. A check isn't run where the record has it
+as passed with the same sum, and what it makes is there: so a release that is broken off goes on where it was, also after
+a change of pages. With CHECK these are run, whatever the record has. A tree that differs from its commit is refused, but
+for what the checks write. The status is 0 where every check has passed, 1 where one failed, or nothing was run, and 2
+where none did, but one was not run or not whole.
 """
 from __future__ import annotations
 
@@ -47,7 +48,8 @@ HEAD = """# What each check of `make release` came to: its name, a checksum of t
 # What `make editors`, `make plants` and this script write, of which only the editors' sessions are read.
 SESSIONS, UNREAD = "docs/editors/", ("docs/pictures/", "tools/plants.txt", "tools/release.txt")
 # What few checks read, but for those that read all.
-READ_BY = {r"crates/\w+/plants\.txt": ["plants"], "checks/outside/": ["clients"], "tools/threads/": ["threads"],
+READ_BY = {r"crates/\w+/(specs|proofs)/": ["build", "compile-fail", "plants", "gate-times"],
+           r"crates/\w+/plants\.txt": ["plants"], "checks/outside/": ["clients"], "tools/threads/": ["threads"],
            "editors/drive/": ["clients", "editors"], "compile-fail/": ["compile-fail"], "bench/": ["bench"]}
 # What is read by tests and checks of pages alone, and this script.
 APART = re.compile(r"(README|CHANGELOG|docs/(?!PL0|PROTOCOL)\w+)\.md|docs/\w+\.1|(checks/release|tools/tests)\.py")
