@@ -67,7 +67,27 @@ fn value_of(cells: &[i64], base: usize, top: usize, expression: &LocatedExpressi
     }
 }
 
-/// The same as `operand_of`, at once also for an operator between two operands: what most conditions have on a side.
+/// The same as `value_of`, at once for a number or a variable.
+#[inline(always)]
+fn reach(cells: &[i64], base: usize, top: usize, operand: &LocatedExpression) -> Option<i64>
+    requires within { top ≤ length cells.now }
+    requires can { CanReadBy (numbers_there cells.now base top) operand.now }
+    ensures { result ≡ result_ok (value_by (numbers_there cells.now base top) operand.now) }
+{
+    match operand {
+        LocatedExpression::Number(number) => Some(*number),
+        LocatedExpression::Variable { level, index } => Some(load(
+            cells,
+            base,
+            *level,
+            FRAME_HEAD + *index,
+            top,
+        )),
+        _ => value_of(cells, base, top, operand),
+    }
+}
+
+/// The same as `reach`, at once also for an operator between two operands: what most conditions have on a side.
 #[inline(always)]
 fn side_of(cells: &[i64], base: usize, top: usize, side: &LocatedExpression) -> Option<i64>
     requires within { top ≤ length cells.now }
@@ -80,7 +100,7 @@ fn side_of(cells: &[i64], base: usize, top: usize, side: &LocatedExpression) -> 
             let right = operand_of(cells, base, top, right)?;
             apply(*operator, left, right).ok()
         }
-        _ => operand_of(cells, base, top, side),
+        _ => reach(cells, base, top, side),
     }
 }
 
@@ -102,7 +122,7 @@ pub fn truth_of(
         }
         LocatedCondition::Compare(relation, left, right) => {
             let x = side_of(cells, base, top, left)?;
-            let y = side_of(cells, base, top, right)?;
+            let y = reach(cells, base, top, right)?;
             Some(compare(*relation, x, y))
         }
     }

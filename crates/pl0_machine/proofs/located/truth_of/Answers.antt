@@ -12,5 +12,5 @@ returns-in_ok-y-in-Compare c =
     let fits_y : FitsSigned w64 c.in_ok-y-in-Compare.y = search rules in
     compared (numbers_there c.args.cells.now c.args.base c.args.top) c.args.condition.now c.in-Compare.relation
     c.in-Compare.left c.in-Compare.right x y c.compare.result c.in-Compare.is (sym c.side_of-in-Compare.ensures ∙
-    c.in_ok-x-in-Compare.was) (sym c.side_of-in-Compare-2.ensures ∙ c.in_ok-y-in-Compare.was)
+    c.in_ok-x-in-Compare.was) (sym c.reach.ensures ∙ c.in_ok-y-in-Compare.was)
     (cc (c.compare.ensures, to_z-of_z w64 x fits_x, to_z-of_z w64 y fits_y))
