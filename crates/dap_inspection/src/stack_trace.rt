@@ -58,7 +58,9 @@ fn asked_frames(
     ensures { IfOk result (λ shown. shown.items ≡ frames_asked (program machine.now) (counting_of settings) asked
         (frames machine.now)) }
 {
-    let left = machine.depth().saturating_sub(asked.start_frame as usize);
+    let depth = machine.depth();
+    // Cut after the minimum, so that no more than 32 bits need fit.
+    let left = depth - asked.start_frame.min(depth as u64) as usize;
     let count = count_asked(asked.levels, left);
     let mut shown = Vec::with_capacity(alloc, count)?;
     for index in 0..count {
@@ -74,7 +76,7 @@ fn count_asked(levels: u64, left: usize) -> usize
     if levels == 0 {
         return left;
     }
-    (levels as usize).min(left)
+    levels.min(left as u64) as usize
 }
 
 /// Returns what is shown of the frame with this id.
