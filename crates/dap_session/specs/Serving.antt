@@ -115,6 +115,7 @@ pub record OwesOnly (first : FirstSeq) (path : Option (List ℕ)) (begin now : S
   pub past : History
   pub rest : Rest
   pub history : IsHistoryOf first events past rest
+  pub lawful : AreLawful events
   pub taking : IsTaking past
   pub waits : path ≡ option_map (λ launch. launch.arguments.program) rest.launch
   pub frames_are : later.frames ≡ old.frames ++ frames_from 1 (messages_of past)
