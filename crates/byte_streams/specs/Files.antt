@@ -1,5 +1,5 @@
 -- Defines what is read of files that are opened by their names.
-use Rattle.std.specs.Prelude.{◌≡◌, ◌⊎◌, ◌<◌, ℕ, List, Result, Ok, Err}
+use Rattle.std.specs.Prelude.{◌≡◌, ◌⊎◌, ◌<◌, ℕ, [], List, Result, Ok, Err}
 use Rattle.std.specs.declared.alloc.Global.{Global}
 use Rattle.std.specs.declared.vec.Vec.{Vec}
 use Rattle.byte_streams.specs.Beginning.{BeginsWith}
@@ -28,6 +28,7 @@ module _ {Files File : Type 0} (limit : ℕ) (opens : Files → List ℕ → Res
     pub file : File
     pub mid : Files
     pub opened : opens old name (Ok file) mid
+    pub unread : (supply_of file).read.bytes ≡ []
     pub read : File
     pub has_read : HasRead limit result (supply_of file) (supply_of read)
     pub closed : closes mid read later

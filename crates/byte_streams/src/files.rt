@@ -37,7 +37,7 @@ pub enum FileFault {
 
 /// Opens files by their names, and takes them back.
 pub trait Opener {
-    ghost use Rattle.std.specs.Prelude.{ℕ, List, Result};
+    ghost use Rattle.std.specs.Prelude.{◌≡◌, ℕ, [], List, Result, IfOk};
     ghost use Rattle.byte_streams.specs.declared.files.FileFault.{FileFault};
     ghost use Rattle.byte_streams.specs.declared.files.FileKinds.{FileKinds};
 
@@ -51,13 +51,14 @@ pub trait Opener {
     /// What holds of the opener before and after it takes back a file, and of the file as it was read.
     ghost closes: { Self → Self.File → Self → Type 0 };
 
-    /// Opens the file of this name, if it is of these kinds.
+    /// Opens the file of this name, if it is of these kinds. Nothing is read of it yet.
     ///
     /// # Errors
     ///
     /// Why it can't be opened, or that memory ran out.
     fn open(&mut self, kinds: FileKinds, name: &str) -> Result<Self::File, FileFault>
-        ensures { opens kinds self.old name.now result self.new };
+        ensures opens { opens kinds self.old name.now result self.new }
+        ensures unread { IfOk result (λ file. (Self.File.supply file).read.bytes ≡ []) };
 
     /// Takes back a file, and closes it.
     fn close(&mut self, file: Self::File)
