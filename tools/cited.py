@@ -48,6 +48,8 @@ WAYS = {
                ("EachStopIsAsAsked", "NoStopIsPassed", "PausesStop", "PositionZeroIsConsidered")], HISTORY),
     "lines": (["dap_history.LineAnswers.LinesAreAnswered", "dap_history.Lines.EachRunHasItsLines",
                "dap_history.Lines.EachRunCountsFrom"], HISTORY),
+    "came": (["dap_history.Laws.ContentsAreOfTheStream", "dap_history.Interleaving.EachLaunchIsLoaded",
+              "dap_history.Loading.EachLaunchIsOfItsFile"], HISTORY),
     "shown": (["dap_history.Shown.AnswersShowTheProgram"], HISTORY),
     "last": (["dap_history.Laws.DisconnectIsLast"], HISTORY),
     "history": (["adapter.Written.OutputIsOfHistory"], [BYTES, *HISTORY]),
@@ -79,7 +81,7 @@ class Module:
             found = IMPORT.match(line)
             if found:
                 self.take_import(*found.groups())
-            elif line.strip() == "mutual" or line.startswith("module _"):
+            elif line.strip() in ("mutual", "abbrev mutual") or line.startswith("module _"):
                 inner, self.shared = 2, self.shared + [line]
             elif not ASIDE.match(line):
                 depth = len(line) - len(line.lstrip())
