@@ -6,7 +6,7 @@ use Rattle.std.proofs.lemmas.List.{map-append}
 use Rattle.std.proofs.lemmas.List.Elements.{filter_map-append}
 use Rattle.dap_frame.specs.Frame.{Frames}
 use Rattle.dap_msg.specs.declared.request.Request.{Request}
-use Rattle.dap_msg.specs.declared.request.FirstSeq.{FirstSeq}
+use Rattle.dap_msg.specs.declared.request.Dialect.{Dialect}
 use Rattle.dap_history.specs.declared.ending.Closed.{Closed}
 use Rattle.dap_history.specs.declared.ending.Closed.TheVariants as closed
 use Rattle.dap_history.specs.declared.ending.Ending.TheVariants as ending
@@ -85,13 +85,13 @@ first_such own known (e ∷ events) front back is =
 
 -- ---- where the event came, no launch waited
 
-one_further : (f : FirstSeq) (so_far : List Incoming) (e x : Incoming) (front : List Incoming) → e ≡ x
+one_further : (f : Dialect) (so_far : List Incoming) (e x : Incoming) (front : List Incoming) → e ≡ x
     → AwaitsNone f ((so_far ++ e ∷ []) ++ front) → AwaitsNone f (so_far ++ x ∷ front)
 one_further f so_far e x front same none =
     subst (λ y. AwaitsNone f (so_far ++ y ∷ front)) same
     (subst (AwaitsNone f) (append_assoc so_far (e ∷ []) front) none)
 
-awaits_none : (f : FirstSeq) (own : Incoming) → IsLast own → (so_far events given : List Incoming) (loads : List Load)
+awaits_none : (f : Dialect) (own : Incoming) → IsLast own → (so_far events given : List Incoming) (loads : List Load)
     → Interleaves f so_far events given loads
     → (front back : List Incoming) → events ≡ front ++ own ∷ back → AwaitsNone f (so_far ++ front)
 awaits_none f own last so_far [] given loads from [] back is = absurd cc
@@ -109,7 +109,7 @@ awaits_none f own last so_far (e ∷ events) given loads (inr from) (x ∷ front
 
 -- ---- the history up to the event, and after it
 
-record IsParted (f : FirstSeq) (past : History) (rest : Rest) (front : List Incoming) (own : Incoming)
+record IsParted (f : Dialect) (past : History) (rest : Rest) (front : List Incoming) (own : Incoming)
     (back : List Incoming)
     (new : History) (left : Rest) : Type 0 where
   pub mid : History
@@ -120,7 +120,7 @@ record IsParted (f : FirstSeq) (past : History) (rest : Rest) (front : List Inco
   pub at : LeadsByEvent f mid between own next after
   pub later : LeadsByEvents f next after back new left
 
-parted : (f : FirstSeq) (past : History) (rest : Rest) (front : List Incoming) (own : Incoming) (back : List Incoming)
+parted : (f : Dialect) (past : History) (rest : Rest) (front : List Incoming) (own : Incoming) (back : List Incoming)
     (new : History)
     (left : Rest) → LeadsByEvents f past rest (front ++ own ∷ back) new left
     → IsParted f past rest front own back new left
@@ -146,7 +146,7 @@ parted f past rest (e ∷ front) own back new left all =
     }
 
 -- the same of a history from its beginning
-record IsHistoryParted (f : FirstSeq) (front : List Incoming) (own : Incoming) (back : List Incoming) (new : History)
+record IsHistoryParted (f : Dialect) (front : List Incoming) (own : Incoming) (back : List Incoming) (new : History)
     (left : Rest)
     : Type 0 where
   pub mid : History
@@ -158,7 +158,7 @@ record IsHistoryParted (f : FirstSeq) (front : List Incoming) (own : Incoming) (
   pub up_to : IsHistoryOf f (front ++ own ∷ []) next after
   pub later : LeadsByEvents f next after back new left
 
-history_parted : (f : FirstSeq) (front : List Incoming) (own : Incoming) (back : List Incoming) (new : History)
+history_parted : (f : Dialect) (front : List Incoming) (own : Incoming) (back : List Incoming) (new : History)
     (left : Rest)
     → IsHistoryOf f (front ++ own ∷ back) new left → IsHistoryParted f front own back new left
 history_parted f front own back new left history = record {
@@ -177,7 +177,7 @@ history_parted f front own back new left history = record {
     parts = parted f [] (only_bytes []) front own back new left history
 
 -- a session that is over takes nothing more
-stays : EventsAreTaken → (f : FirstSeq) (events back : List Incoming) (mid : History) (between : Rest) (new : History)
+stays : EventsAreTaken → (f : Dialect) (events back : List Incoming) (mid : History) (between : Rest) (new : History)
     (left : Rest)
     → IsHistoryOf f events mid between → ¬ IsTaking mid → LeadsByEvents f mid between back new left → new ≡ mid
 stays taken f events [] mid between new left history over all = all.0
@@ -220,17 +220,17 @@ none_asked past step none =
 pub record Closing (by : Closed) (own : Incoming) (item : Item) : Type 0 where
   pub last : IsLast own
   pub known : (e : Incoming) → (own ≡ e) ⊎ ¬ (own ≡ e)
-  pub takes : (f : FirstSeq) (past : History) (rest : Rest) (new : History) (left : Rest)
+  pub takes : (f : Dialect) (past : History) (rest : Rest) (new : History) (left : Rest)
       → LeadsByEvent f past rest own new left
       → MayTake past item new
   pub unasked : request_of_item item ≡ None
   pub ends : ends_by item ≡ Some (ending.Closed by)
-  pub among : (f : FirstSeq) (events : List Incoming) (past : History) (rest : Rest) → IsHistoryOf f events past rest
+  pub among : (f : Dialect) (events : List Incoming) (past : History) (rest : Rest) → IsHistoryOf f events past rest
       → ending_of past ≡ Some (ending.Closed by) → IsAmong own events
 
 -- a session that took it is over
 closes_there : EachItemEndsOrNot → {by : Closed} {own : Incoming} {item : Item} → Closing by own item
-    → {f : FirstSeq} {front back : List Incoming} {new : History} {left : Rest}
+    → {f : Dialect} {front back : List Incoming} {new : History} {left : Rest}
     → (parts : IsHistoryParted f front own back new left)
     → IsAfter parts.mid item parts.next → ¬ IsTaking parts.next
 closes_there ends_or_not {by} {own} {item} closing {f} {front} {back} {new} {left} parts after still =
@@ -240,13 +240,13 @@ closes_there ends_or_not {by} {own} {item} closing {f} {front} {back} {new} {lef
     sym still ∙ ap ending_of after.new_is ∙ ends ∙ ap ends_by after.item_is ∙ closing.ends in
     absurd cc
 
-pub record AnswersUpTo (own : Incoming) (f : FirstSeq) (events : List Incoming) (past : History) : Type 0 where
+pub record AnswersUpTo (own : Incoming) (f : Dialect) (events : List Incoming) (past : History) : Type 0 where
   pub front : List Incoming
   pub back : List Incoming
   pub events_are : events ≡ front ++ own ∷ back
   pub answers : AnswersAll f (stream_of front) (messages_of past)
 
-module _ (laws : HistoryLaws) (f : FirstSeq) (events given : List Incoming) (loads : List Load)
+module _ (laws : HistoryLaws) (f : Dialect) (events given : List Incoming) (loads : List Load)
     (from : Interleaves f [] events given loads) (past : History) (rest : Rest)
     (history : IsHistoryOf f events past rest) (by : Closed) (own : Incoming) (item : Item)
     (closing : Closing by own item) (ending_is : ending_of past ≡ Some (ending.Closed by)) where
@@ -339,7 +339,7 @@ among_earlier own last other (x ∷ front) back (y ∷ earlier) is =
 
 -- a session that takes items has taken none
 none_taken : EventsAreTaken → EachItemEndsOrNot → {by : Closed} {own : Incoming} {item : Item} → Closing by own item
-    → (f : FirstSeq) (events : List Incoming) (past : History) (rest : Rest) → IsHistoryOf f events past rest
+    → (f : Dialect) (events : List Incoming) (past : History) (rest : Rest) → IsHistoryOf f events past rest
     → IsTaking past
     → ¬ IsAmong own events
 none_taken taken ends {by} {own} {item} closing f events past rest history taking (front, back, is) =
@@ -361,7 +361,7 @@ none_taken taken ends {by} {own} {item} closing f events past rest history takin
         taking)
 
 nothing_after : EventsAreTaken → EachItemEndsOrNot → {by : Closed} {own : Incoming} {item : Item} → Closing by own item
-    → {f : FirstSeq} {events : List Incoming} → ReachesLast f events
+    → {f : Dialect} {events : List Incoming} → ReachesLast f events
     → (front back : List Incoming) → events ≡ front ++ own ∷ back → back ≡ []
 nothing_after taken ends closing reaches front [] is = refl
 nothing_after taken ends {by} {own} closing {f = f} reaches front (other ∷ back) is =
@@ -415,7 +415,7 @@ read_fails [] old later read =
 read_fails (e ∷ events) old later read =
     let a = failures_grow e old read.0 read.1 in let b = read_fails events read.0 later read.2 in omega (arith, a, b)
 
-answers_all_read : HistoryLaws → (f : FirstSeq) (before after : World) (by : Closed) (own : Incoming) (item : Item)
+answers_all_read : HistoryLaws → (f : Dialect) (before after : World) (by : Closed) (own : Incoming) (item : Item)
     → Closing by own item → (driven : TasksEnd f (Ok tt) (Ok by) before after)
     → from_client driven.given ≡ driven.reader.client
     → ((pieces : List Incoming) → AreRead (pieces ++ own ∷ []) before.streams.input after.streams.input

@@ -4,7 +4,7 @@ use Rattle.dap_frame.specs.Header.{FaultAt}
 use Rattle.dap_frame.specs.declared.fault.FramingFault.{FramingFault}
 use Rattle.dap_msg.specs.declared.command.Command.{Command}
 use Rattle.dap_msg.specs.declared.command.Command.TheVariants as command
-use Rattle.dap_msg.specs.declared.request.FirstSeq.{FirstSeq}
+use Rattle.dap_msg.specs.declared.request.Dialect.{Dialect}
 use Rattle.dbg_runner.specs.Plain.{PlainReport}
 use Rattle.dbg_runner.specs.declared.outcome.SliceOutcome.{SliceOutcome}
 use Rattle.dbg_runner.specs.declared.outcome.SliceOutcome.TheVariants as slice
@@ -65,15 +65,15 @@ same_there : (past new : History) (rest left : Rest) → new ≡ past → left �
 same_there past new rest left same_past same_rest here =
     subst (λ h. FaultStands h left) (sym same_past) (subst (FaultStands past) (sym same_rest) here)
 
-some_stand : {first : FirstSeq} {past new : History} {bytes left : List ℕ} → TakesSome first past bytes new left
+some_stand : {dialect : Dialect} {past new : History} {bytes left : List ℕ} → TakesSome dialect past bytes new left
     → FaultStands past (only_bytes bytes) → FaultStands new (only_bytes left)
 some_stand no_content here = here
-some_stand {first = first} {past = past}
+some_stand {dialect = dialect} {past = past}
     (one_content {mid = mid} {more = more} request taking front unwanted after some) here =
     some_stand some (other_item past (Content request) mid (only_bytes more) taking after tt)
 
-rests_stand : {first : FirstSeq} {past : History} {bytes : List ℕ} {new : History} {rest : Rest}
-    → Rests first past bytes new rest → FaultStands past (only_bytes bytes) → FaultStands new rest
+rests_stand : {dialect : Dialect} {past : History} {bytes : List ℕ} {new : History} {rest : Rest}
+    → Rests dialect past bytes new rest → FaultStands past (only_bytes bytes) → FaultStands new rest
 rests_stand (closed not) here = here
 rests_stand (open_ended taking is) here = here
 rests_stand {past = past} {bytes = bytes} (faulty k new taking fault after) here = λ j is.
@@ -83,16 +83,16 @@ rests_stand {past = past} {bytes = bytes} (faulty k new taking fault after) here
     (refl, subst (FaultAt bytes) same fault)
 rests_stand (waits request launch more taking front wanted) here = λ k is. let e = sym taking ∙ is in absurd cc
 
-takes_stand : (first : FirstSeq) (past : History) (bytes : List ℕ) (new : History) (rest : Rest)
-    → Takes first past bytes new rest → FaultStands past (only_bytes bytes) → FaultStands new rest
-takes_stand first past bytes new rest taken here = rests_stand taken.3 (some_stand taken.2 here)
+takes_stand : (dialect : Dialect) (past : History) (bytes : List ℕ) (new : History) (rest : Rest)
+    → Takes dialect past bytes new rest → FaultStands past (only_bytes bytes) → FaultStands new rest
+takes_stand dialect past bytes new rest taken here = rests_stand taken.3 (some_stand taken.2 here)
 
 may_stand : (past : History) (item : Item) (new : History) (rest : Rest) → IsNoFault item → MayTake past item new
     → FaultStands past rest → FaultStands new rest
 may_stand past item new rest other (inl over) here = same_there past new rest rest over.1 refl here
 may_stand past item new rest other (inr is) here = other_item past item new rest is.0 is.1 other
 
-piece_stands : (f : FirstSeq) (past : History) (rest : Rest) (launch : Option Launch) (piece : List ℕ) (new : History)
+piece_stands : (f : Dialect) (past : History) (rest : Rest) (launch : Option Launch) (piece : List ℕ) (new : History)
     (left : Rest)
     → rest.launch ≡ launch → LeadsByPiece f past launch (rest.bytes ++ piece) new left → FaultStands past rest
     → FaultStands new left
@@ -102,7 +102,7 @@ piece_stands f past rest None piece new left same leads here =
 piece_stands f past rest (Some launch) piece new left same leads here = λ k is.
     let e = sym same ∙ (here k (sym (ap ending_of leads.0) ∙ is)).0 in absurd cc
 
-file_stands : (f : FirstSeq) (past : History) (rest : Rest) (launch : Option Launch) (file : Result (List ℕ) LoadFault)
+file_stands : (f : Dialect) (past : History) (rest : Rest) (launch : Option Launch) (file : Result (List ℕ) LoadFault)
     (new : History) (left : Rest) → LeadsByFile f past rest launch file new left → FaultStands past rest
     → FaultStands new left
 file_stands f past rest None file new left leads here = same_there past new rest left leads.0 leads.1 here
@@ -125,7 +125,7 @@ report_stands : (past : History) (rest : Rest) (r : PlainReport) (new : History)
 report_stands past rest r new (inl over) here = same_there past new rest rest over.1 refl here
 report_stands past rest r new (inr is) here = other_item past (Accepted r) new rest is.0 is.2 tt
 
-event_stands : (f : FirstSeq) (past : History) (rest : Rest) (e : Incoming) (new : History) (left : Rest)
+event_stands : (f : Dialect) (past : History) (rest : Rest) (e : Incoming) (new : History) (left : Rest)
     → LeadsByEvent f past rest e new left → FaultStands past rest → FaultStands new left
 event_stands f past rest (Piece piece) new left leads here =
     piece_stands f past rest rest.launch piece new left refl leads here
@@ -139,13 +139,13 @@ event_stands f past rest (File file) new left leads here = file_stands f past re
 event_stands f past rest (Report r) new left leads here =
     subst (FaultStands new) (sym leads.1) (report_stands past rest r new leads.0 here)
 
-events_stand : (f : FirstSeq) (past : History) (rest : Rest) (events : List Incoming) (new : History) (left : Rest)
+events_stand : (f : Dialect) (past : History) (rest : Rest) (events : List Incoming) (new : History) (left : Rest)
     → LeadsByEvents f past rest events new left → FaultStands past rest → FaultStands new left
 events_stand f past rest [] new left all here = same_there past new rest left all.0 all.1 here
 events_stand f past rest (e ∷ events) new left all here =
     events_stand f all.0 all.1 events new left all.3 (event_stands f past rest e all.0 all.1 all.2 here)
 
-pub fault_stands : (f : FirstSeq) (events : List Incoming) (past : History) (rest : Rest)
+pub fault_stands : (f : Dialect) (events : List Incoming) (past : History) (rest : Rest)
     → IsHistoryOf f events past rest
     → FaultStands past rest
 fault_stands f events past rest history =

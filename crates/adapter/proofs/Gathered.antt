@@ -4,7 +4,7 @@ use Rattle.std.specs.Prelude.{map, drop}
 use Rattle.std.specs.Result.{is_err}
 use Rattle.std.specs.List.{concat, flat_map}
 use Rattle.std.proofs.lemmas.List.Folds.{concat-append}
-use Rattle.dap_msg.specs.declared.request.FirstSeq.{FirstSeq}
+use Rattle.dap_msg.specs.declared.request.Dialect.{Dialect}
 use Rattle.dap_history.specs.declared.fault.SessionFault.{SessionFault}
 use Rattle.dap_history.specs.declared.fault.SessionFault.TheVariants.{OrdersFull, RunnerGone, WriterGone}
 use Rattle.dap_history.specs.declared.ending.Closed.{Closed}
@@ -117,7 +117,7 @@ keeps_refusals old later (inr refused) = by_count refused.1
     by_count (inr gone) = let more = gone.0 in let same = gone.1 in (omega (arith, same), omega (arith, more))
 
 -- Where the session answers that the queue of orders was full, it found it so.
-found_full : (f : FirstSeq) (events given : List Incoming) (loads : List Load) (sent : Ports)
+found_full : (f : Dialect) (events given : List Incoming) (loads : List Load) (sent : Ports)
     → SessionOutcome f events given loads nothing_sent sent (Err OrdersFull) → sent.orders_full ≢ 0
 found_full f events given loads sent (gives_up cannot from short) = λ none.
     let found = short.fails.breaks.1 in
@@ -126,7 +126,7 @@ found_full f events given loads sent (gives_up cannot from short) = λ none.
     (arith, found, kept, none)
 
 -- Where it answers that the runner is gone, the port had said so.
-pub found_runner_gone : (f : FirstSeq) (events given : List Incoming) (loads : List Load) (sent : Ports)
+pub found_runner_gone : (f : Dialect) (events given : List Incoming) (loads : List Load) (sent : Ports)
     → SessionOutcome f events given loads nothing_sent sent (Err RunnerGone) → sent.runner_gone ≢ 0
 found_runner_gone f events given loads sent (gives_up cannot from short) = λ none.
     let found = short.fails.breaks.1 in
@@ -139,7 +139,7 @@ not_empty [] x none = absurd (search (none, rules))
 not_empty (y ∷ xs) x none = absurd (search (none, rules))
 
 -- Where it answers that the writer is gone, a frame was refused.
-found_gone : (f : FirstSeq) (events given : List Incoming) (loads : List Load) (sent : Ports)
+found_gone : (f : Dialect) (events given : List Incoming) (loads : List Load) (sent : Ports)
     → SessionOutcome f events given loads nothing_sent sent (Err WriterGone) → sent.refused ≢ []
 found_gone f events given loads sent (gives_up cannot from short) = λ none.
     let broke = short.fails.breaks in
@@ -249,7 +249,7 @@ ends_by (act ∷ acts) leads = ends_by_some Idle act acts leads
 
 -- ---- all together
 
-takes_client : (f : FirstSeq) (result : Result Closed SessionFault) (events given client : List Incoming)
+takes_client : (f : Dialect) (result : Result Closed SessionFault) (events given client : List Incoming)
     (loads : List Load)
     (sent : Ports) (end : ReadEnd) (old later : Supply)
     → SessionOutcome f events given loads nothing_sent sent result → IsReadUntil end client old later
@@ -268,7 +268,7 @@ takes_client f (Ok closed.ReadFailed) events given client loads sent end old lat
     (λ p. p) (ap from_client own.2 ∙ client_append own.0 (ReadFailed ∷ own.1))
 takes_client f (Err fault) events given client loads sent end old later drives read begins = begins
 
-all_orders : (f : FirstSeq) (events : List Incoming) (by : Ending) (sent : Ports) (acts : List Act)
+all_orders : (f : Dialect) (events : List Incoming) (by : Ending) (sent : Ports) (acts : List Act)
     → Serves f events by nothing_sent sent → IsPrefixOf (flat_map order_in acts) sent.orders
     → EndsBy acts → (flat_map order_in acts ≡ sent.orders) ⊎ (IsPrefixOf (flat_map order_in acts) sent.orders
     × (flat_map handed_back_in acts ≢ []))
@@ -281,7 +281,7 @@ all_orders f events by sent acts serves begins (inl quits) =
     inl (sym (append-nil (flat_map order_in acts)) ∙ (ap (λ l. flat_map order_in acts ++ l) (sym nothing) ∙ begins.1))
 all_orders f events by sent acts serves begins (inr refused) = inr (begins, refused)
 
-takes_orders : (f : FirstSeq) (result : Result Closed SessionFault) (events given : List Incoming) (loads : List Load)
+takes_orders : (f : Dialect) (result : Result Closed SessionFault) (events given : List Incoming) (loads : List Load)
     (sent : Ports)
     (acts : List Act)
     → SessionOutcome f events given loads nothing_sent sent result → DoesAll Idle acts Ended
@@ -292,7 +292,7 @@ takes_orders f (Ok by) events given loads sent acts (closes from serves) leads b
 takes_orders f (Err fault) events given loads sent acts drives leads begins = begins
 
 -- Nothing was taken, put or pushed when all began.
-pub gathers : (f : FirstSeq) (wrote : Result (Unit {0}) WriteFailed) (result : Result Closed SessionFault)
+pub gathers : (f : Dialect) (wrote : Result (Unit {0}) WriteFailed) (result : Result Closed SessionFault)
     (before after : World)
     (given : List Incoming) (put : List WriterMessage) (pushed : PushedOrders) (end : ReadEnd) (client : List Incoming)
     (acts : List Act) (reports : List PlainReport) (orders : List PlainOrder) (taken : List WriterMessage)

@@ -6,7 +6,7 @@ use Rattle.dap_msg.specs.declared.command.Command.{Command}
 use Rattle.dap_msg.specs.declared.command.Command.TheVariants as command
 use Rattle.dbg_runner.specs.declared.outcome.SliceOutcome.{SliceOutcome}
 use Rattle.dbg_runner.specs.declared.outcome.SliceOutcome.TheVariants as slice
-use Rattle.dap_msg.specs.declared.request.FirstSeq.{FirstSeq}
+use Rattle.dap_msg.specs.declared.request.Dialect.{Dialect}
 use Rattle.dap_history.specs.declared.ending.Closed.TheVariants as closed
 use Rattle.dap_history.specs.declared.ending.Ending.TheVariants as ending
 use Rattle.dap_history.specs.Last.{or_else, last_such}
@@ -149,18 +149,18 @@ loses_none pieces ends.HandedBack lost mid later loses xs ys own other e =
 
 -- ---- what the inbox gave
 
-pub no_last_loads : (f : FirstSeq) (before : List Incoming) (e : Incoming) (load : Load) (own : Incoming)
+pub no_last_loads : (f : Dialect) (before : List Incoming) (e : Incoming) (load : Load) (own : Incoming)
     → IsLast own → IsLoad f before e load → ¬ (e ≡ own)
 no_last_loads f before (File file) load own last is same = no_file own last (subst IsFile same tt)
 no_last_loads f before _ load own last is same = absurd is
 
-load_stream : (f : FirstSeq) (before : List Incoming) (e : Incoming) (load : Load) (events : List Incoming)
+load_stream : (f : Dialect) (before : List Incoming) (e : Incoming) (load : Load) (events : List Incoming)
     → IsLoad f before e load
     → stream_of (e ∷ events) ≡ stream_of events
 load_stream f before (File file) load events is = refl
 load_stream f before _ load events is = absurd is
 
-inbox_stream : (f : FirstSeq) (before events given : List Incoming) (loads : List Load)
+inbox_stream : (f : Dialect) (before events given : List Incoming) (loads : List Load)
     → Interleaves f before events given loads
     → stream_of given ≡ stream_of events
 inbox_stream f before [] given loads from = ap stream_of from.0
@@ -176,7 +176,7 @@ record IsSplit (own : Incoming) (front back given : List Incoming) : Type 0 wher
   pub given_are : given ≡ first ++ own ∷ last
   pub before : stream_of first ≡ stream_of front
 
-split : (f : FirstSeq) (own : Incoming) → IsLast own → (so_far events given : List Incoming) (loads : List Load)
+split : (f : Dialect) (own : Incoming) → IsLast own → (so_far events given : List Incoming) (loads : List Load)
     → Interleaves f so_far events given loads
     → (front back : List Incoming) → events ≡ front ++ own ∷ back → IsSplit own front back given
 split f own ends so_far [] given loads from [] back is = absurd cc
@@ -219,7 +219,7 @@ pub record TakesAll (own : Incoming) (front : List Incoming) (old later : Supply
   pub pieces : List Incoming
   pub read : AreRead (pieces ++ own ∷ []) old later
 
-module _ (f : FirstSeq) (events given client : List Incoming) (loads : List Load) (end : ReadEnd) (old later : Supply)
+module _ (f : Dialect) (events given client : List Incoming) (loads : List Load) (end : ReadEnd) (old later : Supply)
     (from : Interleaves f [] events given loads) (read : IsReadUntil end client old later)
     (of_whole : ∥ IsOfWhole later ∥₁) (taken : from_client given ≡ client) (own : Incoming) (last : IsLast own) where
   pub takes_all : (front back : List Incoming) → events ≡ front ++ own ∷ back → TakesAll own front old later
@@ -271,7 +271,7 @@ pub record BeginsRead (events : List Incoming) (old later : Supply) : Type 0 whe
   pub consumed : IsReadOf read old later
   pub begins : IsPrefixOf (stream_of events) read
 
-pub begins_read : (f : FirstSeq) (events given client : List Incoming) (loads : List Load) (end : ReadEnd)
+pub begins_read : (f : Dialect) (events given client : List Incoming) (loads : List Load) (end : ReadEnd)
     (old later : Supply) → Interleaves f [] events given loads → IsReadUntil end client old later
     → ∥ IsOfWhole later ∥₁ → IsPrefixOf (from_client given) client → BeginsRead events old later
 begins_read f events given client loads end old later from read of_whole taken = record {
@@ -349,7 +349,7 @@ not_none : {A : Type 0} (xs : List A) (x : A) → ¬ (xs ++ x ∷ [] ≡ [])
 not_none [] x is = absurd cc
 not_none (y ∷ xs) x is = absurd cc
 
-module _ (last : DisconnectIsLast) (f : FirstSeq) (events : List Incoming) (old later : Supply)
+module _ (last : DisconnectIsLast) (f : Dialect) (events : List Incoming) (old later : Supply)
     (all : BeginsRead events old later) where
   first_disconnect : (past : History) (rest : Rest) → IsHistoryOf f events past rest
       → ending_of past ≡ Some (ending.Closed closed.Disconnected) → TakesFirstDisconnect f events old later

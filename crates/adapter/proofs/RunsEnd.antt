@@ -12,7 +12,7 @@ use Rattle.dbg_runner.specs.Laws.{reports_of_run, RunsAreReported, HasLast, IsCu
 use Rattle.dbg_runner.specs.Plain.{Heading, PlainOrder, PlainReport, Go, Hold, Quit}
 use Rattle.dbg_runner.specs.Queues.{order_in, sent_in}
 use Rattle.dbg_runner.specs.Runner.{Act, Idle, Ended, DoesAll}
-use Rattle.dap_msg.specs.declared.request.FirstSeq.{FirstSeq}
+use Rattle.dap_msg.specs.declared.request.Dialect.{Dialect}
 use Rattle.dap_history.specs.declared.ending.Closed.{Closed}
 use Rattle.dap_history.specs.declared.launch.Launch.{Launch}
 use Rattle.dap_history.specs.declared.situation.Situation.{Situation}
@@ -342,12 +342,12 @@ others_given n (NoMemoryCame ∷ given) none = (tt, others_given n given none)
 others_given n (File file ∷ given) none = (tt, others_given n given none)
 others_given n (Report r ∷ given) none = (none.0, others_given n given none.1)
 
-load_other : (f : FirstSeq) (n : ℕ) (before : List Incoming) (e : Incoming) (load : Load) → IsLoad f before e load
+load_other : (f : Dialect) (n : ℕ) (before : List Incoming) (e : Incoming) (load : Load) → IsLoad f before e load
     → IsOther n e
 load_other f n before (File file) load is = tt
 load_other f n before _ load is = absurd is
 
-others_come : (f : FirstSeq) (n : ℕ) (before events given : List Incoming) (loads : List Load)
+others_come : (f : Dialect) (n : ℕ) (before events given : List Incoming) (loads : List Load)
     → Interleaves f before events given loads
     → AllEvents (IsOther n) given → AllEvents (IsOther n) events
 others_come f n before [] given loads from others = tt
@@ -369,7 +369,7 @@ takes_first : (by : Closed) (acts : List Act) (pushed : List PlainOrder) → Tak
 takes_first by acts pushed (inl all) = ([], append-nil (flat_map order_in acts) ∙ all)
 takes_first by acts pushed (inr some) = some.0
 
-module _ (f : FirstSeq) (events given : List Incoming) (loads : List Load) (past : History) (rest : Rest)
+module _ (f : Dialect) (events given : List Incoming) (loads : List Load) (past : History) (rest : Rest)
     (acts : List Act)
     (from : Interleaves f [] events given loads) (history : IsHistoryOf f events past rest)
     (orders : IsPrefixOf (flat_map order_in acts) (orders_of past))

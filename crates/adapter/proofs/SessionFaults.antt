@@ -2,7 +2,7 @@
 use Rattle.std.proofs.Common.{◌≡◌, false, true≢false, Some, Result, Ok, Err, refl, sym, ap, ◌∙◌, subst}
 use Rattle.std.specs.Result.{is_err}
 use Rattle.dap_frame.specs.declared.fault.FramingFault.{FramingFault}
-use Rattle.dap_msg.specs.declared.request.FirstSeq.{FirstSeq}
+use Rattle.dap_msg.specs.declared.request.Dialect.{Dialect}
 use Rattle.dap_history.specs.declared.fault.SessionFault.{SessionFault}
 use Rattle.dap_history.specs.declared.fault.SessionFault.TheVariants.{Frame, OrdersFull, RunnerGone, WriterGone}
 use Rattle.dap_history.specs.declared.ending.Closed.{Closed}
@@ -43,7 +43,7 @@ answers (Ok done) (Ok closed.ReadFailed) fault is = absurd cc
 answers (Ok done) (Err f) fault is = (refl, let same : f ≡ fault = cc in ap Err same)
 
 -- where it answers a framing fault, that ended the session, and all that was put was written
-pub ends_at_framing_fault : (f : FirstSeq) (k : FramingFault) (before after : World)
+pub ends_at_framing_fault : (f : Dialect) (k : FramingFault) (before after : World)
     → IsServed f (Err (Session (Frame k))) before after → TasksEnd f (Ok tt) (Err (Frame k)) before after
 ends_at_framing_fault f k before after (tasks_ended (Ok done) result is driven) =
     subst (λ r. TasksEnd f (Ok done) r before after) (answers (Ok done) result (Frame k) (sym is)).1 driven

@@ -2,7 +2,7 @@
 use Rattle.std.proofs.Common.{◌≡◌, ◌≢◌, ◌⊎◌, inl, inr, ℕ, List, [], ◌∷◌, ◌++◌, Option, None, Some, Result, Ok, Err, refl, sym, ap, ◌∙◌, subst, append-nil, rules}
 use Rattle.std.specs.Prelude.{is_some}
 use Rattle.std.specs.List.{concat, flat_map}
-use Rattle.dap_msg.specs.declared.request.FirstSeq.{FirstSeq}
+use Rattle.dap_msg.specs.declared.request.Dialect.{Dialect}
 use Rattle.dap_history.specs.declared.ending.Closed.{Closed}
 use Rattle.dap_history.specs.declared.fault.SessionFault.{SessionFault}
 use Rattle.dap_history.specs.Events.{Incoming}
@@ -74,19 +74,19 @@ writes_none (Err failed) taken put old later begins none written =
 -- ---- all together
 
 -- a session that has taken and sent nothing
-pub begun : (f first : FirstSeq) (closed : Option (Result Closed SessionFault)) (events given : List Incoming)
+pub begun : (f dialect : Dialect) (closed : Option (Result Closed SessionFault)) (events given : List Incoming)
     (loads was later : List Load) (old : Ports) (put : List WriterMessage) (pushed : PushedOrders)
-    → f ≡ first → events ≡ [] → loads ≡ was → old ≡ nothing_sent
+    → f ≡ dialect → events ≡ [] → loads ≡ was → old ≡ nothing_sent
     → SessionEndsAs f closed events given loads later old put pushed
-    → SessionEndsAs first closed [] given was later nothing_sent put pushed
-begun f first closed events given loads was later old put pushed same none loaded unsent ends =
+    → SessionEndsAs dialect closed [] given was later nothing_sent put pushed
+begun f dialect closed events given loads was later old put pushed same none loaded unsent ends =
     subst (λ f. SessionEndsAs f closed [] given was later nothing_sent put pushed) same
     (subst (λ e. SessionEndsAs f closed e given was later nothing_sent put pushed) none
     (subst (λ l. SessionEndsAs f closed events given l later nothing_sent put pushed) loaded
     (subst (λ o. SessionEndsAs f closed events given loads later o put pushed) unsent ends)))
 
 -- Nothing was taken, put or pushed when all began.
-pub serves : (f : FirstSeq) (wrote : Result (Unit {0}) WriteFailed) (closed : Option (Result Closed SessionFault))
+pub serves : (f : Dialect) (wrote : Result (Unit {0}) WriteFailed) (closed : Option (Result Closed SessionFault))
     (end : Option ReadEnd) (before after : World) (given client : List Incoming) (put taken : List WriterMessage)
     (pushed : PushedOrders) (acts : List Act) (reports : List PlainReport) (orders : List PlainOrder)
     → is_some end ≡ is_some closed

@@ -9,7 +9,7 @@ use Rattle.dap_frame.specs.Header.{FaultAt}
 use Rattle.dap_frame.specs.declared.fault.FramingFault.{FramingFault}
 use Rattle.dap_frame.proofs.Feeding.{frame_longer}
 use Rattle.dap_msg.specs.declared.command.Command.TheVariants as command
-use Rattle.dap_msg.specs.declared.request.FirstSeq.{FirstSeq}
+use Rattle.dap_msg.specs.declared.request.Dialect.{Dialect}
 use Rattle.dap_msg.specs.declared.request.Request.{Request}
 use Rattle.dap_history.specs.declared.ending.Closed.TheVariants as closed
 use Rattle.dap_history.specs.declared.fault.SessionFault.{SessionFault}
@@ -42,20 +42,20 @@ frames_before_more bytes (content ∷ contents) rest more (next, front, are) = (
 )
 
 -- the first of the frames, whose contents are read as the first of the requests
-record FirstFrames (first : FirstSeq) (bytes : List ℕ) (requests : List (Option Request)) : Type 0 where
+record FirstFrames (dialect : Dialect) (bytes : List ℕ) (requests : List (Option Request)) : Type 0 where
   pub contents : List (List ℕ)
   pub rest : List ℕ
   pub frames : Frames bytes contents rest
-  pub read : AreReadAs first contents requests
+  pub read : AreReadAs dialect contents requests
 
-first_frames : (first : FirstSeq) (requests others : List (Option Request)) (bytes : List ℕ)
+first_frames : (dialect : Dialect) (requests others : List (Option Request)) (bytes : List ℕ)
     (contents : List (List ℕ)) (rest : List ℕ) → Frames bytes contents rest
-    → AreReadAs first contents (requests ++ others) → FirstFrames first bytes requests
-first_frames first [] others bytes contents rest are read =
+    → AreReadAs dialect contents (requests ++ others) → FirstFrames dialect bytes requests
+first_frames dialect [] others bytes contents rest are read =
     record { contents = []; rest = bytes; frames = refl; read = tt }
-first_frames first (request ∷ requests) others bytes [] rest are read = absurd read
-first_frames first (request ∷ requests) others bytes (content ∷ contents) rest (next, front, are) (one, read) =
-    let more = first_frames first requests others next contents rest are read in
+first_frames dialect (request ∷ requests) others bytes [] rest are read = absurd read
+first_frames dialect (request ∷ requests) others bytes (content ∷ contents) rest (next, front, are) (one, read) =
+    let more = first_frames dialect requests others next contents rest are read in
     record {
       contents = content ∷ more.contents;
       rest = more.rest;
@@ -110,7 +110,7 @@ read_with_last past step asks =
     ∙ ap (λ i. filter_map read_as (items_of past) ++ cons_option (read_as i) []) asks.1
 
 -- the answers to what is read of the items
-answers_are : EachIsAnsweredOnce → (f : FirstSeq) (events : List Incoming) (past : History) (rest : Rest)
+answers_are : EachIsAnsweredOnce → (f : Dialect) (events : List Incoming) (past : History) (rest : Rest)
     → IsHistoryOf f events past rest
     → filter_map answered_request (messages_of past) ≡ filter_map asked (filter_map read_as (items_of past))
 answers_are answered f events past rest history =
@@ -119,7 +119,7 @@ answers_are answered f events past rest history =
 -- ---- up to a `disconnect`
 
 module _ (one : HistoryIsOne) (contents : ContentsAreOfTheStream) (answered : EachIsAnsweredOnce)
-    (last : DisconnectIsLast) (f : FirstSeq) (before after : World)
+    (last : DisconnectIsLast) (f : Dialect) (before after : World)
     (driven : TasksEnd f (Ok tt) (Ok closed.Disconnected) before after)
     (taken : TakesFirstDisconnect f driven.session.events before.streams.input after.streams.input) where
   abbrev all_taken : History
@@ -181,7 +181,7 @@ disconnect_is_answered one contents answered last f before after served =
 
 -- ---- up to a framing fault
 
-to_fault : ContentsAreOfTheStream → EachIsAnsweredOnce → (k : FramingFault) (f : FirstSeq) (events : List Incoming)
+to_fault : ContentsAreOfTheStream → EachIsAnsweredOnce → (k : FramingFault) (f : Dialect) (events : List Incoming)
     (past : History) (rest : Rest)
     → IsHistoryOf f events past rest → (rest.launch ≡ None) → (more : List ℕ)
     → FaultAt (rest.bytes ++ more) k → AnswersToFault k f (stream_of events ++ more) (messages_of past)
@@ -210,7 +210,7 @@ no_framing_fault fault k orders_are_full is = absurd cc
 no_framing_fault fault k runner_is_gone is = absurd cc
 no_framing_fault fault k writer_is_gone is = absurd cc
 
-at_fault : ContentsAreOfTheStream → EachIsAnsweredOnce → (k : FramingFault) (f : FirstSeq) (before after : World)
+at_fault : ContentsAreOfTheStream → EachIsAnsweredOnce → (k : FramingFault) (f : Dialect) (before after : World)
     (driven : TasksEnd f (Ok tt) (Err (Frame k)) before after)
     → SessionOutcome f driven.session.events driven.given driven.session.loaded nothing_sent driven.sent
     (Err (Frame k)) → AnswersRead (AnswersToFault k f) before after

@@ -3,7 +3,7 @@ use Rattle.std.proofs.Common.{◌≡◌, ℕ, List, [], ◌++◌, Ok, Err, sym, 
 use Rattle.std.specs.Prelude.{Result}
 use Rattle.std.specs.List.{concat}
 use Rattle.std.proofs.lemmas.List.Folds.{concat-append}
-use Rattle.dap_msg.specs.declared.request.FirstSeq.{FirstSeq}
+use Rattle.dap_msg.specs.declared.request.Dialect.{Dialect}
 use Rattle.dap_history.specs.declared.ending.Closed.{Closed}
 use Rattle.dap_history.specs.declared.ending.Closed.TheVariants as closed
 use Rattle.dap_history.specs.declared.fault.SessionFault.{SessionFault}
@@ -25,7 +25,7 @@ use Rattle.adapter.specs.Serving.{nothing_sent, SessionSends, Writes, TakenOfSen
 use Rattle.adapter.specs.Written.{OutputIsOfHistory}
 use Rattle.adapter.proofs.InputTaken.{BeginsRead, begins_read}
 
-interleaved : (f : FirstSeq) (events given : List Incoming) (loads : List Load) (old later : Ports)
+interleaved : (f : Dialect) (events given : List Incoming) (loads : List Load) (old later : Ports)
     (result : Result Closed SessionFault) → SessionOutcome f events given loads old later result
     → Interleaves f [] events given loads
 interleaved f events given loads old later _ (closes from serves) = from

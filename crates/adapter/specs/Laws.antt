@@ -4,7 +4,7 @@ use Rattle.dap_msg.specs.declared.command.Command.TheVariants as command
 use Rattle.dbg_runner.specs.Laws.{taken_by, reports_of_run, AllButLastGoOn, HasLast, KeepsOn}
 use Rattle.dbg_runner.specs.Plain.{Heading, PlainReport, Go, Quit}
 use Rattle.dbg_runner.specs.Runner.{Act, Looked, HandedBack}
-use Rattle.dap_msg.specs.declared.request.FirstSeq.{FirstSeq}
+use Rattle.dap_msg.specs.declared.request.Dialect.{Dialect}
 use Rattle.dap_history.specs.declared.ending.Closed.{Closed}
 use Rattle.dap_history.specs.declared.ending.Closed.TheVariants as closed
 use Rattle.dap_history.specs.declared.fault.SessionFault.TheVariants.{OrdersFull, RunnerGone, WriterGone}
@@ -34,8 +34,9 @@ closed_of (Err fault) = None
 -- below say of a session that something closed holds by what `serve` returns.
 abbrev pub OutcomeIsOfSession : Type 0
 OutcomeIsOfSession =
-    (first : FirstSeq) (outcome : Result Served ServeFault) (by : Closed) (before after : World)
-    → IsServed first outcome before after → closed_of outcome ≡ Some by → TasksEnd first (Ok tt) (Ok by) before after
+    (dialect : Dialect) (outcome : Result Served ServeFault) (by : Closed) (before after : World)
+    → IsServed dialect outcome before after → closed_of outcome ≡ Some by
+    → TasksEnd dialect (Ok tt) (Ok by) before after
 
 -- ---- The input
 
@@ -49,8 +50,8 @@ pub record TakesWholeInput (events : List Incoming) (old later : Supply) : Type 
 -- A session that the input's end closed has taken the whole input.
 abbrev pub InputIsTakenWhole : Type 0
 InputIsTakenWhole =
-    (first : FirstSeq) (wrote : Result (Unit {0}) WriteFailed) (before after : World)
-    → (driven : TasksEnd first wrote (Ok closed.InputEnded) before after)
+    (dialect : Dialect) (wrote : Result (Unit {0}) WriteFailed) (before after : World)
+    → (driven : TasksEnd dialect wrote (Ok closed.InputEnded) before after)
     → TakesWholeInput driven.session.events before.streams.input after.streams.input
 
 -- a request to disconnect
@@ -59,14 +60,14 @@ AsksToDisconnect item = (seq : ℕ) × (item ≡ Content (Some (record { seq = s
 
 -- The pieces, joined, are a prefix of what was read of the input, and hold the first `disconnect`: it is the last item
 -- taken.
-pub record TakesFirstDisconnect (client_first : FirstSeq) (events : List Incoming) (old later : Supply) : Type 0 where
+pub record TakesFirstDisconnect (dialect : Dialect) (events : List Incoming) (old later : Supply) : Type 0 where
   pub read : List ℕ
   pub consumed : IsReadOf read old later
   pub begins : IsPrefixOf (stream_of events) read
   pub before : History
   pub step : Step
   pub rest : Rest
-  pub history : IsHistoryOf client_first events (before ++ step ∷ []) rest
+  pub history : IsHistoryOf dialect events (before ++ step ∷ []) rest
   pub asks : AsksToDisconnect step.item
   pub first : (front : History) (other : Step) (back : History) → before ≡ front ++ other ∷ back
       → ¬ AsksToDisconnect other.item
@@ -74,9 +75,9 @@ pub record TakesFirstDisconnect (client_first : FirstSeq) (events : List Incomin
 -- A session that a `disconnect` closed has taken the input up to the first one.
 abbrev pub FirstDisconnectCloses : Type 0
 FirstDisconnectCloses =
-    (first : FirstSeq) (wrote : Result (Unit {0}) WriteFailed) (before after : World)
-    → (driven : TasksEnd first wrote (Ok closed.Disconnected) before after)
-    → TakesFirstDisconnect first driven.session.events before.streams.input after.streams.input
+    (dialect : Dialect) (wrote : Result (Unit {0}) WriteFailed) (before after : World)
+    → (driven : TasksEnd dialect wrote (Ok closed.Disconnected) before after)
+    → TakesFirstDisconnect dialect driven.session.events before.streams.input after.streams.input
 
 -- ---- Runs
 
@@ -90,8 +91,8 @@ pub data IsCutShort : List Act → Type 0 where
 -- last, unless it was cut short. No run cuts another.
 abbrev pub RunsEndOnce : Type 0
 RunsEndOnce =
-    (first : FirstSeq) (by : Closed) (wrote : Result (Unit {0}) WriteFailed) (before after : World)
-    → (driven : TasksEnd first wrote (Ok by) before after)
+    (dialect : Dialect) (by : Closed) (wrote : Result (Unit {0}) WriteFailed) (before after : World)
+    → (driven : TasksEnd dialect wrote (Ok by) before after)
     → (front : List Act) (act : Act) (back : List Act) (h : Heading) → driven.runner.acts ≡ front ++ act ∷ back
     → taken_by act ≡ Some (Go h)
     → AllButLastGoOn (reports_of_run back) × (HasLast (reports_of_run back) ⊎ IsCutShort back)
@@ -101,17 +102,18 @@ RunsEndOnce =
 -- `serve` never returns the fault that nobody takes frames or orders any more.
 abbrev pub NobodyIsGone : Type 0
 NobodyIsGone =
-    (first : FirstSeq) (outcome : Result Served ServeFault) (before after : World) → IsServed first outcome before after
+    (dialect : Dialect) (outcome : Result Served ServeFault) (before after : World)
+    → IsServed dialect outcome before after
     → (outcome ≢ Err (Session WriterGone)) × (outcome ≢ Err (Session RunnerGone))
 
 -- The session gave up since the queue of orders was full, and pushed enough orders to fill it, of which the last may be
 -- the Quit that it tried then. All that was put was written.
-pub record FoundFull (first : FirstSeq) (before after : World) : Type 0 where
-  pub driven : TasksEnd first (Ok tt) (Err OrdersFull) before after
+pub record FoundFull (dialect : Dialect) (before after : World) : Type 0 where
+  pub driven : TasksEnd dialect (Ok tt) (Err OrdersFull) before after
   pub enough : EnoughWerePushed driven.sent.orders
 
 -- `serve` returns the fault that the queue of orders was full only where enough orders were pushed to fill it.
 abbrev pub FullAfterEnough : Type 0
 FullAfterEnough =
-    (first : FirstSeq) (before after : World) → IsServed first (Err (Session OrdersFull)) before after
-    → FoundFull first before after
+    (dialect : Dialect) (before after : World) → IsServed dialect (Err (Session OrdersFull)) before after
+    → FoundFull dialect before after

@@ -9,7 +9,7 @@ use Rattle.std.specs.declared.string.String.{String}
 use Rattle.std.specs.declared.vec.IntoIter.{IntoIter}
 use Rattle.clap.specs.Words.{Text}
 use Rattle.clap.specs.declared.error.kind.ErrorKind.TheVariants.{DisplayHelp}
-use Rattle.dap_msg.specs.declared.request.FirstSeq.{FirstSeq}
+use Rattle.dap_msg.specs.declared.request.Dialect.{Dialect}
 use Rattle.dap_history.specs.Interleaving.{Load}
 use Rattle.adapter.specs.declared.arguments.ArgumentsFault.TheVariants as fault
 use Rattle.adapter.specs.declared.arguments.TheConstants.{HELP, USAGE}
@@ -29,13 +29,12 @@ use Rattle.byte_streams.specs.declared.files.FileFault.{FileFault}
 use Rattle.byte_streams.specs.declared.files.FileKinds.{FileKinds}
 use Rattle.byte_streams.specs.declared.files.FileKinds.TheVariants.{All, Regular}
 
--- A client that counts from `first` was served, through a gate that nothing had passed, and the reason says how that
--- went.
-pub record EndsServing (first : FirstSeq) (reason : ExitReason) (loads later_loads : List Load) (old later : Streams)
+-- A client of the dialect was served, through a gate that nothing had passed, and the reason says how that went.
+pub record EndsServing (dialect : Dialect) (reason : ExitReason) (loads later_loads : List Load) (old later : Streams)
     : Type 0 where
   pub outcome : Result Served ServeFault
   pub passed : List (ℕ × ℕ)
-  pub served : IsServed first outcome (world loads [] old) (world later_loads passed later)
+  pub served : IsServed dialect outcome (world loads [] old) (world later_loads passed later)
   pub reason_is : reason ≡ reason_of_serve outcome
 
 -- The file at the path was checked, and the reason says how that went.
@@ -57,9 +56,9 @@ EndsIdle arguments reason =
     ((reason ≡ NotUnderstood) × IsParsed arguments (Err fault.NotUnderstood)) ⊎ (reason ≡ NoMemory)
 
 -- The arguments ask for one of these, and it was done.
-abbrev pub Performs : FirstSeq → List Text → ExitReason → List Load → List Load → Streams → Streams → Type 0
-Performs first arguments reason loads later_loads old later =
-    (Reads arguments None × EndsServing first reason loads later_loads old later)
+abbrev pub Performs : Dialect → List Text → ExitReason → List Load → List Load → Streams → Streams → Type 0
+Performs dialect arguments reason loads later_loads old later =
+    (Reads arguments None × EndsServing dialect reason loads later_loads old later)
     ⊎ (((path : Text) × Reads arguments (Some path) × EndsChecking path reason loads later_loads old later)
     ⊎ (((refusals arguments ≡ DisplayHelp ∷ []) × EndsHelping reason old.output later.output
     × (later.input ≡ old.input) × (later_loads ≡ loads))
@@ -78,9 +77,9 @@ Reports NotText before after = WritesOrFails (last_line NotText ++ (line_feed ++
 Reports reason before after = WritesOrFails (last_line reason ++ line_feed) before after
 
 -- The program did what the arguments ask for, ended as that went, and said so on standard error.
-pub record Executes (first : FirstSeq) (arguments : List Text) (reason : ExitReason) (loads later_loads : List Load)
+pub record Executes (dialect : Dialect) (arguments : List Text) (reason : ExitReason) (loads later_loads : List Load)
     (old later : Streams) (errors later_errors : Output) : Type 0 where
-  pub performs : Performs first arguments reason loads later_loads old later
+  pub performs : Performs dialect arguments reason loads later_loads old later
   pub reports : Reports reason errors later_errors
 
 -- the arguments that were given, or the kind of the error that was given in their place
@@ -105,18 +104,18 @@ module _ {Files File : Type 0} (opens : FileKinds → Files → List ℕ → Res
   -- The program did what the arguments ask for, with a loader that was asked for no file before. What it answered is
   -- what reading the files gave. Where a client was served, these were regular files alone; where the arguments name a
   -- file to check, a file of any kind, or none if memory ran out before.
-  pub record ExecutesOnFiles (first : FirstSeq) (arguments : List Text) (reason : ExitReason)
+  pub record ExecutesOnFiles (dialect : Dialect) (arguments : List Text) (reason : ExitReason)
       (files later_files : Files) (old later : Streams) (errors later_errors : Output) : Type 0 where
     pub loads : List Load
     pub kinds : FileKinds
     pub loaded : ∥ AreLoaded (opens kinds) closes supply_of files loads later_files ∥₁
     pub regular : Reads arguments None → kinds ≡ Regular
     pub any : (path : Text) → Reads arguments (Some path) → (loads ≡ []) ⊎ (kinds ≡ All)
-    pub executes : Executes first arguments reason [] loads old later errors later_errors
+    pub executes : Executes dialect arguments reason [] loads old later errors later_errors
 
   -- The program ran on the arguments that were given.
-  abbrev pub Runs : FirstSeq → Given → ExitReason → Files → Files → Streams → Streams → Output → Output → Type 0
-  Runs first (Ok arguments) reason files later_files old later errors later_errors =
-      ExecutesOnFiles first arguments reason files later_files old later errors later_errors
-  Runs first (Err error) reason files later_files old later errors later_errors =
+  abbrev pub Runs : Dialect → Given → ExitReason → Files → Files → Streams → Streams → Output → Output → Type 0
+  Runs dialect (Ok arguments) reason files later_files old later errors later_errors =
+      ExecutesOnFiles dialect arguments reason files later_files old later errors later_errors
+  Runs dialect (Err error) reason files later_files old later errors later_errors =
       GetsNoArguments error reason old later errors later_errors × (later_files ≡ files)

@@ -2,7 +2,7 @@
 use Rattle.std.specs.Prelude.{◌≡◌, ◌≢◌, ◌⊎◌, ◌++◌, [], true, ℕ, List, Result, Ok, Err}
 use Rattle.std.specs.Result.{is_err}
 use Rattle.std.specs.List.{concat, flat_map}
-use Rattle.dap_msg.specs.declared.request.FirstSeq.{FirstSeq}
+use Rattle.dap_msg.specs.declared.request.Dialect.{Dialect}
 use Rattle.dap_history.specs.declared.fault.SessionFault.{SessionFault}
 use Rattle.dap_history.specs.declared.fault.SessionFault.TheVariants.{NoMemory, OrdersFull, WriterGone}
 use Rattle.dap_history.specs.declared.ending.Closed.{Closed}
@@ -77,12 +77,12 @@ TakenOfPushed (Err fault) acts pushed = IsPrefixOf (flat_map order_in acts) push
 -- It sent what they lead to, by the way in which it ended, and the loader was asked for nothing else. It was never
 -- answered that the runner is gone, and found the queue of orders full only where it pushed enough to fill it, of which
 -- the last may be the Quit that it tried then.
-pub record SessionSends (first : FirstSeq) (result : Result Closed SessionFault) (given : List Incoming) (sent : Ports)
+pub record SessionSends (dialect : Dialect) (result : Result Closed SessionFault) (given : List Incoming) (sent : Ports)
     (loads later_loads : List Load) : Type 0 where
   pub events : List Incoming
   pub loaded : List Load
   pub lawful : AreLawful events
-  pub drives : SessionOutcome first events given loaded nothing_sent sent result
+  pub drives : SessionOutcome dialect events given loaded nothing_sent sent result
   pub loads_are : later_loads ≡ loads ++ loaded
   pub never_gone : sent.runner_gone ≡ 0
   pub full : result ≡ Err OrdersFull → EnoughWerePushed sent.orders
@@ -116,11 +116,11 @@ pub record WriterWrites (wrote : Result (Unit {0}) WriteFailed) (result : Result
 
 -- Each of the four came to its end. They share what the inbox gave to the session, which came from the reader and the
 -- runner, and what the session sent: frames to the writer, and orders to the runner.
-pub record TasksEnd (first : FirstSeq) (wrote : Result (Unit {0}) WriteFailed) (result : Result Closed SessionFault)
+pub record TasksEnd (dialect : Dialect) (wrote : Result (Unit {0}) WriteFailed) (result : Result Closed SessionFault)
     (before after : World) : Type 0 where
   pub given : List Incoming
   pub sent : Ports
-  pub session : SessionSends first result given sent before.loads after.loads
+  pub session : SessionSends dialect result given sent before.loads after.loads
   pub reader : ReaderSends result given before.streams.input after.streams.input
   pub runner : RunnerActs result given sent.orders before.passed after.passed
   pub writer : WriterWrites wrote result sent.frames before.streams.output after.streams.output
@@ -142,9 +142,9 @@ pub record ServesNothing (before after : World) : Type 0 where
 
 -- Serving ended with this outcome. Where there was no memory for the queues, nothing was done; where a thread can't be
 -- started, nothing that is seen outside.
-pub data IsServed (first : FirstSeq) (outcome : Result Served ServeFault) (before after : World) : Type 0 where
+pub data IsServed (dialect : Dialect) (outcome : Result Served ServeFault) (before after : World) : Type 0 where
   tasks_ended : (wrote : Result (Unit {0}) WriteFailed) (result : Result Closed SessionFault)
-      → outcome ≡ outcome_of wrote result → TasksEnd first wrote result before after
-      → IsServed first outcome before after
-  had_no_memory : outcome ≡ Err (fault.Session NoMemory) → after ≡ before → IsServed first outcome before after
-  had_no_thread : outcome ≡ Err fault.NoThread → ServesNothing before after → IsServed first outcome before after
+      → outcome ≡ outcome_of wrote result → TasksEnd dialect wrote result before after
+      → IsServed dialect outcome before after
+  had_no_memory : outcome ≡ Err (fault.Session NoMemory) → after ≡ before → IsServed dialect outcome before after
+  had_no_thread : outcome ≡ Err fault.NoThread → ServesNothing before after → IsServed dialect outcome before after

@@ -2,7 +2,7 @@
 use Rattle.std.specs.Prelude.{◌≡◌, ◌≢◌, ◌⊎◌, ◌++◌, ◌∷◌, [], false, List, Option, None, Some, Result, Err}
 use Rattle.byte_streams.specs.declared.writing.WriteFailed.{WriteFailed}
 use Rattle.byte_streams.specs.Streams.{Supply, IsOfWhole}
-use Rattle.dap_msg.specs.declared.request.FirstSeq.{FirstSeq}
+use Rattle.dap_msg.specs.declared.request.Dialect.{Dialect}
 use Rattle.dap_history.specs.declared.fault.SessionFault.{SessionFault}
 use Rattle.dap_history.specs.declared.ending.Closed.{Closed}
 use Rattle.dap_history.specs.Events.{Incoming}
@@ -21,10 +21,10 @@ use Rattle.adapter.specs.Serving.{outcome_of}
 
 -- A session was driven over its ends: these messages were put, and these orders pushed. `End` was put after the frames,
 -- or not at all; and where a frame was refused, it was not put.
-pub record SessionLeaves (first : FirstSeq) (result : Result Closed SessionFault) (given later_given : List Incoming)
+pub record SessionLeaves (dialect : Dialect) (result : Result Closed SessionFault) (given later_given : List Incoming)
     (loads later_loads : List Load) (old : Ports) (messages : List WriterMessage) (pushed : PushedOrders) : Type 0 where
   pub later : Ports
-  pub driven : Driven first result given later_given loads later_loads old later
+  pub driven : Driven dialect result given later_given loads later_loads old later
   pub frames_are : frames_in messages ≡ later.frames
   pub orders_are : pushed.orders ≡ later.orders
   pub fulls_are : pushed.fulls ≡ later.orders_full
@@ -40,11 +40,11 @@ pub record SessionIsLeft (loads later_loads : List Load) (old : Ports) (messages
   pub orders_are : (pushed.orders ≡ old.orders) ⊎ (pushed.orders ≡ old.orders ++ Quit ∷ [])
 
 -- A session was driven and ended so, or was not driven.
-abbrev pub SessionEndsAs : FirstSeq → Option (Result Closed SessionFault) → List Incoming → List Incoming → List Load
+abbrev pub SessionEndsAs : Dialect → Option (Result Closed SessionFault) → List Incoming → List Incoming → List Load
     → List Load → Ports → List WriterMessage → PushedOrders → Type 0
-SessionEndsAs first (Some result) given later_given loads later_loads old messages pushed =
-    SessionLeaves first result given later_given loads later_loads old messages pushed
-SessionEndsAs first None given later_given loads later_loads old messages pushed =
+SessionEndsAs dialect (Some result) given later_given loads later_loads old messages pushed =
+    SessionLeaves dialect result given later_given loads later_loads old messages pushed
+SessionEndsAs dialect None given later_given loads later_loads old messages pushed =
     SessionIsLeft loads later_loads old messages pushed
 
 -- The input was read until reading ended so, and what was read was sent, all of it the input's own; or it is as it was.

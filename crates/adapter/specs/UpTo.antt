@@ -9,7 +9,7 @@ use Rattle.dap_msg.specs.declared.command.Supported.TheVariants as supported
 use Rattle.dap_msg.specs.declared.outgoing.Body.TheVariants as body
 use Rattle.dap_msg.specs.declared.outgoing.Outgoing.{Outgoing}
 use Rattle.dap_msg.specs.declared.outgoing.Outgoing.TheVariants.{Answer}
-use Rattle.dap_msg.specs.declared.request.FirstSeq.{FirstSeq}
+use Rattle.dap_msg.specs.declared.request.Dialect.{Dialect}
 use Rattle.dap_msg.specs.declared.request.Request.{Request}
 use Rattle.dap_history.specs.declared.fault.SessionFault.TheVariants.{Frame}
 use Rattle.dap_history.specs.Output.{frames_from}
@@ -24,21 +24,21 @@ abbrev pub disconnect : ℕ → Option Request
 disconnect seq = Some (record { seq = seq; body = command.Disconnect })
 
 -- The last of the whole frames is the first request to disconnect, and the answer to it is the last message.
-pub record AnswersToDisconnect (first : FirstSeq) (bytes : List ℕ) (messages : List Outgoing) : Type 0 where
+pub record AnswersToDisconnect (dialect : Dialect) (bytes : List ℕ) (messages : List Outgoing) : Type 0 where
   pub earlier : List (Option Request)
   pub seq : ℕ
   pub is_first : (front back : List (Option Request)) (other : ℕ) → ¬ (earlier ≡ front ++ disconnect other ∷ back)
   pub rest : List ℕ
-  pub answers : AnswersFrames first bytes (earlier ++ disconnect seq ∷ []) rest messages
+  pub answers : AnswersFrames dialect bytes (earlier ++ disconnect seq ∷ []) rest messages
   pub before : List Outgoing
   pub is_last : messages ≡ before ++ Answer seq (name.Supported supported.Disconnect) (Ok body.None) ∷ []
 
 -- The requests in the whole frames were answered; behind these frames stands this fault.
-pub record AnswersToFault (fault : FramingFault) (first : FirstSeq) (bytes : List ℕ) (messages : List Outgoing)
+pub record AnswersToFault (fault : FramingFault) (dialect : Dialect) (bytes : List ℕ) (messages : List Outgoing)
     : Type 0 where
   pub requests : List (Option Request)
   pub rest : List ℕ
-  pub answers : AnswersFrames first bytes requests rest messages
+  pub answers : AnswersFrames dialect bytes requests rest messages
   pub stands : FaultAt rest fault
 
 -- What was read of the input was answered so, and all messages were written whole.
@@ -53,12 +53,12 @@ pub record AnswersRead (Answers : List ℕ → List Outgoing → Type 0) (before
 -- nothing after it.
 abbrev pub DisconnectIsAnswered : Type 0
 DisconnectIsAnswered =
-    (first : FirstSeq) (before after : World) → IsServed first (Ok Disconnected) before after
-    → AnswersRead (AnswersToDisconnect first) before after
+    (dialect : Dialect) (before after : World) → IsServed dialect (Ok Disconnected) before after
+    → AnswersRead (AnswersToDisconnect dialect) before after
 
 -- Where `serve` returns a framing fault, what was read up to it was answered.
 abbrev pub AllBeforeFaultIsAnswered : Type 0
 AllBeforeFaultIsAnswered =
-    (first : FirstSeq) (fault : FramingFault) (before after : World)
-    → IsServed first (Err (Session (Frame fault))) before after
-    → AnswersRead (AnswersToFault fault first) before after
+    (dialect : Dialect) (fault : FramingFault) (before after : World)
+    → IsServed dialect (Err (Session (Frame fault))) before after
+    → AnswersRead (AnswersToFault fault dialect) before after

@@ -28,7 +28,7 @@ pub use byte_streams::{
     Writing, read_beginning,
 };
 pub use checking::{CheckFault, check};
-pub use dap_session::FirstSeq;
+pub use dap_session::Dialect;
 pub use exit_reason::{ExitReason, end_of_check, end_of_serve};
 pub use files::FileLoader;
 pub use laws::{serving_laws, worked_exits};

@@ -23,7 +23,7 @@ use crate::serving::{end_loan, serve};
 use byte_streams::{
     FileKinds, Opener, Sink, Source, WriteFailed, borrow_texts, collect_arguments, write_all,
 };
-use dap_session::{FirstSeq, Loader};
+use dap_session::{Dialect, Loader};
 use std::env::Args;
 use std::io;
 use std::process::ExitCode;
@@ -34,7 +34,7 @@ use std::thread::Threads;
 /// `env::args` gave, the program's name first, the files of the system and the standard streams.
 pub fn run_process<R, F, I, O, E>(
     rt: &R,
-    first: FirstSeq,
+    dialect: Dialect,
     given: io::Result<Args>,
     files: &mut F,
     input: &mut I,
@@ -48,11 +48,11 @@ where
     O: Sink + Send,
     E: Sink,
     ensures { (reason : ExitReason) × (exit_status result ≡ status_of reason) × Runs F.opens F.closes F.File.supply
-        first (given_of given) reason files.old files.new
+        dialect (given_of given) reason files.old files.new
         (streams (I.supply input.old) (O.output output.old)) (streams (I.supply input.new) (O.output output.new))
         (E.output errors.old) (E.output errors.new) }
 {
-    ExitCode::from(run(rt, first, given, files, input, output, errors).status())
+    ExitCode::from(run(rt, dialect, given, files, input, output, errors).status())
 }
 
 /// Does what the arguments ask for, as [`execute`] does, with the files that are opened, and returns how that ended:
@@ -60,7 +60,7 @@ where
 /// in place of the arguments, it says so on `errors`, and does nothing else.
 pub fn run<R, F, I, O, E>(
     rt: &R,
-    first: FirstSeq,
+    dialect: Dialect,
     given: io::Result<Args>,
     files: &mut F,
     input: &mut I,
@@ -73,12 +73,12 @@ where
     I: Source + Send,
     O: Sink + Send,
     E: Sink,
-    ensures { Runs F.opens F.closes F.File.supply first (given_of given) result files.old files.new
+    ensures { Runs F.opens F.closes F.File.supply dialect (given_of given) result files.old files.new
         (streams (I.supply input.old) (O.output output.old)) (streams (I.supply input.new) (O.output output.new))
         (E.output errors.old) (E.output errors.new) }
 {
     match given {
-        Ok(given) => run_given(rt, first, given, files, input, output, errors),
+        Ok(given) => run_given(rt, dialect, given, files, input, output, errors),
         Err(error) => report(rt, &[], end_of_reading(&error), errors),
     }
 }
@@ -86,7 +86,7 @@ where
 /// Does what the arguments ask for, as [`run`] does.
 fn run_given<R, F, I, O, E>(
     rt: &R,
-    first: FirstSeq,
+    dialect: Dialect,
     given: Args,
     files: &mut F,
     input: &mut I,
@@ -100,7 +100,7 @@ where
     O: Sink + Send,
     E: Sink,
     ensures { ExecutesOnFiles F.opens F.closes F.File.supply
-        first (map string_bytes (into_iter_items given)) result files.old files.new
+        dialect (map string_bytes (into_iter_items given)) result files.old files.new
         (streams (I.supply input.old) (O.output output.old)) (streams (I.supply input.new) (O.output output.new))
         (E.output errors.old) (E.output errors.new) }
 {
@@ -115,7 +115,7 @@ where
     let mut loader = FileLoader::new(rt, rt.alloc(), files, kinds_for(&asked));
     let reason = carry_out(
         rt,
-        first,
+        dialect,
         arguments,
         asked,
         &mut loader,
@@ -137,13 +137,13 @@ fn kinds_for(asked: &Result<Invocation<'_>, ArgumentsFault>) -> FileKinds
     }
 }
 
-/// Does what the arguments ask for, the program's name first, and returns how that ended. A client that is served may
-/// count its requests from `first`. `errors` gets nothing at status 0, the usage at status 4, and else the last line,
-/// which is written as soon as the reason is known: where a client was served, before the last read of its input
-/// returns. Where `errors` fails, nothing else changes.
+/// Does what the arguments ask for, the program's name first, and returns how that ended. A client that is served
+/// speaks `dialect`. `errors` gets nothing at status 0, the usage at status 4, and else the last line, which is written as
+/// soon as the reason is known: where a client was served, before the last read of its input returns. Where `errors`
+/// fails, nothing else changes.
 pub fn execute<R, L, I, O, E>(
     rt: &R,
-    first: FirstSeq,
+    dialect: Dialect,
     arguments: &[&str],
     loader: &mut L,
     input: &mut I,
@@ -156,20 +156,20 @@ where
     I: Source + Send,
     O: Sink + Send,
     E: Sink,
-    ensures executes { Executes first (map (λ argument. argument.now) arguments.entry.now) result (L.loaded loader.old)
-        (L.loaded loader.new)
+    ensures executes { Executes dialect (map (λ argument. argument.now) arguments.entry.now) result
+        (L.loaded loader.old) (L.loaded loader.new)
         (streams (I.supply input.old) (O.output output.old)) (streams (I.supply input.new) (O.output output.new))
         (E.output errors.old) (E.output errors.new) }
     ensures loader { L.origin loader.new ≡ L.origin loader.old }
 {
     let asked = parse_arguments(rt.alloc(), arguments);
-    carry_out(rt, first, arguments, asked, loader, input, output, errors)
+    carry_out(rt, dialect, arguments, asked, loader, input, output, errors)
 }
 
 /// Does what these arguments ask for, parsed as `asked`, as [`execute`] does.
 fn carry_out<R, L, I, O, E>(
     rt: &R,
-    first: FirstSeq,
+    dialect: Dialect,
     arguments: &[&str],
     asked: Result<Invocation<'_>, ArgumentsFault>,
     loader: &mut L,
@@ -184,15 +184,15 @@ where
     O: Sink + Send,
     E: Sink,
     requires { IsParsed (map (λ argument. argument.now) arguments.now) asked }
-    ensures executes { Executes first (map (λ argument. argument.now) arguments.entry.now) result (L.loaded loader.old)
-        (L.loaded loader.new)
+    ensures executes { Executes dialect (map (λ argument. argument.now) arguments.entry.now) result
+        (L.loaded loader.old) (L.loaded loader.new)
         (streams (I.supply input.old) (O.output output.old)) (streams (I.supply input.new) (O.output output.new))
         (E.output errors.old) (E.output errors.new) }
     ensures loader { L.origin loader.new ≡ L.origin loader.old }
     ensures idle { IfErr asked.entry (λ _. L.loaded loader.new ≡ L.loaded loader.old) }
 {
     let reason = match asked {
-        Ok(Invocation::Serve) => return serve_client(rt, first, loader, input, output, errors),
+        Ok(Invocation::Serve) => return serve_client(rt, dialect, loader, input, output, errors),
         Ok(Invocation::Check(file)) => check_file(rt, file, loader, output),
         Err(ArgumentsFault::Help) => show_help(rt, output),
         Err(fault) => end_of_arguments(fault),
@@ -200,10 +200,10 @@ where
     report(rt, arguments, reason, errors)
 }
 
-/// Serves a client that may count its requests from `first`, reports how that ended, and returns it.
+/// Serves a client that speaks `dialect`, reports how that ended, and returns it.
 fn serve_client<R, L, I, O, E>(
     rt: &R,
-    first: FirstSeq,
+    dialect: Dialect,
     loader: &mut L,
     input: &mut I,
     output: &mut O,
@@ -215,7 +215,7 @@ where
     I: Source + Send,
     O: Sink + Send,
     E: Sink,
-    ensures served { EndsServing first result (L.loaded loader.old) (L.loaded loader.new)
+    ensures served { EndsServing dialect result (L.loaded loader.old) (L.loaded loader.new)
         (streams (I.supply input.old) (O.output output.old)) (streams (I.supply input.new) (O.output output.new)) }
     ensures loader { L.origin loader.new ≡ L.origin loader.old }
     ensures reports { Reports result (E.output errors.old) (E.output errors.new) }
@@ -223,7 +223,16 @@ where
     let alloc = rt.alloc();
     let gate = &mut OpenGate::new();
     let mut reporter = EndReporter::new(rt, errors);
-    let served = serve(rt, alloc, first, input, output, loader, gate, &mut reporter);
+    let served = serve(
+        rt,
+        alloc,
+        dialect,
+        input,
+        output,
+        loader,
+        gate,
+        &mut reporter,
+    );
     end_loan(reporter.into_errors());
     end_of_serve(&served)
 }

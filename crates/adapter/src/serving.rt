@@ -10,7 +10,7 @@ use crate::listener::{EndListener, ListenerWitness, tell};
 use crate::tasks::run_beside;
 use crate::thread_tasks::{ReaderOutput, RunnerOutput, SessionOutput, WriterOutput, tasks_over};
 use byte_streams::{Sink, Source, WriteFailed};
-use dap_session::{Closed, FirstSeq, Loader, SessionFault};
+use dap_session::{Closed, Dialect, Loader, SessionFault};
 use dap_wires::{Wires, reconcile};
 use dbg_runner::Gate;
 use std::alloc::{AllocError, Global};
@@ -43,8 +43,8 @@ pub enum ServeFault {
 const NO_MEMORY: Result<Served, ServeFault> = Err(ServeFault::Session(SessionFault::NoMemory));
 
 /// Serves an input and an output: a reader, a runner and a writer work in threads of their own, the session in this one,
-/// and all are joined. The client may count its requests from `first`. The loader is asked for the program of each launch,
-/// and each slice of a run passes the gate. The listener is told how serving ended before the reader is joined.
+/// and all are joined. The client speaks `dialect`. The loader is asked for the program of each launch, and each slice of
+/// a run passes the gate. The listener is told how serving ended before the reader is joined.
 ///
 /// After the answer to `disconnect` the reader ends when its next read returns. What was read then changes nothing.
 ///
@@ -57,7 +57,7 @@ const NO_MEMORY: Result<Served, ServeFault> = Err(ServeFault::Session(SessionFau
 pub fn serve<R, I, O, L, G, E>(
     rt: &R,
     alloc: Global,
-    first: FirstSeq,
+    dialect: Dialect,
     input: &mut I,
     output: &mut O,
     loader: &mut L,
@@ -71,7 +71,7 @@ where
     L: Loader,
     G: Gate + Send,
     E: EndListener,
-    ensures served { IsServed first result
+    ensures served { IsServed dialect result
         (world (L.loaded loader.old) (G.passed gate.old)
         (streams (I.supply input.old) (O.output output.old)))
         (world (L.loaded loader.new) (G.passed gate.new)
@@ -81,7 +81,7 @@ where
 {
     match Wires::new(*rt, alloc) {
         Ok(wires) => serve_over(
-            rt, alloc, first, wires, input, output, loader, gate, listener,
+            rt, alloc, dialect, wires, input, output, loader, gate, listener,
         ),
         Err(AllocError) => tell(listener, NO_MEMORY),
     }
@@ -91,7 +91,7 @@ where
 fn serve_over<R, I, O, L, G, E>(
     rt: &R,
     alloc: Global,
-    first: FirstSeq,
+    dialect: Dialect,
     wires: Wires<R>,
     input: &mut I,
     output: &mut O,
@@ -108,7 +108,7 @@ where
     E: EndListener,
     requires unused { AreUnused wires }
     requires joined { AreJoined wires }
-    ensures served { IsServed first result
+    ensures served { IsServed dialect result
         (world (L.loaded loader.old) (G.passed gate.old)
         (streams (I.supply input.old) (O.output output.old)))
         (world (L.loaded loader.new) (G.passed gate.new)
@@ -117,7 +117,7 @@ where
     ensures told { E.tells listener.old listener.new result }
 {
     let (writer, runner, reader, session) = tasks_over(
-        *rt, alloc, first, wires, input, output, loader, gate,
+        *rt, alloc, dialect, wires, input, output, loader, gate,
     );
     let witness = ListenerWitness::new(listener);
     // The reader is started last, since nothing can wake it from a read.

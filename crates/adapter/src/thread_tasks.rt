@@ -16,7 +16,7 @@ ghost use Rattle.adapter.specs.ThreadTasks.{SessionEndsAs, ReaderEndsAs};
 use crate::gates::{Gated, OpenGate};
 use crate::tasks::{OptionalTask, Task};
 use byte_streams::{Sink, Source, WriteFailed};
-use dap_session::{Closed, FirstSeq, Loader, Order, Orders, SessionFault, drive};
+use dap_session::{Closed, Dialect, Loader, Order, Orders, SessionFault, drive};
 use dap_wires::{
     ClientSender, FrameSender, OrderReceiver, OrderSender, OutboxLog, ReadEnd, ReportSender,
     SessionEnds, SessionInbox, Wires, WriterEnd, read_loop, write_loop,
@@ -177,7 +177,7 @@ impl<'a, G: Gate, R: Wait + Drop> Task for RunnerTask<'a, G, R> {
 pub struct SessionTask<'a, L, R: Wait + Drop> {
     rt: R,
     alloc: Global,
-    first: FirstSeq,
+    dialect: Dialect,
     loader: &'a mut L,
     inbox: SessionInbox<L, FrameSender<R>, OrderSender<R>, R>,
     outbox: FrameSender<R>,
@@ -199,13 +199,13 @@ impl<'a, L: Loader, R: Wait + Drop> Task for SessionTask<'a, L, R> {
     // The inbox is that of a session over these ports, which has taken and put nothing.
     ghost can_run = { λ t. (session_events t.inbox ≡ []) × keeps_none t.outbox
         × (session_origin t.inbox
-        ≡ ((session_origin t.inbox).0, t.first, t.loader.now, t.outbox, t.orders)) };
+        ≡ ((session_origin t.inbox).0, t.dialect, t.loader.now, t.outbox, t.orders)) };
 
     ghost gives = { λ t r. (r.loader.ghost_name ≡ t.loader.ghost_name)
         × (left_queue r.ends.inbox ≡ (session_origin t.inbox).0)
         × (ended_queue r.ends.outbox ≡ frame_queue t.outbox)
         × (push_queue r.ends.orders ≡ push_queue t.orders)
-        × SessionEndsAs t.first r.closed (session_events t.inbox) (received r.ends.inbox) (L.loaded t.loader.now)
+        × SessionEndsAs t.dialect r.closed (session_events t.inbox) (received r.ends.inbox) (L.loaded t.loader.now)
         (L.loaded r.loader.now) (ports (put_frames t.outbox) (pushed_orders t.orders)) (messages_put r.ends.outbox)
         (pushed_orders r.ends.orders)
         × (L.origin r.loader.now ≡ L.origin t.loader.now) };
@@ -216,14 +216,22 @@ impl<'a, L: Loader, R: Wait + Drop> Task for SessionTask<'a, L, R> {
         let SessionTask {
             rt,
             alloc,
-            first,
+            dialect,
             loader,
             mut inbox,
             mut outbox,
             mut orders,
         } = self;
         let events = &mut inbox;
-        let end = drive(&rt, alloc, first, events, loader, &mut outbox, &mut orders);
+        let end = drive(
+            &rt,
+            alloc,
+            dialect,
+            events,
+            loader,
+            &mut outbox,
+            &mut orders,
+        );
         let ends = SessionEnds {
             inbox: inbox.leave(),
             outbox: outbox.finish(),
@@ -266,7 +274,7 @@ impl<'a, L: Loader, R: Wait + Drop> OptionalTask for SessionTask<'a, L, R> {
 pub fn tasks_over<'a, R: Wait + Copy + Drop, I, O: Sink, L, G>(
     rt: R,
     alloc: Global,
-    first: FirstSeq,
+    dialect: Dialect,
     wires: Wires<R>,
     input: &'a mut I,
     output: &'a mut O,
@@ -292,12 +300,12 @@ pub fn tasks_over<'a, R: Wait + Copy + Drop, I, O: Sink, L, G>(
     ensures same_input { result.2.input.ghost_name ≡ input.entry.ghost_name }
     ensures input { result.2.input.now ≡ input.old }
     ensures client { result.2.inbox ≡ wires.client }
-    ensures first { result.3.first ≡ first }
+    ensures dialect { result.3.dialect ≡ dialect }
     ensures same_loader { result.3.loader.ghost_name ≡ loader.entry.ghost_name }
     ensures loader { result.3.loader.now ≡ loader.old }
     ensures events { session_events result.3.inbox ≡ [] }
     ensures inbox { session_origin result.3.inbox
-        ≡ (event_queue wires.events, first, loader.old, wires.frames, wires.pushed) }
+        ≡ (event_queue wires.events, dialect, loader.old, wires.frames, wires.pushed) }
     ensures frames { result.3.outbox ≡ wires.frames }
     ensures pushed { result.3.orders ≡ wires.pushed }
 {
@@ -319,7 +327,7 @@ pub fn tasks_over<'a, R: Wait + Copy + Drop, I, O: Sink, L, G>(
     let inbox = SessionInbox::new(
         rt,
         wires.events,
-        first,
+        dialect,
         &*loader,
         &wires.frames,
         &wires.pushed,
@@ -327,7 +335,7 @@ pub fn tasks_over<'a, R: Wait + Copy + Drop, I, O: Sink, L, G>(
     let session = SessionTask {
         rt,
         alloc,
-        first,
+        dialect,
         loader,
         inbox,
         outbox: wires.frames,

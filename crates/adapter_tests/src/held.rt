@@ -5,7 +5,7 @@ use crate::programs::{BROKEN, CUT_OFF, Debugging, NOTHING, PAUSED, PROCEDURES};
 use crate::rows::STARTED;
 use crate::serving::{Outcome, run};
 use crate::transcript::{Exchange, input, sent_frames};
-use adapter::{FirstSeq, ServeFault, Served, serve};
+use adapter::{Dialect, ServeFault, Served, serve};
 use dap_frame::FramingFault;
 use dap_session::SessionFault;
 use std::alloc::Global;
@@ -204,7 +204,7 @@ fn tells_how_it_ended_before_the_input_ends(rt: HostRuntime) {
         let came = serve(
             &rt,
             alloc,
-            FirstSeq::One,
+            Dialect::Codes,
             &mut Input::new(&rt, sent, streams, &progress),
             &mut Output::new(&rt, alloc, streams, &progress),
             &mut Files::none(alloc),

@@ -4,7 +4,7 @@ use crate::fakes::{Input, OneFile, Output, Progress, Streams};
 use crate::listings::{LAWFUL, LISTING};
 use crate::programs::PROCEDURES;
 use crate::transcript::Exchange;
-use adapter::{FirstSeq, Opener, run};
+use adapter::{Dialect, Opener, run};
 use std::process::Abort;
 use std::sync::Wait;
 use std::thread::Threads;
@@ -39,7 +39,7 @@ where
     let given = Ok(arguments(rt, words).into_iter());
     let reason = run(
         rt,
-        FirstSeq::One,
+        Dialect::Codes,
         given,
         files,
         &mut input,

@@ -5,7 +5,7 @@ use crate::listings::{LAWFUL, LISTING};
 use crate::rows::{HELLO, INITIALIZE};
 use crate::transcript::{answered_frames, input};
 use adapter::arguments::HELP;
-use adapter::{FirstSeq, execute};
+use adapter::{Dialect, execute};
 use dap_session::Loader;
 use std::alloc::Global;
 use std::process::Abort;
@@ -42,10 +42,10 @@ where
         ..streams
     };
     let mut errors = Output::new(rt, rt.alloc(), roomy, &progress);
-    let first = FirstSeq::One;
+    let dialect = Dialect::Codes;
     let reason = execute(
         rt,
-        first,
+        dialect,
         arguments,
         loader,
         &mut input,
@@ -200,10 +200,10 @@ fn ends_so_where_errors_cannot_be_written(rt: HostRuntime) {
     let mut errors = Output::new(&rt, alloc, full, &progress);
     let mut input = Input::new(&rt, b"", Streams::WELL, &progress);
     let files = &mut Files::none(alloc);
-    let first = FirstSeq::One;
+    let dialect = Dialect::Codes;
     let reason = execute(
         &rt,
-        first,
+        dialect,
         &CHECK,
         files,
         &mut input,

@@ -4,7 +4,7 @@ use crate::fakes::{Cut, Hold, Input, Output, Progress, SliceGate, Streams};
 use crate::rows::{FAULTS, HELLO, INITIALIZE, ROWS, Row, fault_row};
 use crate::transcript::{answered_frames, input, sent_frames};
 use adapter::{
-    ExitReason, FirstSeq, NoListener, Reading, ServeFault, Served, Writing, end_of_serve,
+    Dialect, ExitReason, NoListener, Reading, ServeFault, Served, Writing, end_of_serve,
     say_reason, serve,
 };
 use std::alloc::Global;
@@ -38,7 +38,7 @@ pub fn run<R: Threads + Wait + Abort + Copy + Drop + Send + Sync>(
     let end = serve(
         rt,
         alloc,
-        FirstSeq::One,
+        Dialect::Codes,
         &mut input,
         &mut output,
         &mut files,
@@ -207,7 +207,7 @@ fn serves_streams_of_std(rt: HostRuntime) {
     let result = serve(
         &rt,
         alloc,
-        FirstSeq::One,
+        Dialect::Codes,
         &mut Reading::new(&rt, input.as_slice()),
         &mut Writing::new(&rt, &mut output),
         &mut Files::everywhere(alloc, b""),
@@ -236,23 +236,23 @@ const FROM_ONE: &str = r#"
 fn serves_clients_that_count_from_zero(rt: HostRuntime) {
     let alloc = rt.alloc();
     let input = sent_frames(&rt, alloc, FROM_ZERO);
-    for (first, answers) in [(FirstSeq::Zero, FROM_ZERO), (FirstSeq::One, FROM_ONE)] {
+    for (dialect, answers) in [(Dialect::Words, FROM_ZERO), (Dialect::Codes, FROM_ONE)] {
         let expected = answered_frames(&rt, alloc, answers);
         let mut output = Vec::new(alloc);
         let progress = Progress::new();
         let result = serve(
             &rt,
             alloc,
-            first,
+            dialect,
             &mut Reading::new(&rt, input.as_slice()),
             &mut Writing::new(&rt, &mut output),
             &mut Files::everywhere(alloc, b""),
             &mut SliceGate::new(&rt, Streams::WELL, &progress),
             &mut NoListener,
         );
-        assert_eq!(rt; result, Ok(Served::Disconnected), "{first:?}");
+        assert_eq!(rt; result, Ok(Served::Disconnected), "{dialect:?}");
         let came = std::str::from_utf8(output.as_slice());
         let wanted = std::str::from_utf8(expected.as_slice());
-        assert_eq!(rt; came, wanted, "{first:?}");
+        assert_eq!(rt; came, wanted, "{dialect:?}");
     }
 }

@@ -3,7 +3,7 @@
 //! command line is that of this process.
 #![tactic(auto)]
 
-use adapter::{FirstSeq, Reading, SystemFiles, Writing, run};
+use adapter::{Dialect, Reading, SystemFiles, Writing, run};
 use std::alloc::{AllocError, Global};
 use std::env;
 use std::env::Args;
@@ -31,18 +31,18 @@ fn main(rt: HostRuntime) -> Result<(), anyhow::Error> {
     let errors = &mut Writing::new(&rt, rt.stdout());
     println!(rt; "two.pl0:")?;
     let given = env::args(&rt);
-    let reason = run(&rt, FirstSeq::One, given, files, input, output, errors);
+    let reason = run(&rt, Dialect::Codes, given, files, input, output, errors);
     println!(rt; "status {}", reason.status())?;
     for file in FILES {
         println!(rt; "{file}:")?;
         let given = arguments(rt.alloc(), &["--check", file])?;
-        let reason = run(&rt, FirstSeq::One, Ok(given), files, input, output, errors);
+        let reason = run(&rt, Dialect::Codes, Ok(given), files, input, output, errors);
         println!(rt; "status {}", reason.status())?;
     }
     for option in ["--help", "--check", "--chec"] {
         println!(rt; "{option}:")?;
         let given = arguments(rt.alloc(), &[option])?;
-        let reason = run(&rt, FirstSeq::One, Ok(given), files, input, output, errors);
+        let reason = run(&rt, Dialect::Codes, Ok(given), files, input, output, errors);
         println!(rt; "status {}", reason.status())?;
     }
     Ok(())

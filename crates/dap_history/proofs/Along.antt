@@ -1,5 +1,5 @@
 -- What holds along a history: what holds at first and is kept by each item that is taken.
-use Rattle.dap_history.proofs.Common.{Accepted, Accepts, AreLawful, Content, Ending, Err, Fault, File, FirstSeq, History, Incoming, InputEnd, IsAfter, IsHistoryOf, IsLawfulReport, IsTaking, Item, Launch, LeadsByEvent, LeadsByEvents, LeadsByFile, LeadsByPiece, LeadsByReport, LoadFault, Loaded, Loads, MayTake, MemoryFailure, NoMemory, None, Ok, Option, Piece, PlainReport, ReadFailed, ReadFailure, Ready, Report, Request, Rest, Situation, Some, Rests, Takes, TakesSome, [], closed, closing, faulty, inl, inr, no_content, one_content, open_ended, refl, situation, subst, sym, waits, wanted_in, ℕ, ◌∙◌, ◌∷◌, ◌≡◌}
+use Rattle.dap_history.proofs.Common.{Accepted, Accepts, AreLawful, Content, Dialect, Ending, Err, Fault, File, History, Incoming, InputEnd, IsAfter, IsHistoryOf, IsLawfulReport, IsTaking, Item, Launch, LeadsByEvent, LeadsByEvents, LeadsByFile, LeadsByPiece, LeadsByReport, LoadFault, Loaded, Loads, MayTake, MemoryFailure, NoMemory, None, Ok, Option, Piece, PlainReport, ReadFailed, ReadFailure, Ready, Report, Request, Rest, Situation, Some, Rests, Takes, TakesSome, [], closed, closing, faulty, inl, inr, no_content, one_content, open_ended, refl, situation, subst, sym, waits, wanted_in, ℕ, ◌∙◌, ◌∷◌, ◌≡◌}
 use Rattle.std.proofs.Common.{List, Result, arith}
 use Rattle.dap_history.specs.declared.fault.LoadFault.TheVariants as load_fault
 use Rattle.dap_history.proofs.Readings.{ending_of-snoc}
@@ -62,15 +62,15 @@ module _ (Q : Incoming → Type 0) (P : History → Type 0) (kept : IsKept Q P) 
   abbrev Holds : History → Rest → Type 0
   Holds past rest = P past × WaitsWell past rest
 
-  along_some : {first : FirstSeq} {past new : History} {bytes left : List ℕ} → TakesSome first past bytes new left
+  along_some : {dialect : Dialect} {past new : History} {bytes left : List ℕ} → TakesSome dialect past bytes new left
       → P past
       → P new
   along_some no_content here = here
   along_some (one_content {past = past} {mid = mid} request taking front unwanted after some) here =
       along_some some (kept.step past (Content request) mid taking unwanted after here)
 
-  along_rests : {first : FirstSeq} {past new : History} {bytes : List ℕ} {rest : Rest}
-      → Rests first past bytes new rest → P past → Holds new rest
+  along_rests : {dialect : Dialect} {past new : History} {bytes : List ℕ} {rest : Rest}
+      → Rests dialect past bytes new rest → P past → Holds new rest
   along_rests (closed not) here = (here, λ taking launch is. absurd (not taking))
   along_rests (open_ended taking is) here = (here, λ taking launch is. absurd cc)
   along_rests {past = past} (faulty k new taking is after) here =
@@ -78,9 +78,9 @@ module _ (Q : Incoming → Type 0) (P : History → Type 0) (kept : IsKept Q P) 
   along_rests {past = past} (waits request launch more taking front wanted) here =
       (here, λ taking launch is. wanted_ready (situation past) request _ wanted)
 
-  along_takes : (first : FirstSeq) (past : History) (bytes : List ℕ) (new : History) (rest : Rest)
-      → Takes first past bytes new rest → P past → Holds new rest
-  along_takes first past bytes new rest taken here = along_rests taken.3 (along_some taken.2 here)
+  along_takes : (dialect : Dialect) (past : History) (bytes : List ℕ) (new : History) (rest : Rest)
+      → Takes dialect past bytes new rest → P past → Holds new rest
+  along_takes dialect past bytes new rest taken here = along_rests taken.3 (along_some taken.2 here)
 
   along_may : (past : History) (rest : Rest) (item : Item) (new : History) (by : Ending) → IsTaken Q past item
       → closing item ≡ Some by → MayTake past item new → Holds past rest → Holds new rest
@@ -91,20 +91,20 @@ module _ (Q : Incoming → Type 0) (P : History → Type 0) (kept : IsKept Q P) 
         (closes_for_good past item new by closes is.1 taking),
   )
 
-  along_piece : (first : FirstSeq) (past : History) (rest : Rest) (launch : Option Launch) (bytes : List ℕ)
+  along_piece : (dialect : Dialect) (past : History) (rest : Rest) (launch : Option Launch) (bytes : List ℕ)
       (new : History) (left : Rest)
-      → rest.launch ≡ launch → LeadsByPiece first past launch bytes new left → Holds past rest → Holds new left
-  along_piece first past rest None bytes new left same all here = along_takes first past bytes new left all here.0
-  along_piece first past rest (Some launch) bytes new left same is here = grind (arith, common_steps) steps 200000
+      → rest.launch ≡ launch → LeadsByPiece dialect past launch bytes new left → Holds past rest → Holds new left
+  along_piece dialect past rest None bytes new left same all here = along_takes dialect past bytes new left all here.0
+  along_piece dialect past rest (Some launch) bytes new left same is here = grind (arith, common_steps) steps 200000
 
-  along_loads : (first : FirstSeq) (past : History) (launch : Launch) (file : Option (List ℕ)) (bytes : List ℕ)
+  along_loads : (dialect : Dialect) (past : History) (launch : Launch) (file : Option (List ℕ)) (bytes : List ℕ)
       (new : History)
-      (left : Rest) → situation past ≡ Ready → Loads first past launch file bytes new left → P past → Holds new left
-  along_loads first past launch file bytes new left ready loads here =
-      along_takes first loads.mid bytes new left loads.after
+      (left : Rest) → situation past ≡ Ready → Loads dialect past launch file bytes new left → P past → Holds new left
+  along_loads dialect past launch file bytes new left ready loads here =
+      along_takes dialect loads.mid bytes new left loads.after
       (kept.step past (Loaded launch file) loads.mid loads.taking ready loads.loaded here)
 
-  along_file : (f : FirstSeq) (past : History) (rest : Rest) (launch : Option Launch) (file : Result (List ℕ) LoadFault)
+  along_file : (f : Dialect) (past : History) (rest : Rest) (launch : Option Launch) (file : Result (List ℕ) LoadFault)
       (new : History) (left : Rest) → rest.launch ≡ launch → LeadsByFile f past rest launch file new left
       → Holds past rest → Holds new left
   along_file f past rest None file new left same is here = rw is.0 (rw is.1 here)
@@ -124,7 +124,7 @@ module _ (Q : Incoming → Type 0) (P : History → Type 0) (kept : IsKept Q P) 
     λ taking launch waits_. let e = sym is.1.running ∙ here.1 is.0 launch waits_ in absurd cc,
   )
 
-  along_event : (f : FirstSeq) (past : History) (rest : Rest) (event : Incoming) (new : History) (left : Rest) → Q event
+  along_event : (f : Dialect) (past : History) (rest : Rest) (event : Incoming) (new : History) (left : Rest) → Q event
       → LeadsByEvent f past rest event new left → Holds past rest → Holds new left
   along_event f past rest (Piece piece) new left good leads here = along_piece f past rest _ _ new left refl leads here
   along_event f past rest End new left good leads here =
@@ -138,18 +138,18 @@ module _ (Q : Incoming → Type 0) (P : History → Type 0) (kept : IsKept Q P) 
   along_event f past rest (Report r) new left good leads here =
       subst (λ l. Holds new l) (sym leads.1) (along_report past rest r new good leads.0 here)
 
-  along_from : (f : FirstSeq) (past : History) (rest : Rest) (events : List Incoming) (new : History) (left : Rest)
+  along_from : (f : Dialect) (past : History) (rest : Rest) (events : List Incoming) (new : History) (left : Rest)
       → AllEvents Q events → LeadsByEvents f past rest events new left → Holds past rest → Holds new left
   along_from f past rest [] new left good all here = rw all.0 (rw all.1 here)
   along_from f past rest (e ∷ events) new left good all here =
       along_from f all.0 all.1 events new left good.1 all.3 (along_event f past rest e all.0 all.1 good.0 all.2 here)
 
   -- What holds of no steps, and is kept, holds of each history.
-  pub along : P [] → (f : FirstSeq) (events : List Incoming) (past : History) (rest : Rest) → AllEvents Q events
+  pub along : P [] → (f : Dialect) (events : List Incoming) (past : History) (rest : Rest) → AllEvents Q events
       → IsHistoryOf f events past rest → P past
   along first f events past rest good history = grind (arith, common_steps, along_from) steps 200000
 
   -- a launch waits in Ready alone
-  pub along_waits : P [] → (f : FirstSeq) (events : List Incoming) (past : History) (rest : Rest) → AllEvents Q events
+  pub along_waits : P [] → (f : Dialect) (events : List Incoming) (past : History) (rest : Rest) → AllEvents Q events
       → IsHistoryOf f events past rest → WaitsWell past rest
   along_waits first f events past rest good history = grind (arith, common_steps, along_from) steps 200000

@@ -1,5 +1,5 @@
 -- A session that was closed by the end of its input has taken that event, and Quit is its last order.
-use Rattle.dap_history.proofs.Common.{Breakpoint, Causes, Close, Command, Content, Ending, File, FirstSeq, Go, History, Hold, Incoming, IsAfter, IsHistoryOf, IsTaking, Item, Launch, Launched, Launches, None, Option, PlainOrder, PlainReport, Quit, Reaction, ReadFailed, Reason, RepliesIn, Reply, Rest, Situation, SliceOutcome, Some, Step, [], ap, closing, closing_command, closing_report, effect_in, ending_of, enters, hold_once, inl, inr, orders_of, refl, reply_of, report_effect, runs, situation, subst, sym, ℕ, ◌++◌, ◌∙◌, ◌∷◌, ◌≡◌, ◌⊎◌}
+use Rattle.dap_history.proofs.Common.{Breakpoint, Causes, Close, Command, Content, Dialect, Ending, File, Go, History, Hold, Incoming, IsAfter, IsHistoryOf, IsTaking, Item, Launch, Launched, Launches, None, Option, PlainOrder, PlainReport, Quit, Reaction, ReadFailed, Reason, RepliesIn, Reply, Rest, Situation, SliceOutcome, Some, Step, [], ap, closing, closing_command, closing_report, effect_in, ending_of, enters, hold_once, inl, inr, orders_of, refl, reply_of, report_effect, runs, situation, subst, sym, ℕ, ◌++◌, ◌∙◌, ◌∷◌, ◌≡◌, ◌⊎◌}
 use Rattle.std.proofs.Common.{List, arith}
 use Rattle.dap_msg.specs.declared.command.Command.TheVariants as command
 use Rattle.dap_history.specs.declared.ending.Closed.{Closed}
@@ -53,7 +53,7 @@ module _ (own : Incoming) (is_own : (e : Incoming) → (own ≡ e) ⊎ ¬ (own �
           (sym (ends_by past item new taking after) ∙ is);
     }
 
-    closed_by : (f : FirstSeq) (events : List Incoming) (past : History) (rest : Rest) → IsHistoryOf f events past rest
+    closed_by : (f : Dialect) (events : List Incoming) (past : History) (rest : Rest) → IsHistoryOf f events past rest
         → ending_of past ≡ Some (ending.Closed by) → IsAmong own events
     closed_by f events past rest history is = found (stands_or_not events)
       where
@@ -70,13 +70,13 @@ is_failure : (e : Incoming) → (ReadFailed ≡ e) ⊎ ¬ (ReadFailed ≡ e)
 is_failure e = grind (arith, common_steps) steps 200000
 
 -- A session that the input's end closed has taken it.
-pub closed_by_end : (f : FirstSeq) (events : List Incoming) (past : History) (rest : Rest)
+pub closed_by_end : (f : Dialect) (events : List Incoming) (past : History) (rest : Rest)
     → IsHistoryOf f events past rest
     → ending_of past ≡ Some (ending.Closed closed.InputEnded) → IsAmong End events
 closed_by_end = closed_by End is_end closed.InputEnded (λ same. absurd cc) (λ same. refl) (λ same. absurd cc)
 
 -- A session that a failed read closed has taken it.
-pub closed_by_failure : (f : FirstSeq) (events : List Incoming) (past : History) (rest : Rest)
+pub closed_by_failure : (f : Dialect) (events : List Incoming) (past : History) (rest : Rest)
     → IsHistoryOf f events past rest
     → ending_of past ≡ Some (ending.Closed closed.ReadFailed) → IsAmong ReadFailed events
 closed_by_failure =
@@ -244,8 +244,8 @@ abbrev pub IsFile : Incoming → Type 0
 IsFile (File file) = Unit {0}
 IsFile _ = ⊥
 
-only_files_load : (first : FirstSeq) (before : List Incoming) (e : Incoming) (load : Load) → ¬ IsFile e
-    → ¬ IsLoad first before e load
+only_files_load : (dialect : Dialect) (before : List Incoming) (e : Incoming) (load : Load) → ¬ IsFile e
+    → ¬ IsLoad dialect before e load
 only_files_load f before e load no_file is = grind (arith, common_steps) steps 200000
 
 abbrev pub first_event : Incoming → List Incoming → Incoming
@@ -257,9 +257,9 @@ later_events [] = []
 later_events (e ∷ events) = events
 
 -- An event that is no file comes from the inbox.
-pub interleaved_event : (first : FirstSeq) (own : Incoming) → ¬ IsFile own
+pub interleaved_event : (dialect : Dialect) (own : Incoming) → ¬ IsFile own
     → (before events given : List Incoming) (loads : List Load)
-    → Interleaves first before events given loads
+    → Interleaves dialect before events given loads
     → (front back : List Incoming) → events ≡ front ++ own ∷ back → (f : List Incoming) × (b : List Incoming)
     × (given ≡ f ++ own ∷ b)
 interleaved_event f own no_file before [] given loads from [] back is = absurd cc
@@ -273,15 +273,15 @@ interleaved_event f own no_file before (e ∷ events) given loads (inr from) (x 
     let there = interleaved_event f own no_file _ events from.0 loads from.3 front back (ap later_events is) in
     (e ∷ there.0, there.1, from.1 ∙ ap (λ l. e ∷ l) there.2)
 
-pub interleaved_end : (first : FirstSeq) (events given : List Incoming) (loads : List Load)
-    → Interleaves first [] events given loads
+pub interleaved_end : (dialect : Dialect) (events given : List Incoming) (loads : List Load)
+    → Interleaves dialect [] events given loads
     → (front back : List Incoming) → events ≡ front ++ End ∷ back
     → (f : List Incoming) × (b : List Incoming) × (given ≡ f ++ End ∷ b)
 interleaved_end f events given loads from front back is =
     interleaved_event f End (λ file. file) [] events given loads from front back is
 
-pub interleaved_failure : (first : FirstSeq) (events given : List Incoming) (loads : List Load)
-    → Interleaves first [] events given loads
+pub interleaved_failure : (dialect : Dialect) (events given : List Incoming) (loads : List Load)
+    → Interleaves dialect [] events given loads
     → (front back : List Incoming) → events ≡ front ++ ReadFailed ∷ back
     → (f : List Incoming) × (b : List Incoming) × (given ≡ f ++ ReadFailed ∷ b)
 interleaved_failure f events given loads from front back is =

@@ -42,7 +42,7 @@ pub use Rattle.dap_msg.specs.declared.outgoing.Refusal.{Refusal}
 pub use Rattle.dap_msg.specs.declared.outgoing.Scope.{Scope}
 pub use Rattle.dap_msg.specs.declared.outgoing.StopReason.{StopReason}
 pub use Rattle.dap_msg.specs.declared.question.Question.{Question}
-pub use Rattle.dap_msg.specs.declared.request.FirstSeq.{FirstSeq}
+pub use Rattle.dap_msg.specs.declared.request.Dialect.{Dialect}
 pub use Rattle.dap_msg.specs.declared.request.Request.{Request}
 pub use Rattle.dap_msg.specs.declared.requests.initialize.InitializeArguments.{InitializeArguments}
 pub use Rattle.dap_msg.specs.declared.requests.launch.LaunchArguments.{LaunchArguments}

@@ -1,5 +1,5 @@
 -- The contents taken are those of the joined stream.
-use Rattle.dap_history.proofs.Common.{Accepted, AreReadAs, Command, Content, ContentsAreOfTheStream, Err, Fault, File, FirstSeq, History, Incoming, InputEnd, IsAfter, IsInFront, Item, Launch, LeadsByEvents, LeadsByFile, LeadsByPiece, LeadsByReport, LoadFault, Loaded, Loads, MayTake, MemoryFailure, NoMemory, None, Ok, Option, Piece, PlainReport, ReadFailed, ReadFailure, Report, Request, Rest, Situation, Some, Step, Rests, Takes, TakesSome, [], ap, append-nil, closed, faulty, filter_map, filter_map-append, inl, inr, launch_request, map-append, no_content, one_content, only_bytes, open_ended, read_as, refl, situation, sym, waits, wanted_in, ℕ, ◌++◌, ◌∙◌, ◌∷◌, ◌≡◌}
+use Rattle.dap_history.proofs.Common.{Accepted, AreReadAs, Command, Content, ContentsAreOfTheStream, Dialect, Err, Fault, File, History, Incoming, InputEnd, IsAfter, IsInFront, Item, Launch, LeadsByEvents, LeadsByFile, LeadsByPiece, LeadsByReport, LoadFault, Loaded, Loads, MayTake, MemoryFailure, NoMemory, None, Ok, Option, Piece, PlainReport, ReadFailed, ReadFailure, Report, Request, Rest, Situation, Some, Step, Rests, Takes, TakesSome, [], ap, append-nil, closed, faulty, filter_map, filter_map-append, inl, inr, launch_request, map-append, no_content, one_content, only_bytes, open_ended, read_as, refl, situation, sym, waits, wanted_in, ℕ, ◌++◌, ◌∙◌, ◌∷◌, ◌≡◌}
 use Rattle.std.proofs.Common.{List, Result}
 use Rattle.std.specs.Prelude.{map}
 use Rattle.std.proofs.lemmas.List.{append_assoc}
@@ -15,7 +15,7 @@ use Rattle.std.proofs.lemmas.Grind.{common_steps}
 
 -- ---- what is read
 
-read-append : (f : FirstSeq) (cs ds : List (List ℕ)) (rs ss : List (Option Request)) → AreReadAs f cs rs
+read-append : (f : Dialect) (cs ds : List (List ℕ)) (rs ss : List (Option Request)) → AreReadAs f cs rs
     → AreReadAs f ds ss
     → AreReadAs f (cs ++ ds) (rs ++ ss)
 read-append f (c ∷ cs) ds (r ∷ rs) ss a b = (a.0, read-append f cs ds rs ss a.1 b)
@@ -32,24 +32,24 @@ reads_after past item new after =
 -- ---- what bytes give
 
 -- the bytes are the frames of contents that are read as these, up to what is left
-record Gives (f : FirstSeq) (bytes left : List ℕ) (requests : List (Option Request)) : Type 0 where
+record Gives (f : Dialect) (bytes left : List ℕ) (requests : List (Option Request)) : Type 0 where
   contents : List (List ℕ)
   framed : Frames bytes contents left
   read : AreReadAs f contents requests
 
-gives_nothing : (f : FirstSeq) (bytes : List ℕ) → Gives f bytes bytes []
+gives_nothing : (f : Dialect) (bytes : List ℕ) → Gives f bytes bytes []
 gives_nothing f bytes = record { contents = []; framed = refl; read = tt }
 
-gives_one : (f : FirstSeq) (bytes : List ℕ) (request : Option Request) (more : List ℕ)
+gives_one : (f : Dialect) (bytes : List ℕ) (request : Option Request) (more : List ℕ)
     → IsInFront f bytes request more → Gives f bytes more (request ∷ [])
 gives_one f bytes request more front =
     record { contents = front.content ∷ []; framed = (more, front.framed, refl); read = (front.read, tt) }
 
-gives_more : (f : FirstSeq) (bytes left : List ℕ) (requests : List (Option Request)) (more : List ℕ)
+gives_more : (f : Dialect) (bytes left : List ℕ) (requests : List (Option Request)) (more : List ℕ)
     → Gives f bytes left requests → Gives f (bytes ++ more) (left ++ more) requests
 gives_more f bytes left requests more is = grind (arith, common_steps, frames_longer) steps 1500000
 
-module _ (join : FramesJoin) (f : FirstSeq) where
+module _ (join : FramesJoin) (f : Dialect) where
   gives_both : (bytes mid left : List ℕ) (rs ss : List (Option Request)) → Gives f bytes mid rs
       → Gives f mid left ss → Gives f bytes left (rs ++ ss)
   gives_both bytes mid left rs ss a b = grind (arith, common_steps, read-append) steps 1500000

@@ -1,5 +1,5 @@
 -- A program is told to have exited where it has ended, and only there.
-use Rattle.dap_history.proofs.Common.{FirstSeq, Accepted, Accepts, All, Causes, Command, Content, EndsBy, EventBody, Faulted, GoesBackBy, Heading, History, Incoming, IsHistoryOf, IsLawfulReport, IsOutput, Item, Launched, Loaded, None, Ok, Option, Outgoing, PlainReport, Rest, Running, Situation, SliceOutcome, Some, Step, StopReason, Went, WentOn, WrittenJoins, [], ap, arith, at, back_if, depth_at, end_of, faults, filter_map, filter_map-append, goes_back, inl, inr, is_due, item_leads, lacks_memory, launched, or_else, refl, situation, stop_in, subst, sym, takes_all, unwrap_or, ℕ, ◌++◌, ◌<◌, ◌∙◌, ◌∷◌, ◌≡◌, AreLawful, Block, Effect, Launch, Launches, Reply}
+use Rattle.dap_history.proofs.Common.{Dialect, Accepted, Accepts, All, Causes, Command, Content, EndsBy, EventBody, Faulted, GoesBackBy, Heading, History, Incoming, IsHistoryOf, IsLawfulReport, IsOutput, Item, Launched, Loaded, None, Ok, Option, Outgoing, PlainReport, Rest, Running, Situation, SliceOutcome, Some, Step, StopReason, Went, WentOn, WrittenJoins, [], ap, arith, at, back_if, depth_at, end_of, faults, filter_map, filter_map-append, goes_back, inl, inr, is_due, item_leads, lacks_memory, launched, or_else, refl, situation, stop_in, subst, sym, takes_all, unwrap_or, ℕ, ◌++◌, ◌<◌, ◌∙◌, ◌∷◌, ◌≡◌, AreLawful, Block, Effect, Launch, Launches, Reply}
 use Rattle.std.proofs.Common.{List, Bool, true, false}
 use Rattle.std.proofs.lemmas.List.Elements.{All-head, All-tail}
 use Rattle.dap_msg.specs.declared.command.Command.TheVariants as command
@@ -210,7 +210,7 @@ module _ (one : OneProgram) (joins : WrittenJoins) where
   both_first : Both []
   both_first = (kept_first one joins, λ is. absurd cc)
 
-  both_at : (f : FirstSeq) (events : List Incoming) (past : History) (rest : Rest) → AreLawful events
+  both_at : (f : Dialect) (events : List Incoming) (past : History) (rest : Rest) → AreLawful events
       → IsHistoryOf f events past rest
       → EachTaken IsLawfulEvent Both past
   both_at f events past rest lawful history =
@@ -269,7 +269,7 @@ module _ (one : OneProgram) (joins : WrittenJoins) where
 
   -- ---- only where it has ended
 
-  module _ (f : FirstSeq) (events : List Incoming) (past : History) (rest : Rest) (lawful : AreLawful events)
+  module _ (f : Dialect) (events : List Incoming) (past : History) (rest : Rest) (lawful : AreLawful events)
       (history : IsHistoryOf f events past rest) (before : History) (code m : ℕ) (there : ExitsAt past before code m)
     where
       was : WasTaken IsLawfulEvent Both before there.step

@@ -1,5 +1,5 @@
 -- The numbers of a history's messages fit in 64 bits.
-use Rattle.dap_history.proofs.Common.{FirstSeq, All, All-cons, All-nil, Answers, At, Block, Body, Breakpoint, Causes, Command, CommandName, Configuration, Content, Counting, Effect, Err, EvaluatesIn, Event, EventBody, Frame, FramesAreFew, HasEffect, History, Incoming, IsHistoryOf, Item, LaunchArguments, Launched, Launches, Loaded, Log, None, OfProgram, Ok, Option, Outgoing, PlainReport, Question, Reaction, Reason, Refusal, RepliesAt, RepliesFrom, RepliesIn, Reply, Resolution, Rest, ResumeKind, Scope, Situation, SliceOutcome, Some, Step, StepAt, Subject, [], answer_to_line, answered, ap, arith, at, at_most, body_of, cond, due_first, effect_in, enters, eqb-true, frame_limit, held_effect, launched, length, log_events, messages, messages_of, nothing, option_map_or, or_else, other_source, outputs, refl, refused, reply_of, report_effect, scopes, scopes_from, shown_column, shown_frame, shown_frames, shown_line, slice_get, subject_in, subst, suc, sym, with_answer, zero, ℕ, ◌++◌, ◌+◌, ◌-◌, ◌<◌, ◌^◌, ◌∷◌, ◌≡◌, ◌≤◌}
+use Rattle.dap_history.proofs.Common.{Dialect, All, All-cons, All-nil, Answers, At, Block, Body, Breakpoint, Causes, Command, CommandName, Configuration, Content, Counting, Effect, Err, EvaluatesIn, Event, EventBody, Frame, FramesAreFew, HasEffect, History, Incoming, IsHistoryOf, Item, LaunchArguments, Launched, Launches, Loaded, Log, None, OfProgram, Ok, Option, Outgoing, PlainReport, Question, Reaction, Reason, Refusal, RepliesAt, RepliesFrom, RepliesIn, Reply, Resolution, Rest, ResumeKind, Scope, Situation, SliceOutcome, Some, Step, StepAt, Subject, [], answer_to_line, answered, ap, arith, at, at_most, body_of, cond, due_first, effect_in, enters, eqb-true, frame_limit, held_effect, launched, length, log_events, messages, messages_of, nothing, option_map_or, or_else, other_source, outputs, refl, refused, reply_of, report_effect, scopes, scopes_from, shown_column, shown_frame, shown_frames, shown_line, slice_get, subject_in, subst, suc, sym, with_answer, zero, ℕ, ◌++◌, ◌+◌, ◌-◌, ◌<◌, ◌^◌, ◌∷◌, ◌≡◌, ◌≤◌}
 use Rattle.std.proofs.Common.{Bool, nat_eq, List, map, option_map, Result, ℤ}
 use Rattle.std.proofs.lemmas.List.Elements.{All-take, All-drop, All-map}
 use Rattle.dap_msg.specs.declared.question.Question.TheVariants as question
@@ -300,7 +300,7 @@ module _ (few : FramesAreFew) where
   fitting_kept : IsKept (λ e. Unit {0}) Fitting
   fitting_kept = grind (arith, common_steps, fitting_more) steps 1500000
 
-  pub history_fits : (f : FirstSeq) (events : List Incoming) (past : History) (rest : Rest)
+  pub history_fits : (f : Dialect) (events : List Incoming) (past : History) (rest : Rest)
       → IsHistoryOf f events past rest
       → ItemsFit past → MessagesFit (messages_of past)
   history_fits f events past rest history items =

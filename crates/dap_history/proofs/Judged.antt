@@ -1,5 +1,5 @@
 -- Each request is judged as the table says, a refusal changes nothing, and other items tell nothing.
-use Rattle.dap_history.proofs.Common.{FirstSeq, Causes, Command, CommandName, Content, Err, History, Incoming, Inspects, IsHistoryOf, Item, Launched, None, Ok, Option, Question, Reaction, Reacts, Refusal, Refuse, Rest, ResumeKind, RetreatKind, SetBreakpointsArguments, SetsOf, Situation, Some, Step, Stopped, ThreadArguments, [], ap, at, body_of, if◌then◌else◌, refused_by, refused_thread, reply_of, situation, subst, wanted_in, with_answer, ℕ, ◌++◌, ◌∷◌, ◌≡◌}
+use Rattle.dap_history.proofs.Common.{Dialect, Causes, Command, CommandName, Content, Err, History, Incoming, Inspects, IsHistoryOf, Item, Launched, None, Ok, Option, Question, Reaction, Reacts, Refusal, Refuse, Rest, ResumeKind, RetreatKind, SetBreakpointsArguments, SetsOf, Situation, Some, Step, Stopped, ThreadArguments, [], ap, at, body_of, if◌then◌else◌, refused_by, refused_thread, reply_of, situation, subst, wanted_in, with_answer, ℕ, ◌++◌, ◌∷◌, ◌≡◌}
 use Rattle.std.proofs.Common.{List, Bool, true, false, Result}
 use Rattle.std.specs.Prelude.{map}
 use Rattle.dap_msg.specs.declared.command.Command.TheVariants as command
@@ -102,7 +102,7 @@ abbrev pub Any : Incoming → Type 0
 Any e = Unit {0}
 
 -- each step of a history was taken, and caused what its item causes
-module _ (f : FirstSeq) (events : List Incoming) (past : History) (rest : Rest)
+module _ (f : Dialect) (events : List Incoming) (past : History) (rest : Rest)
     (history : IsHistoryOf f events past rest)
     (before : History) (step : Step) (after : History) (past_is : past ≡ before ++ step ∷ after) where
   each : EachTaken Any (Anything Any) past

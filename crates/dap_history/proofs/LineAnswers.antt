@@ -1,5 +1,5 @@
 -- Each line of a granted `setBreakpoints` is answered from the program, in the client's own counting.
-use Rattle.dap_history.proofs.Common.{FirstSeq, At, Block, Body, Breakpoint, BreakpointAnswer, Causes, Command, Content, Fresh, GiveBreakpoints, History, Incoming, InitializeArguments, IsHistoryOf, IsResolved, IsResolvedTo, Item, Launched, None, Ok, Option, Reaction, RepliesIn, Reply, Resolution, Rest, SetBreakpointsArguments, Situation, Some, SourceBreakpoint, Step, StepAt, [], answer_to_line, ap, arith, asked_as, get_or, inl, inr, item_leads, launched, length, less_by, line_offset, offset, option_map_or, refl, reply_of, settings, settings_by, situation, slice_get, step_from, steps, stop_in, subst, sym, unwrap_or, ℕ, ◌++◌, ◌<◌, ◌∙◌, ◌∷◌, ◌≡◌, ◌≤◌, ◌⊎◌}
+use Rattle.dap_history.proofs.Common.{Dialect, At, Block, Body, Breakpoint, BreakpointAnswer, Causes, Command, Content, Fresh, GiveBreakpoints, History, Incoming, InitializeArguments, IsHistoryOf, IsResolved, IsResolvedTo, Item, Launched, None, Ok, Option, Reaction, RepliesIn, Reply, Resolution, Rest, SetBreakpointsArguments, Situation, Some, SourceBreakpoint, Step, StepAt, [], answer_to_line, ap, arith, asked_as, get_or, inl, inr, item_leads, launched, length, less_by, line_offset, offset, option_map_or, refl, reply_of, settings, settings_by, situation, slice_get, step_from, steps, stop_in, subst, sym, unwrap_or, ℕ, ◌++◌, ◌<◌, ◌∙◌, ◌∷◌, ◌≡◌, ◌≤◌, ◌⊎◌}
 use Rattle.std.proofs.Common.{List, map, Bool}
 use Rattle.std.specs.List.{position, position_or_len}
 use Rattle.std.proofs.lemmas.Grind.{common_steps}
@@ -143,7 +143,7 @@ not_fresh s past a reply b is granted fresh = grind (arith, common_steps, replie
 
 -- ---- the law
 
-module _ (f : FirstSeq) (events : List Incoming) (past : History) (rest : Rest)
+module _ (f : Dialect) (events : List Incoming) (past : History) (rest : Rest)
     (history : IsHistoryOf f events past rest) where
   each_counted : EachTaken Any IsCounted past
   each_counted =

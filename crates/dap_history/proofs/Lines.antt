@@ -1,5 +1,5 @@
 -- Each run is under the breakpoints of the lines that were set last, and counts from where they were set.
-use Rattle.dap_history.proofs.Common.{FirstSeq, Accepted, Accepts, AreLawful, Body, Breakpoint, Causes, Command, Configuring, Content, Effect, Event, Fault, Faulted, Fresh, Go, Heading, History, Hold, Incoming, InitializeArguments, InputEnd, IsHistoryOf, IsResolved, IsStopped, Item, Launch, Launched, Launches, Loaded, MemoryFailure, Mode, None, Ok, Option, Orders, Outgoing, PlainOrder, PlainReport, Plan, Quit, Reaction, ReadFailure, Ready, Reason, Refusal, Reply, Resolution, Rest, Running, SetBreakpointsArguments, Situation, SliceOutcome, Some, SourceBreakpoint, Step, Stopped, ThreadArguments, WrittenJoins, [], ap, effect_in, end_of, enters, from_next, go, goes_back, held_effect, if◌then◌else◌, inl, inr, is_back, is_same_path, is_some, last_run, last_such, launched, launches, line_offset, message_mark, name_of, no_plan, nothing, offset, only_orders, option_map_or, or_else, plan, put_in_at, refl, refused, reply_of, reply_with, report_effect, resumes, run_in, runs, settings, settings_by, situation, starts_by, step_mark, subst, sym, unwrap_or, waiting_pause, waiting_plan, waits_by, ℕ, ◌++◌, ◌||◌, ◌∙◌, ◌∷◌, ◌≡◌, answer_to_line, body_of}
+use Rattle.dap_history.proofs.Common.{Dialect, Accepted, Accepts, AreLawful, Body, Breakpoint, Causes, Command, Configuring, Content, Effect, Event, Fault, Faulted, Fresh, Go, Heading, History, Hold, Incoming, InitializeArguments, InputEnd, IsHistoryOf, IsResolved, IsStopped, Item, Launch, Launched, Launches, Loaded, MemoryFailure, Mode, None, Ok, Option, Orders, Outgoing, PlainOrder, PlainReport, Plan, Quit, Reaction, ReadFailure, Ready, Reason, Refusal, Reply, Resolution, Rest, Running, SetBreakpointsArguments, Situation, SliceOutcome, Some, SourceBreakpoint, Step, Stopped, ThreadArguments, WrittenJoins, [], ap, effect_in, end_of, enters, from_next, go, goes_back, held_effect, if◌then◌else◌, inl, inr, is_back, is_same_path, is_some, last_run, last_such, launched, launches, line_offset, message_mark, name_of, no_plan, nothing, offset, only_orders, option_map_or, or_else, plan, put_in_at, refl, refused, reply_of, reply_with, report_effect, resumes, run_in, runs, settings, settings_by, situation, starts_by, step_mark, subst, sym, unwrap_or, waiting_pause, waiting_plan, waits_by, ℕ, ◌++◌, ◌||◌, ◌∙◌, ◌∷◌, ◌≡◌, answer_to_line, body_of}
 use Rattle.std.proofs.Common.{List, Bool, true, false, Result, arith}
 use Rattle.std.specs.Prelude.{map, option_map}
 use Rattle.dap_msg.specs.declared.command.Command.TheVariants as command
@@ -512,7 +512,7 @@ module _ (one : OneProgram) (joins : WrittenJoins) where
       rw is.answer_is (report_so past r taken.0 here (launched past) refl run (cc is.effect_is))
   item_so past item step taken is here run goes = grind (arith, common_steps, none_so, loaded_orders) steps 200000
 
-  module _ (f : FirstSeq) (events : List Incoming) (past : History) (rest : Rest) (lawful : AreLawful events)
+  module _ (f : Dialect) (events : List Incoming) (past : History) (rest : Rest) (lawful : AreLawful events)
       (history : IsHistoryOf f events past rest) (before : History) (step : Step) (after : History) (run : Heading)
       (past_is : past ≡ before ++ step ∷ after) (orders : Orders step run) where
     each : EachTaken IsLawfulEvent Kept past
@@ -571,7 +571,7 @@ module _ (one : OneProgram) (joins : WrittenJoins) where
       force = in_force l (view l past) (situation past) has (here.planned l there)
 
   -- before the program is started the plan in force counts from position 0
-  pub first_counts : (f : FirstSeq) (events : List Incoming) (past : History) (rest : Rest) → AreLawful events
+  pub first_counts : (f : Dialect) (events : List Incoming) (past : History) (rest : Rest) → AreLawful events
       → IsHistoryOf f events past rest → (before : History) (step : Step) (after : History)
       → past ≡ before ++ step ∷ after → (l : Launched) → launched before ≡ Some l → situation before ≡ Configuring
       → (plan before).counted_from ≡ 0

@@ -1,5 +1,5 @@
 -- The message numbered n is the nth.
-use Rattle.dap_history.proofs.Common.{AreReadAs, Content, ContentsAreOfTheStream, FirstSeq, FramesAreFew, History, IsRequestFrom, Item, Loaded, None, Option, Outgoing, Request, Some, Step, [], ap, arith, filter_map, messages_of, read_as, refl, slice_get, suc, waiting, zero, ℕ, ◌++◌, ◌+◌, ◌<◌, ◌^◌, ◌∙◌, ◌∷◌, ◌≡◌, sym}
+use Rattle.dap_history.proofs.Common.{AreReadAs, Content, ContentsAreOfTheStream, Dialect, FramesAreFew, History, IsRequestFrom, Item, Loaded, None, Option, Outgoing, Request, Some, Step, [], ap, arith, filter_map, messages_of, read_as, refl, slice_get, suc, waiting, zero, ℕ, ◌++◌, ◌+◌, ◌<◌, ◌^◌, ◌∙◌, ◌∷◌, ◌≡◌, sym}
 use Rattle.std.proofs.Common.{List, map}
 use Rattle.std.specs.Prelude.{option_map}
 use Rattle.dap_frame.specs.Frame.{frame_of}
@@ -22,17 +22,17 @@ numbers_count messages n = numbered 1 messages n
 
 -- ---- the numbers of requests, and so of their answers, are of 64 bits
 
-seq_small : RequestsEcho → (first : FirstSeq) (content : List ℕ) (request : Request)
-    → IsRequestFrom first content (Some request) → request.seq < 2 ^ 64
-seq_small echo first content request is =
-    let told = echo first content request is in
+seq_small : RequestsEcho → (dialect : Dialect) (content : List ℕ) (request : Request)
+    → IsRequestFrom dialect content (Some request) → request.seq < 2 ^ 64
+seq_small echo dialect content request is =
+    let told = echo dialect content request is in
     let same : told.2.seq ≡ request.seq = let e = sym told.2.numbered ∙ told.3 in cc in
     omega (arith, told.2.to_last)
 
 abbrev items : History → List Item
 items past = map (λ (step : Step). step.item) past
 
-item_small : RequestsEcho → (f : FirstSeq) (item : Item) (others : List Item) (waits : List (Option Request))
+item_small : RequestsEcho → (f : Dialect) (item : Item) (others : List Item) (waits : List (Option Request))
     (contents : List (List ℕ)) → AreReadAs f contents (filter_map read_as (item ∷ others) ++ waits)
     → ItemFits item × ((left : List (List ℕ)) × AreReadAs f left (filter_map read_as others ++ waits))
 item_small echo f (Content None) others waits [] are = absurd are
@@ -43,7 +43,7 @@ item_small echo f (Loaded launch file) others waits [] are = absurd are
 item_small echo f (Loaded launch file) others waits (c ∷ cs) are = (seq_small echo f c _ are.0, (cs, are.1))
 item_small echo f _ others waits contents are = (tt, (contents, are))
 
-items_small : RequestsEcho → (f : FirstSeq) (past : History) (waits : List (Option Request)) (contents : List (List ℕ))
+items_small : RequestsEcho → (f : Dialect) (past : History) (waits : List (Option Request)) (contents : List (List ℕ))
     → AreReadAs f contents (filter_map read_as (items past) ++ waits) → ItemsFit past
 items_small echo f [] waits contents are = tt
 items_small echo f (step ∷ past) waits contents are =

@@ -1,5 +1,5 @@
 -- Each step leads where the table of transitions says, so the situation is where the steps lead from Fresh.
-use Rattle.dap_history.proofs.Common.{FirstSeq, Answers, Body, Breakpoint, Causes, Command, CommandName, Configuring, Content, Effect, Event, Fresh, HasEffect, Heading, History, Incoming, IsHistoryOf, IsStopped, Item, Launch, Launched, Launches, Loaded, Mode, None, Ok, Option, Outgoing, PlainReport, Reaction, Ready, Reason, Refusal, RepliesIn, Reply, Rest, RetreatKind, Running, SetBreakpointsArguments, Situation, SliceOutcome, Some, Step, ThreadArguments, [], after_step, ap, append-nil, due_first, effect_in, enters, first_logs, held_effect, hold_once, item_leads, last_such, message_mark, name_of, nothing, only_orders, or_else, order_mark, plan, refl, reply_of, report_effect, resumes, retreat_mode, situation, stop_of_event, stopped_events, sym, unwrap_or, with_answer, ℕ, ◌++◌, ◌∙◌, ◌∷◌, ◌≡◌}
+use Rattle.dap_history.proofs.Common.{Dialect, Answers, Body, Breakpoint, Causes, Command, CommandName, Configuring, Content, Effect, Event, Fresh, HasEffect, Heading, History, Incoming, IsHistoryOf, IsStopped, Item, Launch, Launched, Launches, Loaded, Mode, None, Ok, Option, Outgoing, PlainReport, Reaction, Ready, Reason, Refusal, RepliesIn, Reply, Rest, RetreatKind, Running, SetBreakpointsArguments, Situation, SliceOutcome, Some, Step, ThreadArguments, [], after_step, ap, append-nil, due_first, effect_in, enters, first_logs, held_effect, hold_once, item_leads, last_such, message_mark, name_of, nothing, only_orders, or_else, order_mark, plan, refl, reply_of, report_effect, resumes, retreat_mode, situation, stop_of_event, stopped_events, sym, unwrap_or, with_answer, ℕ, ◌++◌, ◌∙◌, ◌∷◌, ◌≡◌}
 use Rattle.std.proofs.Common.{List, Bool, true, false, Result, arith}
 use Rattle.std.specs.Prelude.{map, option_map}
 use Rattle.dap_msg.specs.declared.command.Command.TheVariants as command
@@ -145,7 +145,7 @@ step_leads past step taken causes = situation-snoc past step ∙ item_fits Any p
 led_kept : IsKept Any IsLed
 led_kept = grind (arith, common_steps, step_leads, after_steps-snoc) steps 200000
 
-module _ (f : FirstSeq) (events : List Incoming) (past : History) (rest : Rest)
+module _ (f : Dialect) (events : List Incoming) (past : History) (rest : Rest)
     (history : IsHistoryOf f events past rest) where
   each : EachTaken Any IsLed past
   each = along Any (EachTaken Any IsLed) (each_kept Any IsLed led_kept) (each_first Any IsLed refl) f events past rest

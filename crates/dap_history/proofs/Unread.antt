@@ -1,5 +1,5 @@
 -- While a session takes items, nothing whole is left unread.
-use Rattle.dap_history.proofs.Common.{Ending, Err, Fault, FaultAt, File, FirstSeq, FramingFault, HasFaultyLine, History, Incoming, IsTaking, Item, Launch, LeadsByEvent, LeadsByEvents, LeadsByFile, LeadsByPiece, LeadsByReport, LoadFault, MayTake, None, Ok, Option, PlainReport, Rest, Some, Rests, [], ap, arith, closed, closing, faulty, inl, length, length-append, line_of, lines_of, open_ended, refl, waits, ℕ, ◌++◌, ◌∷◌, ◌≡◌}
+use Rattle.dap_history.proofs.Common.{Dialect, Ending, Err, Fault, FaultAt, File, FramingFault, HasFaultyLine, History, Incoming, IsTaking, Item, Launch, LeadsByEvent, LeadsByEvents, LeadsByFile, LeadsByPiece, LeadsByReport, LoadFault, MayTake, None, Ok, Option, PlainReport, Rest, Some, Rests, [], ap, arith, closed, closing, faulty, inl, length, length-append, line_of, lines_of, open_ended, refl, waits, ℕ, ◌++◌, ◌∷◌, ◌≡◌}
 use Rattle.std.proofs.Common.{List, Result}
 use Rattle.dap_frame.specs.Header.{line_end}
 use Rattle.dap_frame.specs.Frame.{IsFrameInFront, IsOpen}
@@ -43,8 +43,8 @@ unread_same : (past : History) (rest : Rest) (new : History) (left : Rest) → n
     → Unread new left
 unread_same past rest new left same there here = grind (arith, common_steps) steps 1500000
 
-unread_rests : {first : FirstSeq} {past : History} {bytes : List ℕ} {new : History} {rest : Rest}
-    → Rests first past bytes new rest
+unread_rests : {dialect : Dialect} {past : History} {bytes : List ℕ} {new : History} {rest : Rest}
+    → Rests dialect past bytes new rest
     → Unread new rest
 unread_rests (closed not) taking none = absurd (not taking)
 unread_rests (open_ended taking_ is) taking none = is
@@ -56,12 +56,12 @@ unread_may : (past : History) (rest left : Rest) (item : Item) (new : History) (
     → MayTake past item new × (left ≡ rest) → Unread past rest → Unread new left
 unread_may past rest left item new by closes is here = grind (arith, common_steps) steps 200000
 
-unread_piece : (first : FirstSeq) (past : History) (launch : Option Launch) (bytes : List ℕ) (new : History)
+unread_piece : (dialect : Dialect) (past : History) (launch : Option Launch) (bytes : List ℕ) (new : History)
     (left : Rest)
-    → LeadsByPiece first past launch bytes new left → Unread new left
-unread_piece first past launch bytes new left all = grind (arith, common_steps, unread_rests) steps 200000
+    → LeadsByPiece dialect past launch bytes new left → Unread new left
+unread_piece dialect past launch bytes new left all = grind (arith, common_steps, unread_rests) steps 200000
 
-unread_file : (f : FirstSeq) (past : History) (rest : Rest) (launch : Option Launch)
+unread_file : (f : Dialect) (past : History) (rest : Rest) (launch : Option Launch)
     (file : Result (List ℕ) LoadFault) (new : History)
     (left : Rest) → LeadsByFile f past rest launch file new left → Unread past rest → Unread new left
 unread_file f past rest None file new left is here = unread_same past rest new left is.0 is.1 here
@@ -75,13 +75,13 @@ unread_report : (past : History) (rest : Rest) (r : PlainReport) (new : History)
     → LeadsByReport past r new → left ≡ rest → Unread past rest → Unread new left
 unread_report past rest r new left is same here = grind (arith, common_steps) steps 200000
 
-unread_event : (f : FirstSeq) (past : History) (rest : Rest) (event : Incoming) (new : History) (left : Rest)
+unread_event : (f : Dialect) (past : History) (rest : Rest) (event : Incoming) (new : History) (left : Rest)
     → LeadsByEvent f past rest event new left → Unread past rest → Unread new left
 unread_event f past rest (File file) new left leads here = unread_file f past rest rest.launch file new left leads here
 unread_event f past rest event new left leads here =
     grind (arith, common_steps, unread_piece, unread_may, unread_report) steps 200000
 
-unread_from : (f : FirstSeq) (past : History) (rest : Rest) (events : List Incoming) (new : History) (left : Rest)
+unread_from : (f : Dialect) (past : History) (rest : Rest) (events : List Incoming) (new : History) (left : Rest)
     → LeadsByEvents f past rest events new left → Unread past rest → Unread new left
 unread_from f past rest [] new left all here = unread_same past rest new left all.0 all.1 here
 unread_from f past rest (e ∷ events) new left all here =

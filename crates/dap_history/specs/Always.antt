@@ -1,20 +1,20 @@
 -- Says of what a law speaks: of each history that events give, or of each step of one.
 use Rattle.std.specs.Prelude.{◌≡◌, ◌++◌, List, ◌∷◌}
-use Rattle.dap_msg.specs.declared.request.FirstSeq.{FirstSeq}
+use Rattle.dap_msg.specs.declared.request.Dialect.{Dialect}
 use Rattle.dap_history.specs.History.{History, Step}
 use Rattle.dap_history.specs.Events.{Incoming, Rest, AreLawful, IsHistoryOf}
 
 -- this holds of each history that events give
 abbrev pub OfHistories : (History → Type 0) → Type 0
 OfHistories says =
-    (first : FirstSeq) (events : List Incoming) (past : History) (rest : Rest) → IsHistoryOf first events past rest
+    (dialect : Dialect) (events : List Incoming) (past : History) (rest : Rest) → IsHistoryOf dialect events past rest
     → says past
 
 -- the same, where each report among the events says what its program does
 abbrev pub OfLawfulHistories : (History → Type 0) → Type 0
 OfLawfulHistories says =
-    (first : FirstSeq) (events : List Incoming) (past : History) (rest : Rest) → AreLawful events
-    → IsHistoryOf first events past rest → says past
+    (dialect : Dialect) (events : List Incoming) (past : History) (rest : Rest) → AreLawful events
+    → IsHistoryOf dialect events past rest → says past
 
 -- this holds of each step of a history, and of the steps before it
 abbrev pub AtSteps : (History → Step → Type 0) → History → Type 0

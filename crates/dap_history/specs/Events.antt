@@ -3,7 +3,7 @@ use Rattle.std.specs.Prelude.{◌≡◌, ◌⊎◌, ◌++◌, ◌∷◌, [], ℕ
 use Rattle.dap_frame.specs.declared.fault.FramingFault.{FramingFault}
 use Rattle.dap_frame.specs.Frame.{IsFrameInFront, IsOpen}
 use Rattle.dap_frame.specs.Header.{FaultAt}
-use Rattle.dap_msg.specs.declared.request.FirstSeq.{FirstSeq}
+use Rattle.dap_msg.specs.declared.request.Dialect.{Dialect}
 use Rattle.dap_msg.specs.declared.request.Request.{Request}
 use Rattle.dap_msg.specs.Request.{IsRequestFrom}
 use Rattle.dbg_runner.specs.Plain.{PlainReport}
@@ -45,66 +45,66 @@ only_bytes bytes = record { launch = None; bytes = bytes }
 abbrev pub IsTaking : History → Type 0
 IsTaking past = ending_of past ≡ None
 
--- the content at the front of the bytes, with the request that it is, or none, by the first number that the client may
--- use, and the bytes after it
-pub record IsInFront (first : FirstSeq) (bytes : List ℕ) (request : Option Request) (more : List ℕ) : Type 0 where
+-- the content at the front of the bytes, with the request that it is in the client's dialect, or none, and the bytes
+-- after it
+pub record IsInFront (dialect : Dialect) (bytes : List ℕ) (request : Option Request) (more : List ℕ) : Type 0 where
   pub content : List ℕ
   pub framed : IsFrameInFront bytes content more
-  pub read : IsRequestFrom first content request
+  pub read : IsRequestFrom dialect content request
 
 -- From the history `past`, some contents at the front of the bytes that want no file are taken one after another. The
 -- history is `new` then, and the bytes `left` remain.
-pub data TakesSome (first : FirstSeq) : History → List ℕ → History → List ℕ → Type 0 where
-  no_content : {past : History} {bytes : List ℕ} → TakesSome first past bytes past bytes
+pub data TakesSome (dialect : Dialect) : History → List ℕ → History → List ℕ → Type 0 where
+  no_content : {past : History} {bytes : List ℕ} → TakesSome dialect past bytes past bytes
   one_content : {past mid new : History} {bytes more left : List ℕ} (request : Option Request) → IsTaking past →
-      IsInFront first bytes request more → wanted_in (situation past) request ≡ None →
-      IsAfter past (Content request) mid → TakesSome first mid more new left → TakesSome first past bytes new left
+      IsInFront dialect bytes request more → wanted_in (situation past) request ≡ None →
+      IsAfter past (Content request) mid → TakesSome dialect mid more new left → TakesSome dialect past bytes new left
 
 -- Why no further content of the bytes is taken. The history is `new` then, and `rest` isn't taken yet.
-pub data Rests (first : FirstSeq) (past : History) (bytes : List ℕ) : History → Rest → Type 0 where
+pub data Rests (dialect : Dialect) (past : History) (bytes : List ℕ) : History → Rest → Type 0 where
   -- the session is closed
-  closed : ¬ IsTaking past → Rests first past bytes past (only_bytes bytes)
+  closed : ¬ IsTaking past → Rests dialect past bytes past (only_bytes bytes)
   -- nothing complete stands in front
-  open_ended : IsTaking past → IsOpen bytes → Rests first past bytes past (only_bytes bytes)
+  open_ended : IsTaking past → IsOpen bytes → Rests dialect past bytes past (only_bytes bytes)
   -- a framing fault does
   faulty : (k : FramingFault) (new : History) → IsTaking past → FaultAt bytes k → IsAfter past (Fault k) new →
-      Rests first past bytes new (only_bytes bytes)
+      Rests dialect past bytes new (only_bytes bytes)
   -- a launch does, which waits for its file
   waits : (request : Option Request) (launch : Launch) (more : List ℕ) → IsTaking past →
-      IsInFront first bytes request more → wanted_in (situation past) request ≡ Some launch →
-      Rests first past bytes past (record { launch = Some launch; bytes = more })
+      IsInFront dialect bytes request more → wanted_in (situation past) request ≡ Some launch →
+      Rests dialect past bytes past (record { launch = Some launch; bytes = more })
 
 -- From the history `past`, contents at the front of the bytes are taken until no further one is.
-abbrev pub Takes : FirstSeq → History → List ℕ → History → Rest → Type 0
-Takes first past bytes new rest =
-    (mid : History) × (left : List ℕ) × TakesSome first past bytes mid left × Rests first mid left new rest
+abbrev pub Takes : Dialect → History → List ℕ → History → Rest → Type 0
+Takes dialect past bytes new rest =
+    (mid : History) × (left : List ℕ) × TakesSome dialect past bytes mid left × Rests dialect mid left new rest
 
 -- an item is taken unless the session is closed
 abbrev pub MayTake : History → Item → History → Type 0
 MayTake past item new = ((¬ IsTaking past) × (new ≡ past)) ⊎ (IsTaking past × IsAfter past item new)
 
 -- A piece of the stream. While a launch waits for its file, the bytes wait too.
-abbrev pub LeadsByPiece : FirstSeq → History → Option Launch → List ℕ → History → Rest → Type 0
-LeadsByPiece first past None bytes new left = Takes first past bytes new left
-LeadsByPiece first past (Some launch) bytes new left =
+abbrev pub LeadsByPiece : Dialect → History → Option Launch → List ℕ → History → Rest → Type 0
+LeadsByPiece dialect past None bytes new left = Takes dialect past bytes new left
+LeadsByPiece dialect past (Some launch) bytes new left =
     (new ≡ past) × (left ≡ record { launch = Some launch; bytes = bytes })
 
 -- the file of a launch; then the contents after it
-pub record Loads (first : FirstSeq) (past : History) (launch : Launch) (file : Option (List ℕ)) (bytes : List ℕ)
+pub record Loads (dialect : Dialect) (past : History) (launch : Launch) (file : Option (List ℕ)) (bytes : List ℕ)
     (new : History) (left : Rest) : Type 0 where
   pub taking : IsTaking past
   pub mid : History
   pub loaded : IsAfter past (Loaded launch file) mid
-  pub after : Takes first mid bytes new left
+  pub after : Takes dialect mid bytes new left
 
 -- A file. One that no launch waits for is ignored, and so is any after the session is closed.
-abbrev pub LeadsByFile : FirstSeq → History → Rest → Option Launch → Result (List ℕ) LoadFault → History → Rest → Type 0
-LeadsByFile first past rest None file new left = (new ≡ past) × (left ≡ rest)
-LeadsByFile first past rest (Some launch) (Ok file) new left =
-    ((¬ IsTaking past) × (new ≡ past) × (left ≡ rest)) ⊎ Loads first past launch (Some file) rest.bytes new left
-LeadsByFile first past rest (Some launch) (Err load_fault.CannotRead) new left =
-    ((¬ IsTaking past) × (new ≡ past) × (left ≡ rest)) ⊎ Loads first past launch None rest.bytes new left
-LeadsByFile first past rest (Some launch) (Err load_fault.NoMemory) new left =
+abbrev pub LeadsByFile : Dialect → History → Rest → Option Launch → Result (List ℕ) LoadFault → History → Rest → Type 0
+LeadsByFile dialect past rest None file new left = (new ≡ past) × (left ≡ rest)
+LeadsByFile dialect past rest (Some launch) (Ok file) new left =
+    ((¬ IsTaking past) × (new ≡ past) × (left ≡ rest)) ⊎ Loads dialect past launch (Some file) rest.bytes new left
+LeadsByFile dialect past rest (Some launch) (Err load_fault.CannotRead) new left =
+    ((¬ IsTaking past) × (new ≡ past) × (left ≡ rest)) ⊎ Loads dialect past launch None rest.bytes new left
+LeadsByFile dialect past rest (Some launch) (Err load_fault.NoMemory) new left =
     MayTake past MemoryFailure new × (left ≡ rest)
 
 -- A report. One that isn't accepted is ignored.
@@ -114,23 +114,22 @@ LeadsByReport past r new =
     × IsAfter past (Accepted r) new)
 
 -- one event, by what it is
-abbrev pub LeadsByEvent : FirstSeq → History → Rest → Incoming → History → Rest → Type 0
-LeadsByEvent first past rest (Piece piece) new left =
-    LeadsByPiece first past rest.launch (rest.bytes ++ piece) new left
-LeadsByEvent first past rest End new left = MayTake past InputEnd new × (left ≡ rest)
-LeadsByEvent first past rest ReadFailed new left = MayTake past ReadFailure new × (left ≡ rest)
-LeadsByEvent first past rest NoMemory new left = MayTake past MemoryFailure new × (left ≡ rest)
-LeadsByEvent first past rest (File file) new left = LeadsByFile first past rest rest.launch file new left
-LeadsByEvent first past rest (Report r) new left = LeadsByReport past r new × (left ≡ rest)
+abbrev pub LeadsByEvent : Dialect → History → Rest → Incoming → History → Rest → Type 0
+LeadsByEvent dialect past rest (Piece piece) new left =
+    LeadsByPiece dialect past rest.launch (rest.bytes ++ piece) new left
+LeadsByEvent dialect past rest End new left = MayTake past InputEnd new × (left ≡ rest)
+LeadsByEvent dialect past rest ReadFailed new left = MayTake past ReadFailure new × (left ≡ rest)
+LeadsByEvent dialect past rest NoMemory new left = MayTake past MemoryFailure new × (left ≡ rest)
+LeadsByEvent dialect past rest (File file) new left = LeadsByFile dialect past rest rest.launch file new left
+LeadsByEvent dialect past rest (Report r) new left = LeadsByReport past r new × (left ≡ rest)
 
 -- Events, one after another, lead from the history `past` and the rest to the history `new` and the rest `left`.
-abbrev pub LeadsByEvents : FirstSeq → History → Rest → List Incoming → History → Rest → Type 0
-LeadsByEvents first past rest [] new left = (new ≡ past) × (left ≡ rest)
-LeadsByEvents first past rest (e ∷ events) new left =
-    (mid : History) × (between : Rest) × LeadsByEvent first past rest e mid between
-    × LeadsByEvents first mid between events new left
+abbrev pub LeadsByEvents : Dialect → History → Rest → List Incoming → History → Rest → Type 0
+LeadsByEvents dialect past rest [] new left = (new ≡ past) × (left ≡ rest)
+LeadsByEvents dialect past rest (e ∷ events) new left =
+    (mid : History) × (between : Rest) × LeadsByEvent dialect past rest e mid between
+    × LeadsByEvents dialect mid between events new left
 
--- The history that a list of events gives, by the first number that the client may use, and what came and isn't taken
--- yet.
-abbrev pub IsHistoryOf : FirstSeq → List Incoming → History → Rest → Type 0
-IsHistoryOf first events past rest = LeadsByEvents first [] (only_bytes []) events past rest
+-- The history that a list of events gives in the client's dialect, and what came and isn't taken yet.
+abbrev pub IsHistoryOf : Dialect → List Incoming → History → Rest → Type 0
+IsHistoryOf dialect events past rest = LeadsByEvents dialect [] (only_bytes []) events past rest

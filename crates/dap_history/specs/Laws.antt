@@ -4,7 +4,7 @@ use Rattle.std.specs.List.{filter_map}
 use Rattle.dap_frame.specs.Frame.{Frames, IsOpen, frame_of}
 use Rattle.dap_msg.specs.declared.request.Request.{Request}
 use Rattle.dap_msg.specs.Request.{IsRequestFrom}
-use Rattle.dap_msg.specs.declared.request.FirstSeq.{FirstSeq}
+use Rattle.dap_msg.specs.declared.request.Dialect.{Dialect}
 use Rattle.dap_history.specs.declared.launch.Launch.{Launch}
 use Rattle.dap_msg.specs.Commands.{name_of}
 use Rattle.dap_msg.specs.declared.command.Command.{Command}
@@ -36,11 +36,11 @@ use Rattle.dap_history.specs.Always.{OfHistories, OfLawfulHistories}
 
 -- ---- One history
 
--- A list of events has at most one history and one rest. The first number that the client may use is given.
+-- A list of events has at most one history and one rest. The client's dialect is given.
 abbrev pub HistoryIsOne : Type 0
 HistoryIsOne =
-    (first : FirstSeq) (events : List Incoming) (past other : History) (rest left : Rest)
-    → IsHistoryOf first events past rest → IsHistoryOf first events other left
+    (dialect : Dialect) (events : List Incoming) (past other : History) (rest left : Rest)
+    → IsHistoryOf dialect events past rest → IsHistoryOf dialect events other left
     → (past ≡ other) × (rest ≡ left)
 
 -- An item leads from a history to at most one other. So what it is answered with and what it causes is determined.
@@ -99,31 +99,31 @@ abbrev pub contents_read : History → Option Launch → List (Option Request)
 contents_read past launch = filter_map read_as (map (λ (step : Step). step.item) past) ++ waiting launch
 
 -- each content is read as this
-abbrev pub AreReadAs : FirstSeq → List (List ℕ) → List (Option Request) → Type 0
-AreReadAs first [] [] = Unit {0}
-AreReadAs first (content ∷ contents) (request ∷ requests) =
-    IsRequestFrom first content request × AreReadAs first contents requests
-AreReadAs first _ _ = ⊥
+abbrev pub AreReadAs : Dialect → List (List ℕ) → List (Option Request) → Type 0
+AreReadAs dialect [] [] = Unit {0}
+AreReadAs dialect (content ∷ contents) (request ∷ requests) =
+    IsRequestFrom dialect content request × AreReadAs dialect contents requests
+AreReadAs dialect _ _ = ⊥
 
 -- The contents taken are, in order, those of the stream's frames, however it was cut.
 abbrev pub ContentsAreOfTheStream : Type 0
 ContentsAreOfTheStream =
-    (first : FirstSeq) (events : List Incoming) (past : History) (rest : Rest) → IsHistoryOf first events past rest
+    (dialect : Dialect) (events : List Incoming) (past : History) (rest : Rest) → IsHistoryOf dialect events past rest
     → (contents : List (List ℕ)) × Frames (stream_of events) contents rest.bytes
-    × AreReadAs first contents (contents_read past rest.launch)
+    × AreReadAs dialect contents (contents_read past rest.launch)
 
 -- Two pieces give what they give as one. So how the stream was cut changes no message and no order.
 abbrev pub CutsChangeNothing : Type 0
 CutsChangeNothing =
-    (first : FirstSeq) (a b : List ℕ) (before after : List Incoming) (past : History) (rest : Rest)
-    → IsHistoryOf first (before ++ (Piece a ∷ Piece b ∷ after)) past rest
-    → IsHistoryOf first (before ++ (Piece (a ++ b) ∷ after)) past rest
+    (dialect : Dialect) (a b : List ℕ) (before after : List Incoming) (past : History) (rest : Rest)
+    → IsHistoryOf dialect (before ++ (Piece a ∷ Piece b ∷ after)) past rest
+    → IsHistoryOf dialect (before ++ (Piece (a ++ b) ∷ after)) past rest
 
 -- While items are taken, neither a frame nor a framing fault is left in front, unless a launch waits for its
 -- file. One waits only in the situation Ready.
 abbrev pub RestIsOpen : Type 0
 RestIsOpen =
-    (first : FirstSeq) (events : List Incoming) (past : History) (rest : Rest) → IsHistoryOf first events past rest
+    (dialect : Dialect) (events : List Incoming) (past : History) (rest : Rest) → IsHistoryOf dialect events past rest
     → IsTaking past → (rest.launch ≡ None → IsOpen rest.bytes)
     × ((launch : Launch) → rest.launch ≡ Some launch → situation past ≡ Ready)
 
@@ -167,7 +167,7 @@ FramesAreReadBack = OfHistories (λ past.
 -- A `disconnect` is the last item, and its answer the last message.
 abbrev pub DisconnectIsLast : Type 0
 DisconnectIsLast =
-    (first : FirstSeq) (events : List Incoming) (past : History) (rest : Rest) → IsHistoryOf first events past rest
+    (dialect : Dialect) (events : List Incoming) (past : History) (rest : Rest) → IsHistoryOf dialect events past rest
     → (before : History) (step : Step) (after : History) (seq : ℕ) → past ≡ before ++ step ∷ after
     → step.item ≡ Content (Some (record { seq = seq; body = command.Disconnect }))
     → (after ≡ []) × (messages_of past ≡ messages_of before ++ Answer seq (name.Supported supported.Disconnect)
@@ -182,7 +182,7 @@ IsAmong event events = (front : List Incoming) × (back : List Incoming) × (eve
 -- A session that the end of the input or a failed read closed has taken that event.
 abbrev pub ClosedByItsEvent : Type 0
 ClosedByItsEvent =
-    (first : FirstSeq) (events : List Incoming) (past : History) (rest : Rest) → IsHistoryOf first events past rest
+    (dialect : Dialect) (events : List Incoming) (past : History) (rest : Rest) → IsHistoryOf dialect events past rest
     → (ending_of past ≡ Some (ending.Closed closed.InputEnded) → IsAmong End events)
     × (ending_of past ≡ Some (ending.Closed closed.ReadFailed) → IsAmong ReadFailed events)
 

@@ -3,7 +3,7 @@
 use Rattle.std.specs.Prelude.{◌≡◌, ◌++◌, ◌∷◌, [], ◌⊎◌, ℕ, List, Option, None, Some, Result, Ok, Err}
 use Rattle.dap_msg.specs.declared.command.Command.{Command}
 use Rattle.dap_msg.specs.declared.command.Command.TheVariants as command
-use Rattle.dap_msg.specs.declared.request.FirstSeq.{FirstSeq}
+use Rattle.dap_msg.specs.declared.request.Dialect.{Dialect}
 use Rattle.dbg_runner.specs.Plain.{PlainReport, Heading}
 use Rattle.dbg_runner.specs.declared.outcome.SliceOutcome.{SliceOutcome}
 use Rattle.dbg_runner.specs.declared.outcome.SliceOutcome.TheVariants as slice
@@ -80,8 +80,8 @@ AddsSteps past rest e steps =
 -- program stands are items; no other file or report is. After that no event adds anything.
 abbrev pub EventsAreTaken : Type 0
 EventsAreTaken =
-    (first : FirstSeq) (events : List Incoming) (e : Incoming) (past new : History) (rest left : Rest)
-    → IsHistoryOf first events past rest → IsHistoryOf first (events ++ e ∷ []) new left
+    (dialect : Dialect) (events : List Incoming) (e : Incoming) (past new : History) (rest left : Rest)
+    → IsHistoryOf dialect events past rest → IsHistoryOf dialect (events ++ e ∷ []) new left
     → (IsTaking past → (steps : History) × (new ≡ past ++ steps) × AddsSteps past rest e steps)
     × (¬ IsTaking past → new ≡ past)
 

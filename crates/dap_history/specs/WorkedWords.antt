@@ -11,7 +11,7 @@ use Rattle.pl0_tree.specs.declared.fault.FaultKind.TheVariants.{TooLong, NotAsci
 use Rattle.pl0_meaning.specs.Runs.{frame_limit, last_position}
 use Rattle.dbg_plan.specs.Messages.{expression_limit}
 use Rattle.dbg_runner.specs.Rooms.{slice_limit}
-use Rattle.dap_msg.specs.declared.request.FirstSeq.TheVariants.{Zero, One}
+use Rattle.dap_msg.specs.declared.request.Dialect.TheVariants.{Words, Codes}
 use Rattle.dap_msg.specs.Request.{is_seq}
 
 -- A frame begins with `Content-Length: `, the number of bytes of its content, and two line ends of CR and LF.
@@ -24,8 +24,8 @@ FramesBeginSo =
 -- A client counts from 1, or one that may from 0, up to 2^53 - 1.
 abbrev pub SeqsAre : Type 0
 SeqsAre =
-    map (λ (first, n). is_seq first n)
-    ((One, 0) ∷ (One, 1) ∷ (One, 2 ^ 53 - 1) ∷ (One, 2 ^ 53) ∷ (Zero, 0) ∷ (Zero, 1) ∷ (Zero, 2 ^ 53) ∷ [])
+    map (λ (dialect, n). is_seq dialect n)
+    ((Codes, 0) ∷ (Codes, 1) ∷ (Codes, 2 ^ 53 - 1) ∷ (Codes, 2 ^ 53) ∷ (Words, 0) ∷ (Words, 1) ∷ (Words, 2 ^ 53) ∷ [])
     ≡ false ∷ true ∷ true ∷ false ∷ true ∷ true ∷ false ∷ []
 
 -- The limits of a header part and of a content; of breakpoints and their lines; of a text, its levels, the names of a

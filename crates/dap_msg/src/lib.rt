@@ -2,12 +2,12 @@
 //! written as contents.
 //!
 //! ```
-//! use dap_msg::{Body, Command, FirstSeq, MsgFault, Outgoing, Refusal, read, write};
+//! use dap_msg::{Body, Command, Dialect, MsgFault, Outgoing, Refusal, read, write};
 //! use std::alloc::Global;
 //!
 //! /// Returns the content of the answer to a request, numbered `seq`, or `None` where the content is no request.
 //! fn answered(alloc: Global, content: &[u8], seq: u64) -> Result<Option<Vec<u8>>, MsgFault> {
-//!     let Some(request) = read(alloc, FirstSeq::One, content)? else {
+//!     let Some(request) = read(alloc, Dialect::Codes, content)? else {
 //!         return Ok(None);
 //!     };
 //!     let result = match &request.body {
@@ -28,9 +28,9 @@
 //! It serves a debugger of whole numbers with one thread: the capabilities, the thread `main`, the refusals and the faults
 //! of a program are those of this repository's adapter. For another language it is a pattern.
 //!
-//! The one contract: [`read`] returns exactly the request that a content is, by the first `seq` that the client may use,
-//! or `None` where it is none; which value a content has is said by `serde_json`'s own definition of reading. [`write`]
-//! appends exactly the defined text of a message.
+//! The one contract: [`read`] returns exactly the request that a content is in the client's dialect, or `None` where it
+//! is none; which value a content has is said by `serde_json`'s own definition of reading. [`write`] appends exactly
+//! the defined text of a message.
 //!
 //! Each command has its arguments in `src/requests` and the body of its answer in `src/answers.rt`, both defined in one
 //! file of `specs`; `Request` in `specs` says which request a content is, and `Outgoing`
@@ -69,7 +69,7 @@ pub use outgoing::{
 };
 pub use question::{Question, QuestionKind, Shown};
 pub use reading::read;
-pub use request::{FirstSeq, Request};
+pub use request::{Dialect, Request};
 pub use requests::evaluate::EvaluateArguments;
 pub use requests::initialize::InitializeArguments;
 pub use requests::launch::LaunchArguments;

@@ -2,7 +2,7 @@
 use Rattle.std.proofs.Common.{◌≡◌, ◌⊎◌, inl, inr, ℕ, suc, ◌+◌, ◌≤◌, ◌<◌, ◌^◌, List, [], ◌∷◌, ◌++◌, length, Option, None, Some, Result, Ok, Err, refl, sym, ◌∙◌, ap, subst, append_assoc, append-nil, length-append, arith, lit≤}
 use Rattle.std.proofs.lemmas.Grind.{flat_map-append, common_steps}
 use Rattle.dap_msg.specs.declared.outgoing.Outgoing.{Outgoing}
-use Rattle.dap_msg.specs.declared.request.FirstSeq.{FirstSeq}
+use Rattle.dap_msg.specs.declared.request.Dialect.{Dialect}
 use Rattle.dbg_runner.specs.Plain.{PlainOrder, PlainReport}
 use Rattle.dap_history.specs.declared.ending.Closed.{Closed}
 use Rattle.dap_history.specs.declared.ending.Ending.{Ending}
@@ -69,26 +69,26 @@ orders_begin past new is =
 
 -- ---- an event that was taken in part
 
-some_longer : {f : FirstSeq} {past new : History} {bytes left : List ℕ} → TakesSome f past bytes new left
+some_longer : {f : Dialect} {past new : History} {bytes left : List ℕ} → TakesSome f past bytes new left
     → IsPrefixOf past new
 some_longer {past = past} no_content = begins_same past past refl
 some_longer {past = past} {new = new} (one_content {mid = mid} request taking front unwanted after some) =
     begins_both past mid new (begins_longer past (Content request) mid after) (some_longer some)
 
-rests_longer : {f : FirstSeq} {past new : History} {bytes : List ℕ} {rest : Rest} → Rests f past bytes new rest
+rests_longer : {f : Dialect} {past new : History} {bytes : List ℕ} {rest : Rest} → Rests f past bytes new rest
     → IsPrefixOf past new
 rests_longer {past = past} (closed not) = begins_same past past refl
 rests_longer {past = past} (open_ended taking is) = begins_same past past refl
 rests_longer {past = past} (faulty k new taking fault after) = begins_longer past _ new after
 rests_longer {past = past} (waits request launch more taking front wanted) = begins_same past past refl
 
-takes_begin : (f : FirstSeq) (past new : History) (bytes : List ℕ) (rest : Rest) → Takes f past bytes new rest
+takes_begin : (f : Dialect) (past new : History) (bytes : List ℕ) (rest : Rest) → Takes f past bytes new rest
     → IsPrefixOf past new
 takes_begin f past new bytes rest taken = begins_both past taken.0 new (some_longer taken.2) (rests_longer taken.3)
 
 module _ (once : IsReadOnce) where
   -- what was taken is a prefix of all that can be
-  some_begin : (f : FirstSeq) (past mid new : History) (bytes left : List ℕ) (rest : Rest)
+  some_begin : (f : Dialect) (past mid new : History) (bytes left : List ℕ) (rest : Rest)
       → TakesSome f past bytes mid left
       → Takes f past bytes new rest → IsPrefixOf mid new
   some_begin f past mid new bytes left rest some all =
@@ -105,7 +105,7 @@ module _ (once : IsReadOnce) where
   item_begins past item next new taking (inr after) (inr is) =
       begins_same next new (once.one_after past item next new after is.1)
 
-  piece_begins : (f : FirstSeq) (past : History) (launch : Option Launch) (bytes : List ℕ) (next new : History)
+  piece_begins : (f : Dialect) (past : History) (launch : Option Launch) (bytes : List ℕ) (next new : History)
       (left : Rest)
       → TowardByPiece f past launch bytes next → LeadsByPiece f past launch bytes new left → IsPrefixOf next new
   piece_begins f past None bytes next new left toward leads =
@@ -113,7 +113,7 @@ module _ (once : IsReadOnce) where
   piece_begins f past (Some launch) bytes next new left toward leads = begins_same next new (toward ∙ sym leads.0)
 
   -- a launch was made with its file, and some contents after it were taken
-  loaded_begins : (f : FirstSeq) (past : History) (launch : Launch) (file : Option (List ℕ)) (bytes : List ℕ)
+  loaded_begins : (f : Dialect) (past : History) (launch : Launch) (file : Option (List ℕ)) (bytes : List ℕ)
       (mid other next new : History) (left : List ℕ) (rest : Rest)
       → IsAfter past (Loaded launch file) mid → TakesSome f mid bytes next left
       → IsAfter past (Loaded launch file) other
@@ -122,13 +122,13 @@ module _ (once : IsReadOnce) where
       some_begin f mid next new bytes left rest taken
       (subst (λ h. Takes f h bytes new rest) (once.one_after past (Loaded launch file) other mid there after) all)
 
-  same_launch : (f : FirstSeq) (past : History) (rest : Rest) (launch : Launch) (answer : Result (List ℕ) LoadFault)
+  same_launch : (f : Dialect) (past : History) (rest : Rest) (launch : Launch) (answer : Result (List ℕ) LoadFault)
       (file : Option (List ℕ)) (next : History) → rest.launch ≡ Some launch
       → (toward : LoadsToward f past rest answer next) → toward.file ≡ file
       → IsAfter past (Loaded launch file) toward.mid
   same_launch f past rest launch answer file next is toward same = grind (arith, common_steps)
 
-  file_begins : (f : FirstSeq) (past : History) (rest : Rest) (launch : Option Launch)
+  file_begins : (f : Dialect) (past : History) (rest : Rest) (launch : Option Launch)
       (answer : Result (List ℕ) LoadFault)
       (next new : History) (left : Rest) → IsTaking past → rest.launch ≡ launch
       → (next ≡ past) ⊎ LoadsToward f past rest answer next → LeadsByFile f past rest launch answer new left
@@ -165,7 +165,7 @@ module _ (once : IsReadOnce) where
   report_begins past r next new taking (inr toward) (inl not) = absurd (not.0 (taking, toward.0))
   report_begins past r next new taking (inr toward) (inr is) = grind (arith, common_steps, begins_same)
 
-  event_begins : (f : FirstSeq) (past : History) (rest : Rest) (event : Incoming) (next new : History) (left : Rest)
+  event_begins : (f : Dialect) (past : History) (rest : Rest) (event : Incoming) (next new : History) (left : Rest)
       → IsTaking past
       → Toward f past rest event next → LeadsByEvent f past rest event new left → IsPrefixOf next new
   event_begins f past rest (Piece piece) next new left taking toward leads =
@@ -286,7 +286,7 @@ broken_part WriterGone mid next old between later at sent breaks = put_part mid 
 
 -- ---- a whole session
 
-next_toward : (f : FirstSeq) (fault : SessionFault) (past : History) (rest : Rest) (event : Incoming)
+next_toward : (f : Dialect) (fault : SessionFault) (past : History) (rest : Rest) (event : Incoming)
     (old later : Ports)
     (fails : EventGivesUp f fault past rest event old later) → Toward f past rest event fails.next
 next_toward f fault past rest event old later fails = by fails.next_is
@@ -296,7 +296,7 @@ next_toward f fault past rest event old later fails = by fails.next_is
     by (inl same) = subst (Toward f past rest event) (sym same) fails.toward
     by (inr is) = is.0
 
-mid_next : (f : FirstSeq) (fault : SessionFault) (past : History) (rest : Rest) (event : Incoming) (old later : Ports)
+mid_next : (f : Dialect) (fault : SessionFault) (past : History) (rest : Rest) (event : Incoming) (old later : Ports)
     (fails : EventGivesUp f fault past rest event old later) → IsPrefixOf fails.mid fails.next
 mid_next f fault past rest event old later fails = by fails.next_is
   where
@@ -305,7 +305,7 @@ mid_next f fault past rest event old later fails = by fails.next_is
     by (inl same) = begins_same fails.mid fails.next (sym same)
     by (inr is) = begins_longer fails.mid is.1.0 fails.next is.1.1
 
-stops_part : (f : FirstSeq) (events : List Incoming) (fault : SessionFault) (old later : Ports)
+stops_part : (f : Dialect) (events : List Incoming) (fault : SessionFault) (old later : Ports)
     (stops : StopsShort f events fault old later) → SendsPart stops.fails.next old stops.stopped
 stops_part f events fault old later stops =
     let fails = stops.fails in
@@ -315,7 +315,7 @@ stops_part f events fault old later stops =
 -- ---- the history that a session reached
 
 -- how it was reached, and what was sent of it
-record Sent (f : FirstSeq) (events : List Incoming) (old stopped : Ports) : Type 0 where
+record Sent (f : Dialect) (events : List Incoming) (old stopped : Ports) : Type 0 where
   reached : History
   is_reached : IsReached f events reached
   part : SendsPart reached old stopped
@@ -329,14 +329,14 @@ pub record PutsFew (reached : History) (old later : Ports) : Type 0 where
 
 module _ (once : IsReadOnce) (one : HistoryIsOne) where
   -- a history of all events goes on with the last one from where the session stood
-  last_leads : (f : FirstSeq) (events : List Incoming) (last : Incoming) (past : History) (rest : Rest) (new : History)
+  last_leads : (f : Dialect) (events : List Incoming) (last : Incoming) (past : History) (rest : Rest) (new : History)
       (left : Rest)
       → IsHistoryOf f events past rest → IsHistoryOf f (events ++ last ∷ []) new left
       → LeadsByEvent f past rest last new left
   last_leads f events last past rest new left here whole = grind (arith, common_steps, leads_last)
 
   -- a session reached a history on the way to that of all events
-  reached_toward : (f : FirstSeq) (events : List Incoming) (reached : History) → AreLawful events
+  reached_toward : (f : Dialect) (events : List Incoming) (reached : History) → AreLawful events
       → IsOnTheWay f events reached
       → IsReached f events reached
   reached_toward f events reached lawful way =
@@ -359,7 +359,7 @@ module _ (once : IsReadOnce) (one : HistoryIsOne) where
       }
 
   -- or that of all events
-  reached_all : (f : FirstSeq) (events : List Incoming) (past : History) (rest : Rest) → AreLawful events
+  reached_all : (f : Dialect) (events : List Incoming) (past : History) (rest : Rest) → AreLawful events
       → IsHistoryOf f events past rest → IsReached f events past
   reached_all f events past rest lawful history = record {
     way = inl (rest, history);
@@ -370,7 +370,7 @@ module _ (once : IsReadOnce) (one : HistoryIsOne) where
     history = history;
   }
 
-  stops_sent : (f : FirstSeq) (events : List Incoming) (fault : SessionFault) (old later : Ports) → AreLawful events
+  stops_sent : (f : Dialect) (events : List Incoming) (fault : SessionFault) (old later : Ports) → AreLawful events
       → (stops : StopsShort f events fault old later) → Sent f events old stops.stopped
   stops_sent f events fault old later lawful stops = record {
     reached = stops.fails.next;
@@ -384,7 +384,7 @@ module _ (once : IsReadOnce) (one : HistoryIsOne) where
   }
 
   -- all was sent
-  serves_sent : (f : FirstSeq) (events : List Incoming) (ending : Ending) (old later : Ports) → AreLawful events
+  serves_sent : (f : Dialect) (events : List Incoming) (ending : Ending) (old later : Ports) → AreLawful events
       → Serves f events ending old later → Sent f events old later
   serves_sent f events ending old later lawful serves = record {
     reached = serves.past;
@@ -400,7 +400,7 @@ module _ (once : IsReadOnce) (one : HistoryIsOne) where
     };
   }
 
-  fault_sent : (f : FirstSeq) (fault : SessionFault) (events given : List Incoming) (loads : List Load)
+  fault_sent : (f : Dialect) (fault : SessionFault) (events given : List Incoming) (loads : List Load)
       (old later : Ports)
       → AreLawful events → SessionOutcome f events given loads old later (Err fault)
       → (stopped : Ports) × Sent f events old stopped × TriesQuit stopped later
@@ -430,7 +430,7 @@ module _ (once : IsReadOnce) (one : HistoryIsOne) where
       )
 
   -- what is put in the end is what was put then
-  puts_few : (f : FirstSeq) (events : List Incoming) (old stopped later : Ports) → later.frames ≡ stopped.frames
+  puts_few : (f : Dialect) (events : List Incoming) (old stopped later : Ports) → later.frames ≡ stopped.frames
       → Sent f events old stopped → (reached : History) × IsReached f events reached × PutsFew reached old later
   puts_few f events old stopped later same sent = (
     sent.reached,
@@ -444,7 +444,7 @@ module _ (once : IsReadOnce) (one : HistoryIsOne) where
     },
   )
 
-  pub drives_few : (f : FirstSeq) (result : Result Closed SessionFault) (events given : List Incoming)
+  pub drives_few : (f : Dialect) (result : Result Closed SessionFault) (events given : List Incoming)
       (loads : List Load)
       (old later : Ports) → AreLawful events → SessionOutcome f events given loads old later result
       → (reached : History) × IsReached f events reached × PutsFew reached old later

@@ -2,7 +2,7 @@
 use Rattle.std.proofs.Common.{◌≡◌, inl, inr, [], ◌∷◌, ◌++◌, None, Some, Result, Ok, Err, refl, sym, ◌∙◌, subst, append-nil, arith}
 use Rattle.std.specs.Prelude.{OnOk}
 use Rattle.dbg_runner.specs.Plain.{Quit}
-use Rattle.dap_msg.specs.declared.request.FirstSeq.{FirstSeq}
+use Rattle.dap_msg.specs.declared.request.Dialect.{Dialect}
 use Rattle.dap_history.specs.declared.ending.Closed.{Closed}
 use Rattle.dap_history.specs.declared.ending.Ending.TheVariants as ending
 use Rattle.dap_history.specs.declared.fault.SessionFault.{SessionFault}
@@ -26,7 +26,7 @@ abbrev pub closing_step : Item → Step
 closing_step item = record { item = item; answer = None; effect = only_orders (Quit ∷ []) }
 
 -- an event that ends the input
-pub record EndsInput (f : FirstSeq) (past : History) (rest : Rest) (event : Incoming) (item : Item) (closed : Closed)
+pub record EndsInput (f : Dialect) (past : History) (rest : Rest) (event : Incoming) (item : Item) (closed : Closed)
     : Type 0 where
   pub closing_is : closing item ≡ Some (ending.Closed closed)
   pub here : Toward f past rest event past
@@ -40,7 +40,7 @@ pub close_needs_none : (result : Result (Unit {0}) SessionFault) (closed : Close
 close_needs_none (Ok u) closed last old later quits ended = λ open_. absurd (let e = sym ended ∙ open_ in cc)
 close_needs_none (Err fault) closed last old later quits ended = λ lost. subst (λ f. IsNotPushed f old later) lost quits
 
-pub closes : ReadingsGoOn → (f : FirstSeq) (result : Result (Unit {0}) SessionFault) (past : History) (rest : Rest)
+pub closes : ReadingsGoOn → (f : Dialect) (result : Result (Unit {0}) SessionFault) (past : History) (rest : Rest)
     (event : Incoming)
     (item : Item) (closed : Closed) (last : State) (out : Written) (old later : PushedOrders) → IsTaking past
     → EndsInput f past rest event item closed → IsAfter past item (past ++ closing_step item ∷ [])

@@ -1,7 +1,7 @@
 -- A session that is driven.
 use Rattle.std.proofs.Common.{◌≡◌, inl, inr, ℕ, List, [], ◌∷◌, ◌++◌, Option, None, Some, option_map, IfSome, Result, Ok, Err, refl, sym, ◌∙◌, ap, subst, append_assoc, append-nil, arith}
 use Rattle.std.specs.Prelude.{string_bytes}
-use Rattle.dap_msg.specs.declared.request.FirstSeq.{FirstSeq}
+use Rattle.dap_msg.specs.declared.request.Dialect.{Dialect}
 use Rattle.dap_history.specs.declared.ending.Closed.{Closed}
 use Rattle.dap_history.specs.declared.ending.Ending.{Ending}
 use Rattle.dap_history.specs.declared.ending.Ending.TheVariants as ending
@@ -31,7 +31,7 @@ use Rattle.std.proofs.lemmas.Grind.{common_steps}
 
 -- ---- interleavings, one after another
 
-interleaves_both : (f : FirstSeq) (before xs ys : List Incoming) (given more : List Incoming) (loads rest : List Load)
+interleaves_both : (f : Dialect) (before xs ys : List Incoming) (given more : List Incoming) (loads rest : List Load)
     → Interleaves f before xs given loads → Interleaves f (before ++ xs) ys more rest
     → Interleaves f before (xs ++ ys) (given ++ more) (loads ++ rest)
 interleaves_both f before [] ys given more loads rest first next = rw (first.1, first.0, ← (append-nil before)) next
@@ -78,7 +78,7 @@ abbrev pub path_of : Phase → Option (List ℕ)
 path_of phase = option_map (λ launch. launch.arguments.program) (launch_of phase)
 
 -- These events were taken, and all that they give was sent.
-pub record Way (f : FirstSeq) (session : State) (wanted : Option (List ℕ)) (begin now : Sources)
+pub record Way (f : Dialect) (session : State) (wanted : Option (List ℕ)) (begin now : Sources)
     (old later : Ports) : Type 0 where
   pub events : List Incoming
   pub past : History
@@ -95,21 +95,21 @@ pub record Way (f : FirstSeq) (session : State) (wanted : Option (List ℕ)) (be
   pub wanted_is : wanted ≡ path_of session.phase
 
 -- the way begins with a session that has taken no event
-pub way_begins : (f : FirstSeq) (session : State) (begin : Sources) (old : Ports) → Represents f session [] []
+pub way_begins : (f : Dialect) (session : State) (begin : Sources) (old : Ports) → Represents f session [] []
     → Way f session None begin begin old old
 way_begins f session begin old stands = grind (arith, common_steps, append-nil, sends_nothing)
 
 -- ---- the next event
 
 -- what the next event adds to what was given and loaded
-record Adds (f : FirstSeq) (events : List Incoming) (event : Incoming) (now next : Sources) : Type 0 where
+record Adds (f : Dialect) (events : List Incoming) (event : Incoming) (now next : Sources) : Type 0 where
   given : List Incoming
   loads : List Load
   given_are : next.given ≡ now.given ++ given
   loads_are : next.loaded ≡ now.loaded ++ loads
   one : Interleaves f events (event ∷ []) given loads
 
-awaits : (f : FirstSeq) (session : State) (events : List Incoming) (past : History) (launch : Launch) (path : List ℕ)
+awaits : (f : Dialect) (session : State) (events : List Incoming) (past : History) (launch : Launch) (path : List ℕ)
     → Represents f session events past → session.ending ≡ None
     → launch_of session.phase ≡ Some launch → path ≡ launch.arguments.program → Awaits f events path
 awaits f session events past launch path stands open_ is same =
@@ -123,13 +123,13 @@ awaits f session events past launch path stands open_ is same =
       path_is = same;
     }
 
-awaits_none : (f : FirstSeq) (session : State) (events : List Incoming) (past : History)
+awaits_none : (f : Dialect) (session : State) (events : List Incoming) (past : History)
     → Represents f session events past
     → session.ending ≡ None
     → launch_of session.phase ≡ None → AwaitsNone f events
 awaits_none f session events past stands open_ is = grind (arith, common_steps)
 
-adds_file : (f : FirstSeq) (events : List Incoming) (path : List ℕ) (answer : Result (List ℕ) LoadFault)
+adds_file : (f : Dialect) (events : List Incoming) (path : List ℕ) (answer : Result (List ℕ) LoadFault)
     (now next : Sources)
     → Awaits f events path
     → next.given ≡ now.given → next.loaded ≡ now.loaded ++ load_of path answer ∷ []
@@ -142,7 +142,7 @@ adds_file f events path answer now next awaited given loaded = record {
   one = inl (load_of path answer, [], refl, (refl, awaited), (refl, refl));
 }
 
-adds_event : (f : FirstSeq) (session : State) (events : List Incoming) (past : History) (wanted : Option (List ℕ))
+adds_event : (f : Dialect) (session : State) (events : List Incoming) (past : History) (wanted : Option (List ℕ))
     (launch : Option Launch) (event : Incoming) (now next : Sources)
     → Represents f session events past → session.ending ≡ None → launch_of session.phase ≡ launch
     → wanted ≡ option_map (λ l. l.arguments.program) launch
@@ -187,7 +187,7 @@ goes_on want session (Some (ending.Closed by)) is wants not = absurd (not wants)
 goes_on want session (Some (ending.Fault fault)) is wants not = absurd wants
 
 -- what the history says of an event that needs no memory, the session says too
-needs_none : (f : FirstSeq) (session : State) (events : List Incoming) (past : History)
+needs_none : (f : Dialect) (session : State) (events : List Incoming) (past : History)
     (stands : Represents f session events past)
     → session.ending ≡ None → (event : Incoming)
     → NeedsNoMemory stands.rest.launch (Accepts past) event → NeedsNoMemory (launch_of session.phase)
@@ -201,7 +201,7 @@ needs_none f session events past stands open_ (Piece piece) needs = absurd needs
 needs_none f session events past stands open_ NoMemoryCame needs = absurd needs
 
 -- where the session ran out of memory, the event needs some
-needs_some : (f : FirstSeq) (session after : State) (fault : SessionFault) (event : Incoming) (mid later : Ports)
+needs_some : (f : Dialect) (session after : State) (fault : SessionFault) (event : Incoming) (mid later : Ports)
     (events : List Incoming) (past : History) (stands : Represents f session events past) → session.ending ≡ None
     → TakesEvent session event (Err fault) after mid later
     → fault ≡ faults.NoMemory → ¬ NeedsNoMemory stands.rest.launch (Accepts past) event
@@ -209,7 +209,7 @@ needs_some f session after fault event mid later events past stands open_ step l
     step.enough (needs_none f session events past stands open_ event needs) (ap Err lost)
 
 -- the way goes on where the event went well
-pub way_goes_on : (f : FirstSeq) (session after : State) (wanted : Option (List ℕ)) (want : Want) (event : Incoming)
+pub way_goes_on : (f : Dialect) (session after : State) (wanted : Option (List ℕ)) (want : Want) (event : Incoming)
     (begin now next : Sources) (old mid later : Ports)
     → Way f session wanted begin now old mid → ComesFrom wanted event now next → AreLawful (event ∷ [])
     → TakesEvent session event (Ok want) after mid later
@@ -241,7 +241,7 @@ way_goes_on f session after wanted want event begin now next old mid later way f
 
 -- ---- the end
 
-abbrev reaches_last : (f : FirstSeq) (events : List Incoming) (past : History) (rest : Rest) (event : Incoming)
+abbrev reaches_last : (f : Dialect) (events : List Incoming) (past : History) (rest : Rest) (event : Incoming)
     → IsHistoryOf f events past rest → IsTaking past → ReachesLast f (events ++ event ∷ [])
 reaches_last f events past rest event history taking = record {
   before = events;
@@ -253,13 +253,13 @@ reaches_last f events past rest event history taking = record {
   taking = taking;
 }
 
-serves : (f : FirstSeq) (events : List Incoming) (past : History) (rest : Rest) (by : Ending) (old later : Ports)
+serves : (f : Dialect) (events : List Incoming) (past : History) (rest : Rest) (by : Ending) (old later : Ports)
     → IsHistoryOf f events past rest → ending_of past ≡ Some by → ReachesLast f events
     → Sends [] past old later → RefusesNothing old later
     → Serves f events by old later
 serves f events past rest by old later history is reaches sent sure = grind (arith, common_steps)
 
-stops_short : (f : FirstSeq) (events : List Incoming) (past : History) (rest : Rest) (event : Incoming)
+stops_short : (f : Dialect) (events : List Incoming) (past : History) (rest : Rest) (event : Incoming)
     (old mid later last : Ports)
     (fault : SessionFault)
     → IsHistoryOf f events past rest → IsTaking
@@ -278,7 +278,7 @@ stops_short f events past rest event old mid later last fault history taking nee
 }
 
 -- the result is as the way and its last event lead to
-ends : (f : FirstSeq) (events : List Incoming) (past : History) (rest : Rest) (event : Incoming) (after : State)
+ends : (f : Dialect) (events : List Incoming) (past : History) (rest : Rest) (event : Incoming) (after : State)
     (old mid later last : Ports) (given : List Incoming) (loads : List Load) (fault : SessionFault)
     → IsHistoryOf f events past rest → IsTaking
     past → (fault ≡ faults.NoMemory → ¬ NeedsNoMemory rest.launch (Accepts past) event) → Sends [] past old mid
@@ -326,7 +326,7 @@ ends f events past rest event after old mid later last given loads faults.Writer
     needs sent sure comes quit)
 
 -- the session was closed
-pub way_closes : (f : FirstSeq) (session after : State) (wanted : Option (List ℕ)) (want : Want) (event : Incoming)
+pub way_closes : (f : Dialect) (session after : State) (wanted : Option (List ℕ)) (want : Want) (event : Incoming)
     (begin now next : Sources) (old mid later : Ports) (by : Closed)
     → Way f session wanted begin now old mid → ComesFrom wanted event now next → AreLawful (event ∷ [])
     → TakesEvent session event (Ok want) after mid later
@@ -355,7 +355,7 @@ way_closes f session after wanted want event begin now next old mid later by way
     }
 
 -- it gave up
-pub way_fails : (f : FirstSeq) (session after : State) (wanted : Option (List ℕ)) (fault : SessionFault)
+pub way_fails : (f : Dialect) (session after : State) (wanted : Option (List ℕ)) (fault : SessionFault)
     (event : Incoming)
     (begin now next : Sources) (old mid later last : Ports)
     → Way f session wanted begin now old mid → ComesFrom wanted event now next → AreLawful (event ∷ [])
@@ -392,7 +392,7 @@ not_open_ended session (Some (ending.Fault fault)) want is closed wants open_ = 
 -- ---- between two events
 
 -- on its way a session owes nothing but the launch of the file that it wants
-pub way_owes : {f : FirstSeq} {session : State} {wanted : Option (List ℕ)} {begin now : Sources} {old later : Ports}
+pub way_owes : {f : Dialect} {session : State} {wanted : Option (List ℕ)} {begin now : Sources} {old later : Ports}
     → Way f session wanted begin now old later → OwesOnly f wanted begin now old later
 way_owes {old = old} way = grind (arith, common_steps)
 

@@ -2,7 +2,7 @@
 use Rattle.std.proofs.Common.{◌≡◌, inl, inr, ℕ, List, Option, None, Some, Result, Ok, Err, refl, sym, ◌∙◌, ap, subst, arith}
 use Rattle.std.specs.Prelude.{Vec}
 use Rattle.std.specs.declared.alloc.Global.{Global}
-use Rattle.dap_msg.specs.declared.request.FirstSeq.{FirstSeq}
+use Rattle.dap_msg.specs.declared.request.Dialect.{Dialect}
 use Rattle.dap_history.specs.declared.fault.LoadFault.{LoadFault}
 use Rattle.dap_history.specs.declared.fault.LoadFault.TheVariants as load_fault
 use Rattle.dap_history.specs.declared.fault.SessionFault.{SessionFault}
@@ -34,7 +34,7 @@ pub record IsGiven (rest : Rest) (launch : Launch) (answer : Result (List ℕ) L
   pub waits : rest.launch ≡ Some launch
   pub file_is : file_of answer ≡ Some file
 
-leads_by_answer : (f : FirstSeq) (past : History) (rest : Rest) (launch : Launch) (answer : Result (List ℕ) LoadFault)
+leads_by_answer : (f : Dialect) (past : History) (rest : Rest) (launch : Launch) (answer : Result (List ℕ) LoadFault)
     (file : Option (List ℕ)) (new : History) (left : Rest) → file_of answer ≡ Some file
     → Loads f past launch file rest.bytes new left → LeadsByFile f past rest (Some launch) answer new left
 leads_by_answer f past rest launch (Ok bytes) file new left is loads = grind (arith, common_steps)
@@ -42,13 +42,13 @@ leads_by_answer f past rest launch (Err load_fault.CannotRead) file new left is 
     let e : None ≡ file = cc in inr (subst (λ b. Loads f past launch b rest.bytes new left) (sym e) loads)
 leads_by_answer f past rest launch (Err load_fault.NoMemory) file new left is loads = absurd cc
 
-leads_by_load : (f : FirstSeq) (past : History) (rest : Rest) (launch : Launch) (answer : Result (List ℕ) LoadFault)
+leads_by_load : (f : Dialect) (past : History) (rest : Rest) (launch : Launch) (answer : Result (List ℕ) LoadFault)
     (file : Option (List ℕ)) → IsGiven rest launch answer file → (new : History) (left : Rest)
     → Loads f past launch file rest.bytes new left → LeadsByEvent f past rest (File answer) new left
 leads_by_load f past rest launch answer file is new left loads =
     grind (arith, common_steps, leads_by_answer)
 
-toward_by_load : (f : FirstSeq) (past : History) (rest : Rest) (launch : Launch) (answer : Result (List ℕ) LoadFault)
+toward_by_load : (f : Dialect) (past : History) (rest : Rest) (launch : Launch) (answer : Result (List ℕ) LoadFault)
     (file : Option (List ℕ)) → IsGiven rest launch answer file → (mid : History) → IsAfter past (Loaded launch file) mid
     → (new : History) → TowardByPiece f mid None rest.bytes new → Toward f past rest (File answer) new
 toward_by_load f past rest launch answer file is mid after new taken =
@@ -64,20 +64,20 @@ toward_by_load f past rest launch answer file is mid after new taken =
     })
 
 -- the contents after it are taken as well
-pub file_taken : (f : FirstSeq) (result : Result (Unit {0}) SessionFault) (past : History) (rest : Rest)
+pub file_taken : (f : Dialect) (result : Result (Unit {0}) SessionFault) (past : History) (rest : Rest)
     (launch : Launch)
     (answer : Result (List ℕ) LoadFault) (file : Option (List ℕ)) (loaded last : State) (old between later : Ports)
     → IsTaking past → IsGiven rest launch answer file
-    → loaded.stream ≡ record { first = f; rest = rest.bytes; fault = None }
+    → loaded.stream ≡ record { dialect = f; rest = rest.bytes; fault = None }
     → TakesItem past (Loaded launch file) loaded old between
     → ((h : History) → loaded.stream.fault ≡ None → launch_of loaded.phase ≡ None → HasHistory loaded h
-    → HandlesContents loaded.stream.first result h loaded.stream.rest last between later)
+    → HandlesContents loaded.stream.dialect result h loaded.stream.rest last between later)
     → Handles f result past rest (File answer) last old later
 file_taken f result past rest launch answer file loaded last old between later taking is stream_is item taken =
     let mid = item.new in
     let contents = subst (λ b. HandlesContents f result mid b last between later) (ap (λ s. s.rest) stream_is) (subst (λ
-    g. HandlesContents g result mid loaded.stream.rest last between later) (ap (λ s. s.first) stream_is) (taken mid (ap
-    (λ s. s.fault) stream_is) item.free item.is_at)) in
+    g. HandlesContents g result mid loaded.stream.rest last between later) (ap (λ s. s.dialect) stream_is) (taken mid
+    (ap (λ s. s.fault) stream_is) item.free item.is_at)) in
     goes_after f result _ _ _ _ past mid last old between later item.sends item.refuses_nothing (λ new left all.
     leads_by_load f past rest launch answer file is new left (record {
       taking = taking;
@@ -88,12 +88,12 @@ file_taken f result past rest launch answer file loaded last old between later t
 
 -- ---- a launch that is not made
 
-pub file_lost : (f : FirstSeq) (past : History) (rest : Rest) (answer : Result (List ℕ) LoadFault) (last : State)
+pub file_lost : (f : Dialect) (past : History) (rest : Rest) (answer : Result (List ℕ) LoadFault) (last : State)
     (old : Ports)
     → Handles f (Err NoMemory) past rest (File answer) last old old
 file_lost f past rest answer last old = inl (stops_at_once (Toward f past rest (File answer)) past old (inl refl))
 
-pub load_fails : (f : FirstSeq) (fault : SessionFault) (past : History) (rest : Rest) (launch : Launch)
+pub load_fails : (f : Dialect) (fault : SessionFault) (past : History) (rest : Rest) (launch : Launch)
     (answer : Result (List ℕ) LoadFault) (file : Option (List ℕ)) (last : State) (old later : Ports)
     → IsGiven rest launch answer file
     → FailsAtItem fault past (Loaded launch file) old later
@@ -104,7 +104,7 @@ load_fails f fault past rest launch answer file last old later is fails =
 
 -- ---- a file that no launch waits for
 
-pub file_passed : (f : FirstSeq) (past : History) (rest : Rest) (answer : Result (List ℕ) LoadFault)
+pub file_passed : (f : Dialect) (past : History) (rest : Rest) (answer : Result (List ℕ) LoadFault)
     (session last : State)
     (old : Ports) → last ≡ session → session.ending ≡ None → launch_of session.phase ≡ None → IsTaking past
     → GoesOn f session past rest

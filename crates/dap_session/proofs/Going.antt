@@ -1,6 +1,6 @@
 -- How far a session came, seen from an earlier history.
 use Rattle.std.proofs.Common.{◌≡◌, inl, inr, None, Result, Ok, Err, refl, sym, ◌∙◌}
-use Rattle.dap_msg.specs.declared.request.FirstSeq.{FirstSeq}
+use Rattle.dap_msg.specs.declared.request.Dialect.{Dialect}
 use Rattle.dap_history.specs.declared.fault.SessionFault.{SessionFault}
 use Rattle.dap_history.specs.declared.fault.SessionFault.TheVariants.{NoMemory}
 use Rattle.dap_history.specs.History.{Item, History}
@@ -14,7 +14,7 @@ use Rattle.dap_session.proofs.Items.{refuses_none}
 use Rattle.dap_session.proofs.Joining.{refuses_both, sends_both, sends_nothing}
 
 -- what was sent before is sent as well
-pub goes_after : (f : FirstSeq) (result : Result (Unit {0}) SessionFault) (L M : History → Rest → Type 0)
+pub goes_after : (f : Dialect) (result : Result (Unit {0}) SessionFault) (L M : History → Rest → Type 0)
     (T U : History → Type 0)
     (past mid : History) (session : State) (old between later : Ports)
     → Sends past mid old between → RefusesNothing old between
@@ -87,7 +87,7 @@ stops_at_item T fault past item old later here toward fails =
     }
 
 -- nothing comes of the event
-pub arrives_at_once : (f : FirstSeq) (L : History → Rest → Type 0) (past : History) (rest : Rest) (session : State)
+pub arrives_at_once : (f : Dialect) (L : History → Rest → Type 0) (past : History) (rest : Rest) (session : State)
     (old : Ports)
     → L past rest → session.ending ≡ None → IsTaking past → GoesOn f session past rest
     → Arrives f L past session old old

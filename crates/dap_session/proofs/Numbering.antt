@@ -11,7 +11,7 @@ use Rattle.dap_history.specs.Events.{Incoming, Rest, IsHistoryOf}
 use Rattle.dap_history.specs.Laws.{HistoryIsOne, SeqCountFromOne, FramesAreReadBack}
 use Rattle.dap_history.specs.Output.{frames_from}
 use Rattle.dap_history.proofs.OneHistory.{IsReadOnce}
-use Rattle.dap_msg.specs.declared.request.FirstSeq.{FirstSeq}
+use Rattle.dap_msg.specs.declared.request.Dialect.{Dialect}
 use Rattle.dap_session.specs.Laws.{FramesAreNumbered}
 use Rattle.dap_session.proofs.Beginnings.{drives_few}
 
@@ -27,7 +27,7 @@ there_is f None b is = absurd cc
 there_is f (Some a) b is = (a, refl)
 
 module _ (count : SeqCountFromOne) (back : FramesAreReadBack) where
-  reads_nth : (f : FirstSeq) (events : List Incoming) (past : History) (rest : Rest) → IsHistoryOf f events past rest
+  reads_nth : (f : Dialect) (events : List Incoming) (past : History) (rest : Rest) → IsHistoryOf f events past rest
       → (n : ℕ) (frame : List ℕ) → slice_get (frames_from 1 (messages_of past)) n ≡ Some frame → n + 1 < 2 ^ 64
       → (message : Outgoing) × (content : List ℕ) × (slice_get (messages_of past) n ≡ Some message)
       × (frame ≡ frame_of content) × ReadsAsMessage message (n + 1) content

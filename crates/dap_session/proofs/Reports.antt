@@ -4,7 +4,7 @@ use Rattle.std.specs.Prelude.{OnOk}
 use Rattle.dbg_runner.specs.declared.outcome.SliceOutcome.{SliceOutcome}
 use Rattle.dbg_runner.specs.declared.outcome.SliceOutcome.TheVariants as slice
 use Rattle.dbg_runner.specs.Plain.{PlainReport, Heading}
-use Rattle.dap_msg.specs.declared.request.FirstSeq.{FirstSeq}
+use Rattle.dap_msg.specs.declared.request.Dialect.{Dialect}
 use Rattle.dap_history.specs.declared.fault.SessionFault.{SessionFault}
 use Rattle.dap_history.specs.declared.fault.SessionFault.TheVariants.{NoMemory}
 use Rattle.dap_history.specs.History.{Accepted, History}
@@ -36,7 +36,7 @@ needed_none (Err fault) session free enough = λ lost. enough (ap Err lost)
 
 -- ---- a report that is passed over
 
-passed : (f : FirstSeq) (past : History) (rest : Rest) (r : PlainReport) (session : State) (old : Ports)
+passed : (f : Dialect) (past : History) (rest : Rest) (r : PlainReport) (session : State) (old : Ports)
     → ¬ Accepts past r
     → session.ending ≡ None → IsTaking past → GoesOn f session past rest
     → Handles f (Ok tt) past rest (Report r) session old old
@@ -61,7 +61,7 @@ expects (phase.Stopped t d) past r is accepts = let e = sym accepts.running ∙ 
 expects (phase.Faulted t d) past r is accepts = let e = sym accepts.running ∙ is.situation_is in absurd cc
 expects (phase.Ended t u) past r is accepts = let e = sym accepts.running ∙ is.situation_is in absurd cc
 
-pub report_passed : (f : FirstSeq) (past : History) (rest : Rest) (r : PlainReport) (session last : State) (old : Ports)
+pub report_passed : (f : Dialect) (past : History) (rest : Rest) (r : PlainReport) (session last : State) (old : Ports)
     → last ≡ session → ¬ Expects session.phase r → session.ending ≡ None → IsTaking past → GoesOn f session past rest
     → Handles f (Ok tt) past rest (Report r) last old old
 report_passed f past rest r session last old same other open_ taking on =
@@ -96,7 +96,7 @@ pub record HadRun (session : State) (t : Target) (run : OrderedRun) (r : PlainRe
   pub phase_was : session.phase ≡ phase.Running t run
   pub expected : r.heading ≡ heading_in t.runs run
 
-pub report_taken : (f : FirstSeq) (result : Result (Unit {0}) SessionFault) (past : History) (rest : Rest) (t : Target)
+pub report_taken : (f : Dialect) (result : Result (Unit {0}) SessionFault) (past : History) (rest : Rest) (t : Target)
     (run : OrderedRun)
     (r : PlainReport) (session last : State) (old later : Ports) → HadRun session t run r → last.stream ≡ session.stream
     → IsTaking past → GoesOn f session past rest

@@ -3,7 +3,7 @@ use Rattle.std.proofs.Common.{◌≡◌, ◌⊎◌, inl, inr, ℕ, List, [], ◌
 use Rattle.dap_msg.specs.declared.request.Request.{Request}
 use Rattle.dbg_runner.specs.Lawful.{IsLawfulReport}
 use Rattle.dbg_runner.specs.Plain.{PlainReport}
-use Rattle.dap_msg.specs.declared.request.FirstSeq.{FirstSeq}
+use Rattle.dap_msg.specs.declared.request.Dialect.{Dialect}
 use Rattle.dap_history.specs.declared.ending.Ending.{Ending}
 use Rattle.dap_history.specs.declared.fault.LoadFault.{LoadFault}
 use Rattle.dap_history.specs.declared.fault.LoadFault.TheVariants as load_fault
@@ -27,7 +27,7 @@ abbrev pub only_launch : Option Launch → Rest
 only_launch launch = record { launch = launch; bytes = [] }
 
 -- lawful events give the history; nothing is left unread of them while items are taken
-pub record Retaken (f : FirstSeq) (past : History) (launch : Option Launch) : Type 0 where
+pub record Retaken (f : Dialect) (past : History) (launch : Option Launch) : Type 0 where
   pub events : List Incoming
   pub rest : Rest
   pub lawful : AreLawful events
@@ -35,22 +35,22 @@ pub record Retaken (f : FirstSeq) (past : History) (launch : Option Launch) : Ty
   pub rest_is : IsTaking past → rest ≡ only_launch launch
 
 -- with whatever launch waits then
-abbrev pub IsRetaken : FirstSeq → History → Type 0
+abbrev pub IsRetaken : Dialect → History → Type 0
 IsRetaken f past = (launch : Option Launch) × Retaken f past launch
 
 -- ---- nothing is taken of no bytes
 
-nothing_by : {f : FirstSeq} (past : History) (ending : Option Ending) → ending_of past ≡ ending
+nothing_by : {f : Dialect} (past : History) (ending : Option Ending) → ending_of past ≡ ending
     → Rests f past [] past (only_bytes [])
 nothing_by past None is = open_ended is open_first
 nothing_by past (Some by) is = closed (λ taking. let e = sym taking ∙ is in cc)
 
-takes_nothing : {f : FirstSeq} (past : History) → Rests f past [] past (only_bytes [])
+takes_nothing : {f : Dialect} (past : History) → Rests f past [] past (only_bytes [])
 takes_nothing past = nothing_by past (ending_of past) refl
 
 -- ---- one event more
 
-one_event : {f : FirstSeq} {past : History} {launch : Option Launch} → Retaken f past launch
+one_event : {f : Dialect} {past : History} {launch : Option Launch} → Retaken f past launch
     → (event : Incoming) (new : History) (left : Rest) (other : Option Launch) → AreLawful (event ∷ []) → IsTaking past
     → LeadsByEvent f past (only_launch launch) event new left → (IsTaking new → left ≡ only_launch other)
     → Retaken f new other
@@ -64,7 +64,7 @@ one_event {f = f} {past = past} {launch = launch} retaken event new left other l
 }
 
 -- a content without the bytes after it
-alone : (f : FirstSeq) (bytes : List ℕ) (request : Option Request) (more : List ℕ) → IsInFront f bytes request more
+alone : (f : Dialect) (bytes : List ℕ) (request : Option Request) (more : List ℕ) → IsInFront f bytes request more
     → (frame : List ℕ)
     × IsInFront f frame request []
 alone f bytes request more front = (
@@ -76,7 +76,7 @@ alone f bytes request more front = (
   },
 )
 
-content_given : {f : FirstSeq} {past : History} → Retaken f past None
+content_given : {f : Dialect} {past : History} → Retaken f past None
     → (request : Option Request) (bytes more : List ℕ) (new : History)
     → IsTaking past → IsInFront f bytes request more → wanted_in (situation past) request ≡ None
     → IsAfter past (Content request) new
@@ -87,7 +87,7 @@ content_given {f = f} retaken request bytes more new taking front unwanted after
     (new, [], one_content request taking frame.1 unwanted after no_content, takes_nothing new)
     (λ still. refl)
 
-launch_given : {f : FirstSeq} {past : History} → Retaken f past None
+launch_given : {f : Dialect} {past : History} → Retaken f past None
     → (request : Option Request) (launch : Launch) (bytes more : List ℕ)
     → IsTaking past → IsInFront f bytes request more → wanted_in (situation past) request ≡ Some launch
     → Retaken f past (Some launch)
@@ -96,7 +96,7 @@ launch_given {f = f} {past = past} retaken request launch bytes more taking fron
     one_event retaken (Piece frame.0) past _ (Some launch) tt taking (at_once (waits request launch [] taking frame.1
     wanted)) (λ still. refl)
 
-load_given : {f : FirstSeq} {past : History} {launch : Launch} → Retaken f past (Some launch)
+load_given : {f : Dialect} {past : History} {launch : Launch} → Retaken f past (Some launch)
     → (file : Option (List ℕ)) (new : History)
     → IsTaking past → IsAfter past (Loaded launch file) new → Retaken f new None
 load_given {f = f} retaken (Some bytes) new taking after =
@@ -106,7 +106,7 @@ load_given {f = f} retaken None new taking after =
     one_event retaken (File (Err load_fault.CannotRead)) new (only_bytes []) None tt taking
     (inr (record { taking = taking; mid = new; loaded = after; after = at_once (takes_nothing new) })) (λ still. refl)
 
-report_given : {f : FirstSeq} {past : History} {launch : Option Launch} → Retaken f past launch
+report_given : {f : Dialect} {past : History} {launch : Option Launch} → Retaken f past launch
     → (r : PlainReport) (new : History)
     → IsLawfulReport r → IsTaking past → Accepts past r → IsAfter past (Accepted r) new → Retaken f new launch
 report_given {f = f} {launch = launch} retaken r new law taking accepts after =
@@ -114,7 +114,7 @@ report_given {f = f} {launch = launch} retaken r new law taking accepts after =
     (λ still. refl)
 
 -- an item that an event is of itself
-item_given : {f : FirstSeq} {past : History} {launch : Option Launch} → Retaken f past launch
+item_given : {f : Dialect} {past : History} {launch : Option Launch} → Retaken f past launch
     → (item : Item) (event : Incoming) (new : History) → AreLawful (event ∷ [])
     → (MayTake past item new → LeadsByEvent f past (only_launch launch) event new (only_launch launch))
     → MayTake past item new → Retaken f new launch
@@ -124,7 +124,7 @@ item_given {f = f} {launch = launch} retaken item event new law leads (inr is) =
 
 -- ---- events
 
-some_given : {f : FirstSeq} {past new : History} {bytes left : List ℕ} → TakesSome f past bytes new left
+some_given : {f : Dialect} {past new : History} {bytes left : List ℕ} → TakesSome f past bytes new left
     → Retaken f past None
     → Retaken f new None
 some_given no_content retaken = retaken
@@ -132,7 +132,7 @@ some_given (one_content {mid = mid} {bytes = bytes} {more = more} request taking
     retaken =
     some_given some (content_given retaken request bytes more mid taking front unwanted after)
 
-rests_given : {f : FirstSeq} {past new : History} {bytes : List ℕ} {rest : Rest} → Rests f past bytes new rest
+rests_given : {f : Dialect} {past new : History} {bytes : List ℕ} {rest : Rest} → Rests f past bytes new rest
     → Retaken f past None
     → Retaken f new rest.launch
 rests_given (closed not) retaken = retaken
@@ -144,23 +144,23 @@ rests_given {f = f} {past = past} {bytes = bytes} (faulty k new taking fault aft
 rests_given {bytes = bytes} (waits request launch more taking front wanted) retaken =
     launch_given retaken request launch bytes more taking front wanted
 
-takes_given : (f : FirstSeq) (past new : History) (bytes : List ℕ) (rest : Rest) → Takes f past bytes new rest
+takes_given : (f : Dialect) (past new : History) (bytes : List ℕ) (rest : Rest) → Takes f past bytes new rest
     → Retaken f past None
     → Retaken f new rest.launch
 takes_given f past new bytes rest taken retaken = rests_given taken.3 (some_given taken.2 retaken)
 
-piece_given : (f : FirstSeq) (past : History) (launch : Option Launch) (bytes : List ℕ) (new : History) (left : Rest)
+piece_given : (f : Dialect) (past : History) (launch : Option Launch) (bytes : List ℕ) (new : History) (left : Rest)
     → LeadsByPiece f past launch bytes new left → Retaken f past launch → Retaken f new left.launch
 piece_given f past None bytes new left leads retaken = takes_given f past new bytes left leads retaken
 piece_given f past (Some launch) bytes new left leads retaken = rw leads.0 (rw leads.1 retaken)
 
 -- nothing comes of the event
-passed_over : {f : FirstSeq} (past : History) (rest : Rest) (launch : Option Launch) (new : History) (left : Rest)
+passed_over : {f : Dialect} (past : History) (rest : Rest) (launch : Option Launch) (new : History) (left : Rest)
     → rest.launch ≡ launch → new ≡ past → left ≡ rest → Retaken f past launch → Retaken f new left.launch
 passed_over {f = f} past rest launch new left is same left_is retaken =
     rw same (rw (← (sym is ∙ ap (λ (r : Rest). r.launch) (sym left_is))) retaken)
 
-file_given : (f : FirstSeq) (past : History) (rest : Rest) (launch : Option Launch) (answer : Result (List ℕ) LoadFault)
+file_given : (f : Dialect) (past : History) (rest : Rest) (launch : Option Launch) (answer : Result (List ℕ) LoadFault)
     (new : History) (left : Rest) → rest.launch ≡ launch → LeadsByFile f past rest launch answer new left
     → Retaken f past launch → Retaken f new left.launch
 file_given f past rest None answer new left is leads retaken =
@@ -177,7 +177,7 @@ file_given f past rest (Some launch) (Err load_fault.NoMemory) new left is leads
     passed_over new rest (Some launch) new left is refl leads.1
     (item_given retaken MemoryFailure NoMemoryCame new tt (λ may. (may, refl)) leads.0)
 
-event_given : (f : FirstSeq) (past : History) (rest : Rest) (event : Incoming) (new : History) (left : Rest)
+event_given : (f : Dialect) (past : History) (rest : Rest) (event : Incoming) (new : History) (left : Rest)
     → AreLawful (event ∷ [])
     → LeadsByEvent f past rest event new left → Retaken f past rest.launch → Retaken f new left.launch
 event_given f past rest (Piece piece) new left law leads retaken = piece_given f past rest.launch _ new left
@@ -200,7 +200,7 @@ event_given f past rest (Report r) new left law leads retaken =
     by (inl not) = subst (λ h. Retaken f h rest.launch) (sym not.1) retaken
     by (inr is) = report_given retaken r new law.0 is.0 is.1 is.2
 
-events_given : (f : FirstSeq) (past : History) (rest : Rest) (events : List Incoming) (new : History) (left : Rest)
+events_given : (f : Dialect) (past : History) (rest : Rest) (events : List Incoming) (new : History) (left : Rest)
     → AreLawful events → LeadsByEvents f past rest events new left → Retaken f past rest.launch
     → Retaken f new left.launch
 events_given f past rest [] new left lawful all retaken =
@@ -210,7 +210,7 @@ events_given f past rest (e ∷ events) new left lawful all retaken =
     events_given f all.0 all.1 events new left apart.1 all.3
     (event_given f past rest e all.0 all.1 apart.0 all.2 retaken)
 
-pub retaken : (f : FirstSeq) (events : List Incoming) (past : History) (rest : Rest) → AreLawful events
+pub retaken : (f : Dialect) (events : List Incoming) (past : History) (rest : Rest) → AreLawful events
     → IsHistoryOf f events past rest → Retaken f past rest.launch
 retaken f events past rest lawful history =
     events_given f [] (only_bytes []) events past rest lawful history
@@ -224,12 +224,12 @@ retaken f events past rest lawful history =
 
 -- ---- some items of one event more
 
-toward_piece : (f : FirstSeq) (past : History) (launch : Option Launch) (bytes : List ℕ) (new : History)
+toward_piece : (f : Dialect) (past : History) (launch : Option Launch) (bytes : List ℕ) (new : History)
     → TowardByPiece f past launch bytes new → Retaken f past launch → Retaken f new launch
 toward_piece f past None bytes new toward here = some_given toward.1 here
 toward_piece f past (Some launch) bytes new toward here = subst (λ h. Retaken f h (Some launch)) (sym toward) here
 
-toward_item : {f : FirstSeq} (past : History) (launch : Option Launch) (item : Item) (event : Incoming)
+toward_item : {f : Dialect} (past : History) (launch : Option Launch) (item : Item) (event : Incoming)
     (new : History)
     → AreLawful (event ∷ []) → IsTaking
     past → (MayTake past item new → LeadsByEvent f past (only_launch launch) event new (only_launch launch))
@@ -238,7 +238,7 @@ toward_item {f = f} past launch item event new law taking leads (inl same) here 
 toward_item {f = f} past launch item event new law taking leads (inr after) here =
     (launch, item_given here item event new law leads (inr (taking, after)))
 
-toward_file : (f : FirstSeq) (past : History) (rest : Rest) (answer : Result (List ℕ) LoadFault) (new : History)
+toward_file : (f : Dialect) (past : History) (rest : Rest) (answer : Result (List ℕ) LoadFault) (new : History)
     → IsTaking past
     → (new ≡ past) ⊎ LoadsToward f past rest answer new → Retaken f past rest.launch → IsRetaken f new
 toward_file f past rest answer new taking (inl same) here = (rest.launch, rw same here)
@@ -248,7 +248,7 @@ toward_file f past rest answer new taking (inr loads) here = (
       loads.loaded),
 )
 
-pub retaken_toward : (f : FirstSeq) (past : History) (rest : Rest) (event : Incoming) (new : History)
+pub retaken_toward : (f : Dialect) (past : History) (rest : Rest) (event : Incoming) (new : History)
     → AreLawful (event ∷ [])
     → IsTaking past → Toward f past rest event new → Retaken f past rest.launch → IsRetaken f new
 retaken_toward f past rest (Piece piece) new law taking toward here =

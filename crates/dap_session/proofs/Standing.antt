@@ -3,7 +3,7 @@ use Rattle.std.proofs.Common.{◌≡◌, ◌≢◌, ◌⊎◌, inl, inr, ℕ, Li
 use Rattle.std.specs.Prelude.{IfOk, IfErr, String, string_bytes}
 use Rattle.std.specs.declared.alloc.Global.{Global}
 use Rattle.dap_msg.specs.declared.requests.initialize.InitializeArguments.{InitializeArguments}
-use Rattle.dap_msg.specs.declared.request.FirstSeq.{FirstSeq}
+use Rattle.dap_msg.specs.declared.request.Dialect.{Dialect}
 use Rattle.dap_history.specs.declared.fault.LoadFault.{LoadFault}
 use Rattle.dap_history.specs.declared.fault.LoadFault.TheVariants as load_fault
 use Rattle.dap_history.specs.declared.fault.SessionFault.{SessionFault}
@@ -24,7 +24,7 @@ use Rattle.dap_history.proofs.Along.{closes_for_good}
 use Rattle.std.proofs.lemmas.Grind.{common_steps}
 
 -- one event after others
-pub leads_one_more : (f : FirstSeq) (past : History) (rest : Rest) (events : List Incoming) (mid : History)
+pub leads_one_more : (f : Dialect) (past : History) (rest : Rest) (events : List Incoming) (mid : History)
     (between : Rest)
     (event : Incoming) (new : History) (left : Rest)
     → LeadsByEvents f past rest events mid between → LeadsByEvent f mid between event new left
@@ -42,7 +42,7 @@ leads_one_more f past rest (e ∷ events) mid between event new left all leads =
 -- ---- where a session goes on after an event, only items that it takes were taken
 
 -- no further item is taken where it still takes any
-none_after : {f : FirstSeq} {past new : History} {bytes : List ℕ} {rest : Rest}
+none_after : {f : Dialect} {past new : History} {bytes : List ℕ} {rest : Rest}
     → Rests f past bytes new rest
     → IsTaking new → past ≡ new
 none_after (closed not) still = refl
@@ -51,18 +51,18 @@ none_after {past = past} (faulty k new taking is after) still =
     absurd (closes_for_good past (Fault k) new _ refl after still)
 none_after (waits request launch more taking front wanted) still = refl
 
-toward_by_contents : (f : FirstSeq) (past new : History) (bytes : List ℕ) (rest : Rest)
+toward_by_contents : (f : Dialect) (past new : History) (bytes : List ℕ) (rest : Rest)
     → Takes f past bytes new rest
     → IsTaking new → TowardByPiece f past None bytes new
 toward_by_contents f past new bytes rest taken still = (taken.1, rw (← (none_after taken.3 still)) taken.2)
 
-toward_by_piece : (f : FirstSeq) (past : History) (launch : Option Launch) (bytes : List ℕ)
+toward_by_piece : (f : Dialect) (past : History) (launch : Option Launch) (bytes : List ℕ)
     (new : History)
     (left : Rest) → LeadsByPiece f past launch bytes new left → IsTaking new → TowardByPiece f past launch bytes new
 toward_by_piece f past None bytes new left leads still = toward_by_contents f past new bytes left leads still
 toward_by_piece f past (Some launch) bytes new left leads still = leads.0
 
-toward_by_loads : (f : FirstSeq) (past : History) (rest : Rest) (launch : Launch) (answer : Result (List ℕ) LoadFault)
+toward_by_loads : (f : Dialect) (past : History) (rest : Rest) (launch : Launch) (answer : Result (List ℕ) LoadFault)
     (file : Option (List ℕ)) (new : History) (left : Rest) → rest.launch ≡ Some launch → file_of answer ≡ Some file
     → Loads f past launch file rest.bytes new left → IsTaking new → LoadsToward f past rest answer new
 toward_by_loads f past rest launch answer file new left is file_is loads still =
@@ -78,7 +78,7 @@ toward_by_loads f past rest launch answer file new left is file_is loads still =
       taken = taken.1;
     }
 
-toward_by_file : (f : FirstSeq) (past : History) (rest : Rest) (launch : Option Launch)
+toward_by_file : (f : Dialect) (past : History) (rest : Rest) (launch : Option Launch)
     (answer : Result (List ℕ) LoadFault) (new : History) (left : Rest) → rest.launch ≡ launch → IsTaking past
     → LeadsByFile f past rest launch answer new left → IsTaking new
     → (new ≡ past) ⊎ LoadsToward f past rest answer new
@@ -95,7 +95,7 @@ toward_by_file f past rest (Some launch) (Err load_fault.NoMemory) new left is t
       | inr after ↦ absurd (closes_for_good past MemoryFailure new _ refl after.1 still)
     ]
 
-leads_toward : (f : FirstSeq) (past : History) (rest : Rest) (e : Incoming) (new : History) (left : Rest)
+leads_toward : (f : Dialect) (past : History) (rest : Rest) (e : Incoming) (new : History) (left : Rest)
     → IsTaking past → LeadsByEvent f past rest e new left → IsTaking new → Toward f past rest e new
 leads_toward f past rest (event.Piece piece) new left taking leads still =
     toward_by_piece f past rest.launch (rest.bytes ++ piece) new left leads still
@@ -112,7 +112,7 @@ leads_toward f past rest (event.Report r) new left taking leads still = grind (a
 
 -- ---- what comes of the event
 
-fails_at : (f : FirstSeq) (fault : SessionFault) (past : History) (rest : Rest) (e : Incoming) (old later : Ports)
+fails_at : (f : Dialect) (fault : SessionFault) (past : History) (rest : Rest) (e : Incoming) (old later : Ports)
     → StopsOnTheWay (Toward f past rest e) past fault old later → EventGivesUp f fault past rest e old later
 fails_at f fault past rest e old later stops =
     record {
@@ -127,7 +127,7 @@ fails_at f fault past rest e old later stops =
     }
 
 -- a fault that is none of framing
-comes_of_stop : (f : FirstSeq) (fault : SessionFault) (events : List Incoming) (past : History) (rest : Rest)
+comes_of_stop : (f : Dialect) (fault : SessionFault) (events : List Incoming) (past : History) (rest : Rest)
     (e : Incoming)
     (session : State) (old later : Ports) → StopsOnTheWay (Toward f past rest e) past fault old later
     → Comes f (Err fault) events past rest e session old later
@@ -143,7 +143,7 @@ comes_of_stop f WriterGone events past rest e session old later stops = fails_at
     stops
 
 -- the session gave up
-comes_of_fault : (f : FirstSeq) (fault : SessionFault) (events : List Incoming) (past : History) (e : Incoming)
+comes_of_fault : (f : Dialect) (fault : SessionFault) (events : List Incoming) (past : History) (e : Incoming)
     (start session last : State) (old later : Ports) (stands : Represents f start events past)
     → Handles f (Err fault) past stands.rest e session old later
     → Comes f (Err fault) events past stands.rest e last old later
@@ -161,7 +161,7 @@ comes_of_fault f fault events past e start session last old later stands (inr en
     })
 
 -- The session came through the event. It asks for something next, or there was no memory to ask.
-comes_of_want : (f : FirstSeq) (result : Result Want SessionFault) (events : List Incoming)
+comes_of_want : (f : Dialect) (result : Result Want SessionFault) (events : List Incoming)
     (past : History)
     (e : Incoming) (start session last : State) (old later : Ports) (stands : Represents f start events past)
     → IsTaking past
@@ -208,7 +208,7 @@ want_needs_none (Err fault) session free lost waits_ = λ e. absurd (waits_ (fre
 -- the same, of the history of the events that it represents
 handled_from : (start session : State) (e : Incoming) (taken : Result (Unit {0}) SessionFault) (old later : Ports)
     → start.ending ≡ None → HandlesEvent start e taken session old later
-    → (f : FirstSeq) (events : List Incoming) (past : History)
+    → (f : Dialect) (events : List Incoming) (past : History)
     (stands : Represents f start events past) → Handles f taken past stands.rest e session old later
 handled_from start session e taken old later open_ handled f events past stands =
     grind (arith, common_steps)

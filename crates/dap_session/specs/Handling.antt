@@ -1,7 +1,7 @@
 -- Defines, for private contracts, how far a session came from the history it represented, by the parts of an event.
 use Rattle.std.specs.Prelude.{◌≡◌, ◌≢◌, ◌⊎◌, ◌++◌, ◌∷◌, [], ℕ, List, Option, None, Some, Result, Ok, Err}
 use Rattle.dap_frame.specs.declared.fault.FramingFault.{FramingFault}
-use Rattle.dap_msg.specs.declared.request.FirstSeq.{FirstSeq}
+use Rattle.dap_msg.specs.declared.request.Dialect.{Dialect}
 use Rattle.dap_msg.specs.declared.request.Request.{Request}
 use Rattle.dbg_runner.specs.Plain.{Quit}
 use Rattle.dap_history.specs.declared.fault.SessionFault.{SessionFault}
@@ -84,14 +84,14 @@ HandlesContent (Err fault) past request session old later = FailsAtContent fault
 -- ---- one after another
 
 -- Everything that `leads` describes was taken, and everything that it adds to the history was sent.
-pub record Arrives (first : FirstSeq) (leads : History → Rest → Type 0) (past : History) (session : State)
+pub record Arrives (dialect : Dialect) (leads : History → Rest → Type 0) (past : History) (session : State)
     (old later : Ports) : Type 0
   where
     pub new : History
     pub rest : Rest
     pub way : leads new rest
     pub ending_is : session.ending ≡ ending_of new
-    pub goes_on : IsTaking new → GoesOn first session new rest
+    pub goes_on : IsTaking new → GoesOn dialect session new rest
     pub sends : Sends past new old later
     pub refuses_nothing : RefusesNothing old later
 
@@ -118,25 +118,25 @@ pub record StopsOnTheWay (toward : History → Type 0) (past : History) (fault :
   pub breaks : BreaksOff fault mid next between later
 
 -- one of the three, by the result
-abbrev pub Goes : FirstSeq → Result (Unit {0}) SessionFault → (History → Rest → Type 0) → (History → Type 0) → History
+abbrev pub Goes : Dialect → Result (Unit {0}) SessionFault → (History → Rest → Type 0) → (History → Type 0) → History
     → State
     → Ports → Ports → Type 0
-Goes first (Ok u) leads toward past session old later = Arrives first leads past session old later
-Goes first (Err fault) leads toward past session old later =
+Goes dialect (Ok u) leads toward past session old later = Arrives dialect leads past session old later
+Goes dialect (Err fault) leads toward past session old later =
     StopsOnTheWay toward past fault old later
     ⊎ ((k : FramingFault) × (fault ≡ Frame k) × ArrivesAtFault leads past k old later)
 
 -- the same for the contents at the front of these bytes
-abbrev pub HandlesContents : FirstSeq → Result (Unit {0}) SessionFault → History → List ℕ → State → Ports → Ports
+abbrev pub HandlesContents : Dialect → Result (Unit {0}) SessionFault → History → List ℕ → State → Ports → Ports
     → Type 0
-HandlesContents first result past bytes session old later =
-    Goes first result (Takes first past bytes) (TowardByPiece first past None bytes) past session old later
+HandlesContents dialect result past bytes session old later =
+    Goes dialect result (Takes dialect past bytes) (TowardByPiece dialect past None bytes) past session old later
 
 -- the same for an event
-abbrev pub Handles : FirstSeq → Result (Unit {0}) SessionFault → History → Rest → Incoming → State → Ports → Ports
+abbrev pub Handles : Dialect → Result (Unit {0}) SessionFault → History → Rest → Incoming → State → Ports → Ports
     → Type 0
-Handles first result past rest event session old later =
-    Goes first result (LeadsByEvent first past rest event) (Toward first past rest event) past session old later
+Handles dialect result past rest event session old later =
+    Goes dialect result (LeadsByEvent dialect past rest event) (Toward dialect past rest event) past session old later
 
 -- No memory was needed to take the event, and none is needed to ask for the next.
 abbrev pub NeededNoMemory : Result (Unit {0}) SessionFault → State → Type 0
@@ -147,8 +147,8 @@ NeededNoMemory (Err fault) session = fault ≢ NoMemory
 -- for the event, the result is `NoMemory`; an event that needs none, and asking for the next, take none.
 pub record HandlesEvent (session : State) (event : Incoming) (result : Result (Unit {0}) SessionFault) (after : State)
     (old later : Ports) : Type 0 where
-  pub comes : (first : FirstSeq) (past : History) (rest : Rest) → IsTaking past → GoesOn first session past rest
-      → Handles first result past rest event after old later
+  pub comes : (dialect : Dialect) (past : History) (rest : Rest) → IsTaking past → GoesOn dialect session past rest
+      → Handles dialect result past rest event after old later
   pub no_memory : LacksMemory event (launch_of session.phase) → result ≡ Err NoMemory
   pub enough : NeedsNoMemory (launch_of session.phase) (Expects session.phase) event → NeededNoMemory result after
 

@@ -3,7 +3,7 @@ use Rattle.std.specs.Prelude.{◌≡◌, ◌⊎◌, ◌+◌, ◌<◌, ◌^◌, �
 use Rattle.dap_frame.specs.Frame.{frame_of}
 use Rattle.dap_msg.specs.declared.outgoing.Outgoing.{Outgoing}
 use Rattle.dap_msg.specs.Laws.{ReadsAsMessage}
-use Rattle.dap_msg.specs.declared.request.FirstSeq.{FirstSeq}
+use Rattle.dap_msg.specs.declared.request.Dialect.{Dialect}
 use Rattle.dbg_runner.specs.Plain.{PlainOrder}
 use Rattle.dap_history.specs.declared.ending.Closed.{Closed}
 use Rattle.dap_history.specs.declared.fault.SessionFault.{SessionFault}
@@ -19,20 +19,20 @@ use Rattle.dap_session.specs.Taking.{Toward}
 use Rattle.dap_session.specs.Serving.{ReachesLast, Driven, OwesOnly}
 
 -- All events but the last were taken, and some items of the last, perhaps none.
-pub record IsOnTheWay (first : FirstSeq) (events : List Incoming) (reached : History) : Type 0 where
-  pub reaches : ReachesLast first events
-  pub toward : Toward first reaches.past reaches.rest reaches.last reached
+pub record IsOnTheWay (dialect : Dialect) (events : List Incoming) (reached : History) : Type 0 where
+  pub reaches : ReachesLast dialect events
+  pub toward : Toward dialect reaches.past reaches.rest reaches.last reached
 
 -- A session reached this history with the events: it took all of them, or gave up at the last one. The history is a
 -- prefix of any history of all the events. It is itself the history of some lawful events, so the laws of histories
 -- hold of it.
-pub record IsReached (first : FirstSeq) (events : List Incoming) (reached : History) : Type 0 where
-  pub way : ((rest : Rest) × IsHistoryOf first events reached rest) ⊎ IsOnTheWay first events reached
-  pub begins : (past : History) (rest : Rest) → IsHistoryOf first events past rest → IsPrefixOf reached past
+pub record IsReached (dialect : Dialect) (events : List Incoming) (reached : History) : Type 0 where
+  pub way : ((rest : Rest) × IsHistoryOf dialect events reached rest) ⊎ IsOnTheWay dialect events reached
+  pub begins : (past : History) (rest : Rest) → IsHistoryOf dialect events past rest → IsPrefixOf reached past
   pub taken : List Incoming
   pub rest : Rest
   pub lawful : AreLawful taken
-  pub history : IsHistoryOf first taken reached rest
+  pub history : IsHistoryOf dialect taken reached rest
 
 -- The frames that were put are a prefix of those of the history's messages, and the orders pushed a prefix of its
 -- orders.
@@ -48,11 +48,11 @@ pub record SendsPrefix (reached : History) (old later : Ports) : Type 0 where
 -- Quit was pushed or refused.
 abbrev pub FaultsLeavePrefixes : Type 0
 FaultsLeavePrefixes =
-    (first : FirstSeq) (fault : SessionFault) (given_before given_after : List Incoming)
+    (dialect : Dialect) (fault : SessionFault) (given_before given_after : List Incoming)
     (loaded_before loaded_after : List Load) (old later : Ports)
-    → (driven : Driven first (Err fault) given_before given_after loaded_before loaded_after old later)
-    → (reached : History) × IsReached first driven.events reached × (stopped : Ports) × SendsPrefix reached old stopped
-    × TriesQuit stopped later
+    → (driven : Driven dialect (Err fault) given_before given_after loaded_before loaded_after old later)
+    → (reached : History) × IsReached dialect driven.events reached × (stopped : Ports)
+    × SendsPrefix reached old stopped × TriesQuit stopped later
 
 -- The frames that were put are fewer than 2^53. The content of the nth is read as the nth message of the history, and
 -- says that its seq is n.
@@ -67,10 +67,10 @@ pub record PutsNumbered (reached : History) (old later : Ports) : Type 0 where
 -- However a session ends, the frames that it put are numbered from 1, as the messages of the history that it reached.
 abbrev pub FramesAreNumbered : Type 0
 FramesAreNumbered =
-    (first : FirstSeq) (result : Result Closed SessionFault) (given_before given_after : List Incoming)
+    (dialect : Dialect) (result : Result Closed SessionFault) (given_before given_after : List Incoming)
     (loaded_before loaded_after : List Load) (old later : Ports)
-    → (driven : Driven first result given_before given_after loaded_before loaded_after old later)
-    → (reached : History) × IsReached first driven.events reached × PutsNumbered reached old later
+    → (driven : Driven dialect result given_before given_after loaded_before loaded_after old later)
+    → (reached : History) × IsReached dialect driven.events reached × PutsNumbered reached old later
 
 -- A session that has no number left for a message has one that would be 2^53 or more.
 abbrev pub SeqsEndLate : Type 0
@@ -81,6 +81,6 @@ SeqsEndLate =
 -- sent, and which file it wants.
 abbrev pub SentIsKnown : Type 0
 SentIsKnown =
-    (first : FirstSeq) (path other : Option (List ℕ)) (begin now : Sources) (old later last : Ports)
-    → OwesOnly first path begin now old later → OwesOnly first other begin now old last
+    (dialect : Dialect) (path other : Option (List ℕ)) (begin now : Sources) (old later last : Ports)
+    → OwesOnly dialect path begin now old later → OwesOnly dialect other begin now old last
     → (path ≡ other) × (later.frames ≡ last.frames) × (later.orders ≡ last.orders)

@@ -2,7 +2,7 @@
 use Rattle.std.specs.Prelude.{◌≡◌, ℕ, List, String, string_bytes, Option, None, Some, Result, Ok, Err}
 use Rattle.std.specs.declared.alloc.Global.{Global}
 use Rattle.dap_frame.specs.declared.fault.FramingFault.{FramingFault}
-use Rattle.dap_msg.specs.declared.request.FirstSeq.{FirstSeq}
+use Rattle.dap_msg.specs.declared.request.Dialect.{Dialect}
 use Rattle.dap_history.specs.declared.launch.Launch.{Launch}
 use Rattle.dap_history.specs.declared.ending.Ending.{Ending}
 use Rattle.dap_history.specs.declared.ending.Ending.TheVariants as ending
@@ -15,10 +15,10 @@ use Rattle.dap_replies.specs.Phases.{IsPhase, launch_of}
 use Rattle.dap_session.specs.declared.want.Want.{Want}
 use Rattle.dap_session.specs.declared.want.Want.TheVariants as want_is
 
--- what a session reads: the first number that the client may use, the bytes that aren't taken yet, and the framing
--- fault at which it gave up
+-- what a session reads: the client's dialect, the bytes that aren't taken yet, and the framing fault at which it gave
+-- up
 pub record Inflow : Type 0 where
-  pub first : FirstSeq
+  pub dialect : Dialect
   pub rest : List ℕ
   pub fault : Option FramingFault
 
@@ -35,17 +35,17 @@ pub record Knows (session : State) (past : History) : Type 0 where
   pub seq_is : session.next_seq ≡ next_seq past
 
 -- the same, of a session that goes on; what isn't taken yet is kept in its phase and its decoder
-pub record GoesOn (first : FirstSeq) (session : State) (past : History) (rest : Rest) : Type 0 where
+pub record GoesOn (dialect : Dialect) (session : State) (past : History) (rest : Rest) : Type 0 where
   pub knows : Knows session past
   pub launch_is : launch_of session.phase ≡ rest.launch
-  pub stream_is : session.stream ≡ record { first = first; rest = rest.bytes; fault = None }
+  pub stream_is : session.stream ≡ record { dialect = dialect; rest = rest.bytes; fault = None }
 
 -- The session represents the events, whose history is `past`.
-pub record Represents (first : FirstSeq) (session : State) (events : List Incoming) (past : History) : Type 0 where
+pub record Represents (dialect : Dialect) (session : State) (events : List Incoming) (past : History) : Type 0 where
   pub rest : Rest
-  pub history : IsHistoryOf first events past rest
+  pub history : IsHistoryOf dialect events past rest
   pub ending_is : session.ending ≡ ending_of past
-  pub goes_on : IsTaking past → GoesOn first session past rest
+  pub goes_on : IsTaking past → GoesOn dialect session past rest
 
 -- ---- what the session asks for next
 

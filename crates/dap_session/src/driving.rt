@@ -12,14 +12,14 @@ use crate::ports::{Event, GuardedLoader, Inbox, OrderFault, Orders, Out};
 use crate::session::Session;
 use crate::want::Want;
 use dap_history::{Closed, SessionFault};
-use dap_msg::FirstSeq;
+use dap_msg::Dialect;
 use dbg_runner::Order;
 use std::alloc::Global;
 use std::sync::Wait;
 
-/// Takes events until the session is closed or gives up, and returns what closed it. The client may count its requests
-/// from `first`. Where the session wants a file, the loader is asked for it before the next event is taken. It blocks
-/// while the inbox or the loader does.
+/// Takes events until the session is closed or gives up, and returns what closed it. The client speaks `dialect`.
+/// Where the session wants a file, the loader is asked for it before the next event is taken. It blocks while the inbox
+/// or the loader does.
 ///
 /// # Errors
 ///
@@ -29,7 +29,7 @@ use std::sync::Wait;
 pub fn drive<I: Inbox<L, O, D>, L: GuardedLoader<I, O, D>, O: Out, D: Orders>(
     rt: &impl Wait,
     alloc: Global,
-    first: FirstSeq,
+    dialect: Dialect,
     inbox: &mut I,
     loader: &mut L,
     out: &mut O,
@@ -37,14 +37,14 @@ pub fn drive<I: Inbox<L, O, D>, L: GuardedLoader<I, O, D>, O: Out, D: Orders>(
 ) -> Result<Closed, SessionFault>
     // The inbox may be asked wherever nothing is owed, and the loader wherever nothing is but the launch of the file. So
     // they are asked nowhere else, whether the session ends or not.
-    requires { (path : Option (List ℕ)) (i : I) (l : L) (o : O) (d : D) → OwesOnly first path
+    requires { (path : Option (List ℕ)) (i : I) (l : L) (o : O) (d : D) → OwesOnly dialect path
         (sources (I.given inbox.old) (L.loaded loader.old)) (sources (I.given i) (L.loaded l))
         (ports (O.seen out.old) (D.seen orders.old)) (ports (O.seen o) (D.seen d))
         → I.origin i ≡ I.origin inbox.old → L.origin l ≡ L.origin loader.old
         → O.origin o ≡ O.origin out.old → D.origin d ≡ D.origin orders.old
         → (O.keeps_none out.old → O.keeps_none o)
         → (path ≡ None → I.may_ask i l o d) × ((file : List ℕ) → path ≡ Some file → L.may_load l file i o d) }
-    ensures driven { Driven first result (I.given inbox.old) (I.given inbox.new)
+    ensures driven { Driven dialect result (I.given inbox.old) (I.given inbox.new)
         (L.loaded loader.old) (L.loaded loader.new) (ports (O.seen out.old) (D.seen orders.old))
         (ports (O.seen out.new) (D.seen orders.new)) }
     ensures inbox { I.origin inbox.new ≡ I.origin inbox.old }
@@ -54,7 +54,7 @@ pub fn drive<I: Inbox<L, O, D>, L: GuardedLoader<I, O, D>, O: Out, D: Orders>(
     ensures out { O.origin out.new ≡ O.origin out.old }
     ensures orders { D.origin orders.new ≡ D.origin orders.old }
 {
-    let mut session = Session::new(alloc, first);
+    let mut session = Session::new(alloc, dialect);
     let mut wanted = None;
     for _ in rt.forever() {
         let event = next_event(&wanted, inbox, loader, out, orders);

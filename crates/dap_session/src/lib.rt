@@ -3,10 +3,10 @@
 //! A session is driven over its ports until something closes it:
 //!
 //! ```
-//! use dap_session::{Closed, FirstSeq, drive};
+//! use dap_session::{Closed, Dialect, drive};
 //!
-//! let first = FirstSeq::One;
-//! match drive(&rt, rt.alloc(), first, &mut inbox, &mut loader, &mut out, &mut orders) {
+//! let dialect = Dialect::Codes;
+//! match drive(&rt, rt.alloc(), dialect, &mut inbox, &mut loader, &mut out, &mut orders) {
 //!     Ok(Closed::Disconnected) => println!(rt; "the client asked for it")?,
 //!     Ok(Closed::InputEnded | Closed::ReadFailed) => println!(rt; "no more comes from the client")?,
 //!     Err(fault) => println!(rt; "the session gave up: {fault:?}")?,
@@ -30,7 +30,7 @@ mod session;
 mod want;
 
 pub use dap_history::{Closed, Ending, LoadFault, SessionFault};
-pub use dap_msg::FirstSeq;
+pub use dap_msg::Dialect;
 pub use dbg_runner::{Order, Report};
 pub use driving::drive;
 pub use laws::{serving_laws, session_laws};

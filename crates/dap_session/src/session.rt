@@ -13,7 +13,7 @@ use crate::ports::{Event, Orders, Out};
 use crate::want::Want;
 use dap_frame::Decoder;
 use dap_history::{Closed, Ending, SessionFault, reading_laws};
-use dap_msg::FirstSeq;
+use dap_msg::Dialect;
 use dap_replies::Phase;
 use std::alloc::{AllocError, Global};
 use std::marker::Model;
@@ -22,7 +22,7 @@ use std::marker::Model;
 #[derive(Drop)]
 pub struct Session {
     alloc: Global,
-    first: FirstSeq,
+    dialect: Dialect,
     decoder: Decoder,
     phase: Phase,
     ending: Option<Ending>,
@@ -43,7 +43,7 @@ impl Model for Session {
 
     ghost view = { λ session. record {
       stream =
-          record { first = session.first; rest = session.decoder.rest; fault = session.decoder.fault };
+          record { dialect = session.dialect; rest = session.decoder.rest; fault = session.decoder.fault };
       phase =
           session.phase;
       ending = session.ending;
@@ -63,13 +63,13 @@ impl Session {
     ghost use Rattle.dap_session.specs.Taking.{TakesEvent};
     ghost use Rattle.dap_session.specs.Handling.{IsWell, HandlesEvent};
 
-    /// Returns a session that has taken no event, by the first number that the client may use. It takes no memory.
-    pub fn new(alloc: Global, first: FirstSeq) -> Session
-        ensures { Represents first result [] [] }
+    /// Returns a session that has taken no event, in the client's dialect. It takes no memory.
+    pub fn new(alloc: Global, dialect: Dialect) -> Session
+        ensures { Represents dialect result [] [] }
     {
         Session {
             alloc,
-            first,
+            dialect,
             decoder: Decoder::new(alloc),
             phase: Phase::Fresh,
             ending: None,

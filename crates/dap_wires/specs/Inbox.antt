@@ -2,7 +2,7 @@
 use Rattle.std.specs.Prelude.{ℕ, List, map, ◌++◌}
 use Rattle.std.specs.List.{flat_map}
 use Rattle.std.specs.VecDeque.{deque_len}
-use Rattle.dap_msg.specs.declared.request.FirstSeq.{FirstSeq}
+use Rattle.dap_msg.specs.declared.request.Dialect.{Dialect}
 use Rattle.dap_session.specs.Incoming.{incoming_of}
 use Rattle.dap_history.specs.Events.{Incoming}
 use Rattle.dbg_runner.specs.Plain.{PlainReport}
@@ -63,10 +63,10 @@ module _ {R : Type 0} where
   abbrev pub event_queue : EventReceiver R → QueueId Arrival
   event_queue e = receiver_queue e.end
 
--- what underlies the inbox of one session: the queue, the first number that the client may use, and the loader and the
--- sending ports as they were at first
+-- what underlies the inbox of one session: the queue, the client's dialect, and the loader and the sending ports as
+-- they were at first
 abbrev pub SessionOrigin : Type 0 → Type 0 → Type 0 → Type 0
-SessionOrigin L O D = QueueId Arrival × FirstSeq × L × O × D
+SessionOrigin L O D = QueueId Arrival × Dialect × L × O × D
 
 module _ {L O D R : Type 0} where
   -- what the session of this inbox received
@@ -74,7 +74,7 @@ module _ {L O D R : Type 0} where
   session_events e = taken_events e.events
 
   abbrev pub session_origin : SessionInbox L O D R → SessionOrigin L O D
-  session_origin e = (event_queue e.events, e.first, e.loader.value, e.out.value, e.orders.value)
+  session_origin e = (event_queue e.events, e.dialect, e.loader.value, e.out.value, e.orders.value)
 
 -- what the session received from an inbox that it has left, and which queue that is of
 abbrev pub received : InboxLog → List Incoming

@@ -5,7 +5,7 @@ ghost use Rattle.dap_wires.specs.Inbox.{taken_events, event_queue, session_event
 
 use crate::event_ends::InboxLog;
 use crate::event_receiver::EventReceiver;
-use dap_session::{Event, FirstSeq, Inbox, Loader, Orders, Out};
+use dap_session::{Dialect, Event, Inbox, Loader, Orders, Out};
 use std::snapshot::Snapshot;
 use std::sync::Wait;
 
@@ -15,8 +15,7 @@ use std::sync::Wait;
 pub struct SessionInbox<L, O, D, R: Wait + Drop> {
     rt: R,
     events: EventReceiver<R>,
-    // The first number that the client may use.
-    first: FirstSeq,
+    dialect: Dialect,
     // The other ports as they were when nothing was taken yet.
     loader: Snapshot<L>,
     out: Snapshot<O>,
@@ -24,23 +23,23 @@ pub struct SessionInbox<L, O, D, R: Wait + Drop> {
 }
 
 impl<L, O, D, R: Wait + Drop> SessionInbox<L, O, D, R> {
-    /// The inbox of a session that has taken nothing, whose client may count its requests from `first`.
+    /// The inbox of a session that has taken nothing, whose client speaks `dialect`.
     pub fn new(
         rt: R,
         events: EventReceiver<R>,
-        first: FirstSeq,
+        dialect: Dialect,
         loader: &L,
         out: &O,
         orders: &D,
     ) -> SessionInbox<L, O, D, R>
         requires { taken_events events ≡ [] }
         ensures events { session_events result ≡ [] }
-        ensures origin { session_origin result ≡ (event_queue events, first, loader.now, out.now, orders.now) }
+        ensures origin { session_origin result ≡ (event_queue events, dialect, loader.now, out.now, orders.now) }
     {
         SessionInbox {
             rt,
             events,
-            first,
+            dialect,
             loader: Snapshot::of(loader),
             out: Snapshot::of(out),
             orders: Snapshot::of(orders),
@@ -69,7 +68,7 @@ impl<L: Loader, O: Out, D: Orders, R: Wait + Drop> Inbox<L, O, D> for SessionInb
 
     ghost origin = { session_origin };
 
-    ghost may_ask = { λ i l o d. OwesNothing i.first
+    ghost may_ask = { λ i l o d. OwesNothing i.dialect
         (sources [] (L.loaded i.loader.value)) (sources (session_events i) (L.loaded l))
         (ports (O.seen i.out.value) (D.seen i.orders.value)) (ports (O.seen o) (D.seen d))
         × (L.origin l ≡ L.origin i.loader.value) × (O.origin o ≡ O.origin i.out.value)

@@ -1,7 +1,7 @@
 //! The examples in the documentation of `dap_frame` and `dap_msg`.
 
 use dap_frame::{Decoder, encode};
-use dap_msg::{Body, FirstSeq, Outgoing, read, write};
+use dap_msg::{Body, Dialect, Outgoing, read, write};
 
 #[test]
 fn frames_a_content(rt: HostRuntime) {
@@ -25,7 +25,7 @@ fn frames_a_content(rt: HostRuntime) {
 fn answers_a_request(rt: HostRuntime) {
     let alloc = rt.alloc();
     let content = br#"{"seq":3,"type":"request","command":"threads"}"#;
-    let request = read(alloc, FirstSeq::One, content.as_slice())
+    let request = read(alloc, Dialect::Codes, content.as_slice())
         .expect(&rt, "memory")
         .expect(&rt, "a request");
     let answer = Outgoing::Answer {

@@ -1,7 +1,7 @@
 //! Tests of contents read as requests.
 
 use crate::text::repeated;
-use dap_msg::{FirstSeq, Request, read};
+use dap_msg::{Dialect, Request, read};
 use std::alloc::Global;
 use std::process::Abort;
 
@@ -118,7 +118,7 @@ const ASKED: [Row; 17] = [
 
 /// Asserts that a content is read as this, a request or none.
 fn assert_read(rt: &impl Abort, alloc: Global, name: &str, content: &[u8], expected: &str) {
-    let request = read(alloc, FirstSeq::One, content).expect(rt, "memory");
+    let request = read(alloc, Dialect::Codes, content).expect(rt, "memory");
     let request = format!(in alloc; "{request:?}").expect(rt, "memory");
     assert_eq!(rt; request.as_str(), expected, "{name}");
 }
@@ -139,10 +139,10 @@ fn reads_seqs(rt: HostRuntime) {
         ).expect(&rt, "memory");
         let content = content.as_bytes();
         assert_read(&rt, alloc, seq, content, from_one);
-        for (first, expected) in [(FirstSeq::One, from_one), (FirstSeq::Zero, from_zero)] {
-            let request = read(alloc, first, content).expect(&rt, "memory");
+        for (dialect, expected) in [(Dialect::Codes, from_one), (Dialect::Words, from_zero)] {
+            let request = read(alloc, dialect, content).expect(&rt, "memory");
             let request = format!(in alloc; "{request:?}").expect(&rt, "memory");
-            assert_eq!(rt; request.as_str(), *expected, "{seq} from {first:?}");
+            assert_eq!(rt; request.as_str(), *expected, "{seq} in {dialect:?}");
         }
     }
 }
@@ -153,7 +153,7 @@ fn assert_asks(rt: &impl Abort, alloc: Global, row: Row) {
     let content = format!(in alloc;
         "{{\"seq\":7,\"type\":\"request\",\"command\":\"{command}\",\"arguments\":{arguments}}}"
     ).expect(rt, "memory");
-    let request = read(alloc, FirstSeq::One, content.as_bytes()).expect(rt, "memory");
+    let request = read(alloc, Dialect::Codes, content.as_bytes()).expect(rt, "memory");
     let Request { seq, body } = request.expect(rt, "a request");
     let asked = format!(in alloc; "{seq}: {body:?}").expect(rt, "memory");
     let expected = format!(in alloc; "7: {expected}").expect(rt, "memory");
@@ -231,7 +231,7 @@ fn assert_fits(rt: &impl Abort, alloc: Global, limit: &Limit, times: usize, fits
     ).expect(rt, "memory");
     let arguments = repeated(rt, alloc, limit.first, limit.repeated, times, limit.last);
     let content = format!(in alloc; "{head}{arguments}}}").expect(rt, "memory");
-    let request = read(alloc, FirstSeq::One, content.as_bytes()).expect(rt, "memory");
+    let request = read(alloc, Dialect::Codes, content.as_bytes()).expect(rt, "memory");
     let body = request.expect(rt, "a request").body;
     let asked = format!(in alloc; "{body:?}").expect(rt, "memory");
     let first = limit.first;

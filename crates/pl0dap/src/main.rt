@@ -1,7 +1,7 @@
 //! `pl0dap`: a debug adapter for PL/0 over standard input and output. What it does is said in `adapter`.
 #![tactic(auto)]
 
-use adapter::{FirstSeq, Reading, SystemFiles, Writing, run_process};
+use adapter::{Dialect, Reading, SystemFiles, Writing, run_process};
 use std::env;
 use std::process::ExitCode;
 
@@ -13,7 +13,7 @@ fn main(rt: HostRuntime) -> ExitCode {
     let errors = &mut Writing::new(&rt, rt.stderr());
     run_process(
         &rt,
-        FirstSeq::One,
+        Dialect::Codes,
         env::args(&rt),
         files,
         input,

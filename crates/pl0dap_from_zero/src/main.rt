@@ -1,7 +1,7 @@
 //! `pl0dap_from_zero`: the program `pl0dap` for editors that number their requests from 0.
 #![tactic(auto)]
 
-use adapter::{FirstSeq, Reading, SystemFiles, Writing, run_process};
+use adapter::{Dialect, Reading, SystemFiles, Writing, run_process};
 use std::env;
 use std::process::ExitCode;
 
@@ -13,7 +13,7 @@ fn main(rt: HostRuntime) -> ExitCode {
     let errors = &mut Writing::new(&rt, rt.stderr());
     run_process(
         &rt,
-        FirstSeq::Zero,
+        Dialect::Words,
         env::args(&rt),
         files,
         input,

@@ -1,7 +1,7 @@
 //! A session over ports in memory.
 
 use crate::session_ports::{Events, Frames, Incoming, Noted, Pushed, Shared};
-use dap_session::{Closed, FirstSeq, Loader, SessionFault, drive};
+use dap_session::{Closed, Dialect, Loader, SessionFault, drive};
 use std::alloc::{AllocError, Global};
 use std::sync::Wait;
 
@@ -54,11 +54,11 @@ pub fn run_session<R: Wait, E: Events + Drop, L: Loader>(
     let mut inbox = Incoming::new(events);
     let mut frames = Frames::new(alloc, shared, room.frames);
     let mut orders = Pushed::new(alloc, shared, room.orders);
-    let first = FirstSeq::One;
+    let dialect = Dialect::Codes;
     let end = drive(
         rt,
         alloc,
-        first,
+        dialect,
         &mut inbox,
         loader,
         &mut frames,

@@ -6,7 +6,7 @@ ghost use Rattle.dap_session.specs.Ports.{ports};
 
 use crate::session_ports::Events;
 use dap_session::{
-    Closed, Event, FirstSeq, GuardedLoader, Inbox, LoadFault, Loader, Orders, Out, SessionFault,
+    Closed, Dialect, Event, GuardedLoader, Inbox, LoadFault, Loader, Orders, Out, SessionFault,
     drive,
 };
 use dbg_runner::GhostList;
@@ -24,7 +24,7 @@ pub struct StrictInbox<E: Events> {
 impl<L: GuardedLoader<StrictInbox<E>, O, D>, O: Out, D: Orders, E: Events> Inbox<L, O, D>
     for StrictInbox<E> {
     ghost use Rattle.std.specs.Prelude.{map, ⊤, []};
-    ghost use Rattle.dap_msg.specs.declared.request.FirstSeq.TheVariants.{One};
+    ghost use Rattle.dap_msg.specs.declared.request.Dialect.TheVariants.{Codes};
     ghost use Rattle.dap_session.specs.Coming.{sources};
     ghost use Rattle.dap_session.specs.Incoming.{incoming_of};
     ghost use Rattle.dap_session.specs.Ports.{ports};
@@ -36,7 +36,7 @@ impl<L: GuardedLoader<StrictInbox<E>, O, D>, O: Out, D: Orders, E: Events> Inbox
 
     ghost origin = { λ _. tt };
 
-    ghost may_ask = { λ i l o d. OwesNothing One (sources [] [])
+    ghost may_ask = { λ i l o d. OwesNothing Codes (sources [] [])
         (sources (map incoming_of i.given.entries) (L.loaded l))
         (ports (record { frames = []; refused = [] }) (record { orders = []; fulls = 0; refusals = 0 }))
         (ports (O.seen o) (D.seen d)) };
@@ -55,7 +55,7 @@ pub struct StrictLoader<L: Loader + Drop>(L);
 impl<L: Loader + Drop, O: Out, D: Orders, E: Events> GuardedLoader<StrictInbox<E>, O, D>
     for StrictLoader<L> {
     ghost use Rattle.std.specs.Prelude.{map, [], Some};
-    ghost use Rattle.dap_msg.specs.declared.request.FirstSeq.TheVariants.{One};
+    ghost use Rattle.dap_msg.specs.declared.request.Dialect.TheVariants.{Codes};
     ghost use Rattle.dap_session.specs.Coming.{sources};
     ghost use Rattle.dap_session.specs.Incoming.{incoming_of};
     ghost use Rattle.dap_session.specs.Ports.{ports};
@@ -67,7 +67,7 @@ impl<L: Loader + Drop, O: Out, D: Orders, E: Events> GuardedLoader<StrictInbox<E
 
     ghost origin = { λ l. L.origin l.0 };
 
-    ghost may_load = { λ l path i o d. OwesOnly One (Some path) (sources [] [])
+    ghost may_load = { λ l path i o d. OwesOnly Codes (Some path) (sources [] [])
         (sources (map incoming_of i.given.entries) (L.loaded l.0))
         (ports (record { frames = []; refused = [] }) (record { orders = []; fulls = 0; refusals = 0 }))
         (ports (O.seen o) (D.seen d)) };
@@ -97,5 +97,5 @@ pub fn drive_strictly<R: Wait, E: Events, L: Loader + Drop, O: Out, D: Orders>(
     requires out { O.seen out.old ≡ record { frames = []; refused = [] } }
     requires orders { D.seen orders.old ≡ record { orders = []; fulls = 0; refusals = 0 } }
 {
-    drive(rt, alloc, FirstSeq::One, inbox, loader, out, orders)
+    drive(rt, alloc, Dialect::Codes, inbox, loader, out, orders)
 }

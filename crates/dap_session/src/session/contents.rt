@@ -11,7 +11,7 @@ impl Session {
     ghost use Rattle.std.specs.Prelude.{◌≡◌, ◌<◌, length, Option, None, OnOk, IfOk, IfErr, IfSome, is_some};
     ghost use Rattle.dap_frame.specs.Frame.{IsFront};
     ghost use Rattle.dap_msg.specs.Laws.{IsWithin};
-    ghost use Rattle.dap_msg.specs.declared.request.FirstSeq.{FirstSeq};
+    ghost use Rattle.dap_msg.specs.declared.request.Dialect.{Dialect};
     ghost use Rattle.dap_history.specs.declared.fault.SessionFault.TheVariants.{NoMemory};
     ghost use Rattle.dap_history.specs.History.{History};
     ghost use Rattle.dap_history.specs.Events.{Rest, IsTaking, IsInFront, Piece};
@@ -28,8 +28,8 @@ impl Session {
         orders: &mut D,
     ) -> Result<(), SessionFault>
         requires { self.old.ending ≡ None }
-        ensures comes { (first : FirstSeq) (past : History) (rest : Rest) → IsTaking past →
-            GoesOn first self.old past rest → Handles first result past rest (Piece piece.now) self.new
+        ensures comes { (dialect : Dialect) (past : History) (rest : Rest) → IsTaking past →
+            GoesOn dialect self.old past rest → Handles dialect result past rest (Piece piece.now) self.new
             (ports (O.seen out.old) (D.seen orders.old))
             (ports (O.seen out.new) (D.seen orders.new)) }
         ensures well { OnOk result (IsWell self.new.ending) }
@@ -62,7 +62,7 @@ impl Session {
         requires taking { self.old.ending ≡ None }
         ensures comes { (past : History) → self.old.stream.fault ≡ None → launch_of self.old.phase ≡ None →
             HasHistory self.old past →
-            HandlesContents self.old.stream.first result past self.old.stream.rest self.new
+            HandlesContents self.old.stream.dialect result past self.old.stream.rest self.new
             (ports (O.seen out.old) (D.seen orders.old))
             (ports (O.seen out.new) (D.seen orders.new)) }
         ensures well { OnOk result (IsWell self.new.ending) }
@@ -87,14 +87,14 @@ impl Session {
     fn read_front(&mut self, front: Front) -> Result<Option<Request>, SessionFault>
         requires { IsFront front self.old.stream.rest }
         ensures ok { IfOk result (λ request.
-            IsInFront self.old.stream.first self.old.stream.rest request self.new.stream.rest) }
+            IsInFront self.old.stream.dialect self.old.stream.rest request self.new.stream.rest) }
         ensures fits { IfOk result (λ request. IfSome request (λ r. IsWithin r.body)) }
         ensures err { IfErr result (λ fault. fault ≡ NoMemory) }
         ensures shorter { length self.new.stream.rest < length self.old.stream.rest }
         ensures rest { self.new ≡ record self.old { stream = record self.old.stream { rest = self.new.stream.rest } } }
     {
         message_laws();
-        let read = read(self.alloc, self.first, self.decoder.content(front));
+        let read = read(self.alloc, self.dialect, self.decoder.content(front));
         self.decoder.pass(front);
         let Ok(request) = read else {
             return Err(SessionFault::NoMemory);

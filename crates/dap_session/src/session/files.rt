@@ -15,7 +15,7 @@ use std::mem;
 
 impl Session {
     ghost use Rattle.std.specs.Prelude.{◌≡◌, None, Err, IfSome, IfNone, OnOk, option_map};
-    ghost use Rattle.dap_msg.specs.declared.request.FirstSeq.{FirstSeq};
+    ghost use Rattle.dap_msg.specs.declared.request.Dialect.{Dialect};
     ghost use Rattle.dap_history.specs.declared.fault.SessionFault.TheVariants.{NoMemory};
     ghost use Rattle.dap_session.specs.Taking.{LacksMemory};
     ghost use Rattle.dap_history.specs.History.{Loaded, History, next_seq};
@@ -35,8 +35,8 @@ impl Session {
         orders: &mut D,
     ) -> Result<(), SessionFault>
         requires { self.old.ending ≡ None }
-        ensures comes { (first : FirstSeq) (past : History) (rest : Rest) → IsTaking past →
-            GoesOn first self.old past rest → Handles first result past rest (File (plain_file file)) self.new
+        ensures comes { (dialect : Dialect) (past : History) (rest : Rest) → IsTaking past →
+            GoesOn dialect self.old past rest → Handles dialect result past rest (File (plain_file file)) self.new
             (ports (O.seen out.old) (D.seen orders.old))
             (ports (O.seen out.new) (D.seen orders.new)) }
         ensures no_memory { LacksMemory (File (plain_file file)) (launch_of self.old.phase) → result ≡ Err NoMemory }

@@ -10,7 +10,7 @@ use std::mem;
 impl Session {
     ghost use Rattle.std.specs.Prelude.{◌≡◌, ◌⊎◌, None, IfSome, IfNone, OnOk};
     ghost use Rattle.dbg_runner.specs.Reported.{plain_report};
-    ghost use Rattle.dap_msg.specs.declared.request.FirstSeq.{FirstSeq};
+    ghost use Rattle.dap_msg.specs.declared.request.Dialect.{Dialect};
     ghost use Rattle.dap_history.specs.History.{Accepted, History, next_seq};
     ghost use Rattle.dap_history.specs.Events.{Rest, IsTaking, Report as Reports};
     ghost use Rattle.dap_replies.specs.Runs.{heading_in};
@@ -30,8 +30,9 @@ impl Session {
         orders: &mut D,
     ) -> Result<(), SessionFault>
         requires { self.old.ending ≡ None }
-        ensures comes { (first : FirstSeq) (past : History) (rest : Rest) → IsTaking past →
-            GoesOn first self.old past rest → Handles first result past rest (Reports (plain_report report)) self.new
+        ensures comes { (dialect : Dialect) (past : History) (rest : Rest) → IsTaking past →
+            GoesOn dialect self.old past rest
+            → Handles dialect result past rest (Reports (plain_report report)) self.new
             (ports (O.seen out.old) (D.seen orders.old))
             (ports (O.seen out.new) (D.seen orders.new)) }
         ensures enough { launch_of self.old.phase ≡ None →

@@ -31,11 +31,11 @@ returns-clause-served g c =
     let ports_are : ports (put_frames made.result.3.outbox) (pushed_orders made.result.3.orders) ≡ nothing_sent =
     ap (λ w. ports w (pushed_orders made.result.3.orders)) frames
     ∙ ap (λ o. ports (record { frames = []; refused = [] }) o) orders in
-    let session = begun made.result.3.first c.args.first end.3.closed (session_events made.result.3.inbox)
+    let session = begun made.result.3.dialect c.args.dialect end.3.closed (session_events made.result.3.inbox)
     (received end.3.ends.inbox) (g.L.Loader.loaded made.result.3.loader.now) (g.L.Loader.loaded c.args.loader.now)
     (g.L.Loader.loaded end.3.loader.now)
     (ports (put_frames made.result.3.outbox) (pushed_orders made.result.3.orders)) (messages_put end.3.ends.outbox)
-    (pushed_orders end.3.ends.orders) made.ensures.first made.ensures.events
+    (pushed_orders end.3.ends.orders) made.ensures.dialect made.ensures.events
     (ap g.L.Loader.loaded made.ensures.loader) ports_are s.4 in
     let reader =
     subst (λ l. ReaderEndsAs end.2.end l (client_events end.2.inbox) (g.I.Source.supply c.args.input.now)
@@ -54,8 +54,8 @@ returns-clause-served g c =
     let after : World =
     world (g.L.Loader.loaded end.3.loader.now) (g.G.Gate.passed end.1.gate.now)
     (streams (g.I.Source.supply end.2.input.now) (g.O.Sink.output end.0.output.now)) in
-    let served : IsServed c.args.first (outcome_if_driven end.0.wrote end.3.closed) before after =
-    serves c.args.first end.0.wrote end.3.closed end.2.end before after (received end.3.ends.inbox)
+    let served : IsServed c.args.dialect (outcome_if_driven end.0.wrote end.3.closed) before after =
+    serves c.args.dialect end.0.wrote end.3.closed end.2.end before after (received end.3.ends.inbox)
     (client_events end.2.inbox) (messages_put end.3.ends.outbox) w.2.0 (pushed_orders end.3.ends.orders) r.3.0 _
     (taken_orders end.1.orders) c.run_beside-writer.ensures.done session reader logs.client r.3.1 r.3.2 r.3.3
     logs.orders logs.full logs.reports passed written

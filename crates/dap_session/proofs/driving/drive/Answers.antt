@@ -5,7 +5,7 @@ use Rattle.dap_session.proofs.driving.drive.Goals as goal
 
 pub loop-init : goal.loop-init
 loop-init g c =
-    (refl, refl, refl, refl, λ first stands. way_begins first c.new-session.result _ _ stands, λ none. none)
+    (refl, refl, refl, refl, λ dialect stands. way_begins dialect c.new-session.result _ _ stands, λ none. none)
 
 pub loop-preserved-in-Ok-Event : goal.loop-preserved-in-Ok-Event
 loop-preserved-in-Ok-Event g c = (
@@ -13,9 +13,9 @@ loop-preserved-in-Ok-Event g c = (
   c.next_event-event.ensures.loader ∙ c.loop.invariant.1,
   c.take.ensures.out ∙ c.loop.invariant.2,
   c.take.ensures.orders ∙ c.loop.invariant.3,
-  λ first stands.
-      let way = c.loop.invariant.4 first stands in
-      rw c.in-Ok-Event.field-0-is at (way_goes_on first c.loop.session c.take.new.self _
+  λ dialect stands.
+      let way = c.loop.invariant.4 dialect stands in
+      rw c.in-Ok-Event.field-0-is at (way_goes_on dialect c.loop.session c.take.new.self _
       c.in-Ok-Event.field-0 _ _ _ _ _ _ _
       way c.next_event-event.ensures.from c.next_event-event.ensures.lawful
       (c.in-Ok-Event.ensures.takes way.open_ended)
@@ -29,9 +29,9 @@ loop-preserved g c = (
   c.next_event-event.ensures.loader ∙ c.loop.invariant.1,
   c.take.ensures.out ∙ c.loop.invariant.2,
   c.take.ensures.orders ∙ c.loop.invariant.3,
-  λ first stands.
-      let way = c.loop.invariant.4 first stands in
-      rw c.in-Ok-File.field-0-is at (way_goes_on first c.loop.session c.take.new.self _
+  λ dialect stands.
+      let way = c.loop.invariant.4 dialect stands in
+      rw c.in-Ok-File.field-0-is at (way_goes_on dialect c.loop.session c.take.new.self _
       c.in-Ok-File.field-0 _ _ _ _ _ _ _
       way c.next_event-event.ensures.from c.next_event-event.ensures.lawful
       (c.in-Ok-File.ensures.takes way.open_ended)
@@ -41,8 +41,8 @@ loop-preserved g c = (
 
 pub returns-in-Some-closed-clause-driven : goal.returns-in-Some-closed-clause-driven
 returns-in-Some-closed-clause-driven g c =
-    let way = c.loop.invariant.4 c.args.first c.new-session.ensures in
-    way_closes c.args.first c.loop.session c.take.new.self _ c.in-Ok-Closed.field-0 _ _ _
+    let way = c.loop.invariant.4 c.args.dialect c.new-session.ensures in
+    way_closes c.args.dialect c.loop.session c.take.new.self _ c.in-Ok-Closed.field-0 _ _ _
     _ _ _ _ c.in-Some-closed.closed
     way c.next_event-event.ensures.from c.next_event-event.ensures.lawful
     (c.in-Ok-Closed.ensures.takes way.open_ended)
@@ -53,15 +53,15 @@ returns-in-Some-closed-clause-passed g c none = c.in-Ok-Closed.ensures.passed (c
 
 pub unreachable-requires : goal.unreachable-requires
 unreachable-requires g c =
-    let way = c.loop.invariant.4 c.args.first c.new-session.ensures in
+    let way = c.loop.invariant.4 c.args.dialect c.new-session.ensures in
     not_open_ended c.take.new.self c.take.new.self.ending c.in-Ok-Closed.field-0 refl c.in-Ok-Closed.field-0-is
-    ((c.in-Ok-Closed.ensures.takes way.open_ended).comes c.args.first way.events way.past way.stands).wants
+    ((c.in-Ok-Closed.ensures.takes way.open_ended).comes c.args.dialect way.events way.past way.stands).wants
     c.in-None-closed.ensures
 
 pub returns-in-Err-clause-driven : goal.returns-in-Err-clause-driven
 returns-in-Err-clause-driven g c =
-    let way = c.loop.invariant.4 c.args.first c.new-session.ensures in
-    way_fails c.args.first c.loop.session c.take.new.self _ c.in-Err.fault _ _ _ _ _ _ _
+    let way = c.loop.invariant.4 c.args.dialect c.new-session.ensures in
+    way_fails c.args.dialect c.loop.session c.take.new.self _ c.in-Err.fault _ _ _ _ _ _ _
     _ way c.next_event-event.ensures.from c.next_event-event.ensures.lawful
     (c.in-Err.ensures.takes way.open_ended)
     (record { frames_are = refl; refused_are = refl; quit = c.try_quit.ensures.quit })
@@ -70,7 +70,7 @@ pub next_event-event-requires : goal.next_event-event-requires
 next_event-event-requires g c =
     let known = c.requires (option_map (λ path. string_bytes path) c.loop.wanted)
     c.loop.inbox c.loop.loader c.loop.out c.loop.orders
-    (way_owes (c.loop.invariant.4 c.args.first c.new-session.ensures))
+    (way_owes (c.loop.invariant.4 c.args.dialect c.new-session.ensures))
     c.loop.invariant.0 c.loop.invariant.1 c.loop.invariant.2 c.loop.invariant.3 c.loop.invariant.5 in record {
       asks = λ none. known.0 (ap (option_map (λ path. string_bytes path)) none);
       loads = of_wanted (λ path. string_bytes path)

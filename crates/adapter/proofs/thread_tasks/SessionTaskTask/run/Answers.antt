@@ -19,9 +19,9 @@ drive-end-requires g c path i l o d owes inbox loader out orders kept = (
       × (g.L.Loader.origin l ≡ g.L.Loader.origin at.2) × (frame_queue o ≡ frame_queue at.3)
       × (push_queue d ≡ push_queue at.4) × keeps_none o)
       (sym (inbox ∙ c.requires.2)) (
-        subst (λ given. OwesNothing begin.first (sources given (g.L.Loader.loaded begin.loader.now)) now
+        subst (λ given. OwesNothing begin.dialect (sources given (g.L.Loader.loaded begin.loader.now)) now
             (ports (put_frames begin.outbox) (pushed_orders begin.orders)) later) c.requires.0
-            (subst (λ p. OwesOnly begin.first p
+            (subst (λ p. OwesOnly begin.dialect p
             (sources (session_events begin.inbox) (g.L.Loader.loaded begin.loader.now))
             now (ports (put_frames begin.outbox) (pushed_orders begin.orders)) later) none owes),
         loader,

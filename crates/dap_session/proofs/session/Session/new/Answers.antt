@@ -10,6 +10,6 @@ returns c = record {
   goes_on = λ taking. record {
     knows = record { phase_is = record { situation_is = refl; keeps = search rules }; seq_is = refl };
     launch_is = refl;
-    stream_is = ap (λ d. record { first = c.args.first; rest = d.rest; fault = d.fault }) c.new.ensures;
+    stream_is = ap (λ d. record { dialect = c.args.dialect; rest = d.rest; fault = d.fault }) c.new.ensures;
   };
 }
