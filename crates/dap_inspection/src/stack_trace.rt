@@ -58,15 +58,21 @@ fn asked_frames(
     ensures { IfOk result (λ shown. shown.items ≡ frames_asked (program machine.now) (counting_of settings) asked
         (frames machine.now)) }
 {
-    let depth = machine.depth();
-    // Cut after the minimum, so that no more than 32 bits need fit.
-    let left = depth - asked.start_frame.min(depth as u64) as usize;
+    let left = count_left(machine.depth(), asked.start_frame);
     let count = count_asked(asked.levels, left);
     let mut shown = Vec::with_capacity(alloc, count)?;
     for index in 0..count {
         shown.push(stack_frame(alloc, machine, settings, left - index)?)?;
     }
     Ok(shown)
+}
+
+/// How many of `depth` frames are left without the first `skipped` ones.
+fn count_left(depth: usize, skipped: u64) -> usize
+    ensures { result ≡ depth - skipped }
+{
+    // Cut after the minimum, which fits where a `usize` has 32 bits.
+    depth - skipped.min(depth as u64) as usize
 }
 
 /// How many of the `left` frames are asked for: at most `levels`, or all where that is 0.
