@@ -179,6 +179,10 @@ report_put old new kept r is none =
     ∙ ap (λ l. l ++ plain_report r ∷ []) (sym (append-nil (reports_among (came old)))
     ∙ ap (λ k. reports_among (came old) ++ map plain_report k) (sym none))
 
+-- where none is kept, all that was sent was put
+pub all_put : (put : List PlainReport) (kept : List Reported) → kept ≡ [] → put ≡ put ++ map plain_report kept
+all_put put kept none = sym (append-nil put) ∙ ap (λ k. put ++ map plain_report k) (sym none)
+
 -- the oldest of those that were kept
 pub oldest_put : (old new : List Arrival) (was now : List Reported) (r : Reported) → new ≡ old
     ++ arrival.Event (event.Report r) ∷ [] → was ≡ r ∷ now

@@ -122,6 +122,7 @@ impl<R: Wait + Drop> Reports for ReportSender<R> {
         ensures back { IfErr result (λ back. back ≡ report) }
         ensures quiet { is_quiet report ≡ true → kept_count self.old < quiet_room
             → (result ≡ Ok tt) × (put_reports self.new ≡ put_reports self.old) }
+        ensures passed { is_quiet report ≡ false → OnOk result (put_reports self.new ≡ sent_reports self.new) }
         ensures origin { report_queue self.new ≡ report_queue self.old }
     {
         if !is_quiet(&report) {
@@ -155,7 +156,7 @@ impl<R: Wait + Drop> ReportSender<R> {
     /// # Errors
     ///
     /// The report, where the session has left the inbox.
-    #[tactic(auto, using(crate::proofs::Sending::report_put))]
+    #[tactic(auto, using(crate::proofs::Sending::report_put, crate::proofs::Sending::all_put))]
     fn put(&mut self, report: Report) -> Result<(), Report>
         ensures sent { OnOk result (sent_reports self.new ≡ sent_reports self.old ++ plain_report report ∷ []) }
         ensures keeps_refused { OnOk result (refused_reports self.new ≡ refused_reports self.old) }
@@ -163,6 +164,7 @@ impl<R: Wait + Drop> ReportSender<R> {
             ++ plain_report report ∷ []) }
         ensures keeps_sent { OnErr result (sent_reports self.new ≡ sent_reports self.old) }
         ensures back { IfErr result (λ back. back ≡ report) }
+        ensures passed { OnOk result (put_reports self.new ≡ sent_reports self.new) }
         ensures queue { report_queue self.new ≡ report_queue self.old }
     {
         if !self.put_kept() {

@@ -35,8 +35,9 @@ pub fn read_loop<I: Pieces<ClientSender<R>>, R: Wait + Drop>(
     inbox: &mut ClientSender<R>,
 ) -> ReadEnd
     // The input may be read wherever all that was read is sent. So it is read nowhere else, whether reading ends or not.
-    requires { (i : I) (s : ClientSender R) → HasSentAll (client_events inbox.old) (client_events s)
-        (returned_events inbox.old) (returned_events s) (I.given input.old) (I.given i) → I.may_read i s }
+    requires { (i : I) (s : ClientSender R) → client_queue s ≡ client_queue inbox.old
+        → HasSentAll (client_events inbox.old) (client_events s) (returned_events inbox.old) (returned_events s)
+        (I.given input.old) (I.given i) → I.may_read i s }
     ensures read { (sent : List Incoming) × (client_events inbox.new ≡ client_events inbox.old ++ sent)
         × ((read : IsReadUntil result sent (I.given input.old)
         (I.given input.new))

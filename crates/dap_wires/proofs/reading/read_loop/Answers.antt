@@ -67,7 +67,7 @@ returns-then-is_err-clause-read g c =
 
 pub next_piece-event-requires : goal.next_piece-event-requires
 next_piece-event-requires g c =
-    c.requires c.loop.input c.loop.inbox (record {
+    c.requires c.loop.input c.loop.inbox c.loop.invariant.2 (record {
       pieces = c.loop.invariant.0.pieces;
       sent_are = c.loop.invariant.0.put_is;
       read = c.loop.invariant.0.read;
