@@ -1,4 +1,4 @@
-# The kit's command `rt` proves, builds and runs: `rt doc` prints its first page.
+# `cargo` builds and tests with nothing proved; the kit's command `rt` proves, builds and runs: `rt doc` prints its first page.
 SHELL = /bin/bash
 PREFIX ?= /usr/local
 PROGRAM = crates/pl0dap/out/pl0dap
@@ -6,17 +6,15 @@ FROM_ZERO = crates/pl0dap_from_zero/out/pl0dap_from_zero
 PL0 = crates/pl0/out/pl0
 STACK = crates/stack_adapter/out/stack_adapter
 SPEED = crates/speed/out/speed
-# Programs of which nothing is proved, and what tells that the libraries of the others are.
-UNPROVED = out/unproved
+# Where cargo's programs are, of which nothing is proved, and what tells that the libraries of the others are.
+STOCK = target/release
 PROVED = out/proved
 BUILT = find crates \( -name out -o -name '*_tests' -o -name '*_runs' \) -prune -o -type f
-CODE = crates.txt $(shell $(BUILT) -name '*.rt' -print)
-SOURCES = $(CODE) $(shell $(BUILT) -name '*.antt' -print)
+SOURCES = crates.txt $(shell $(BUILT) \( -name '*.rt' -o -name '*.antt' \) -print)
 # How many random sessions `make sessions` plays, which checks `make release` runs if not all, how many crates `make plants` tries
 # side by side, and for how many seconds `make soak` plays.
 SESSIONS ?= 500
 CHECK ?=
-FAST ?=
 JOBS ?= 1
 SOAK ?= 0
 
@@ -24,29 +22,32 @@ INSTALLED = $(DESTDIR)$(PREFIX)
 MANUAL = $(INSTALLED)/share/man/man1
 INSTALLED_PROGRAMS = pl0dap pl0dap_from_zero pl0dap-listen pl0
 INSTALLED_PAGES = pl0dap.1 pl0dap_from_zero.1 pl0.1
+# Whether Rust and Python are there, and new enough.
+NEEDS_RUST = command -v cargo > /dev/null || \
+  { echo "cargo isn't on the path: install Rust $$(sed -n 's/^rust-version = "\(.*\)"/\1/p' Cargo.toml) or later"; exit 1; }
+NEEDS_PYTHON = python3 -c 'import sys; sys.exit(sys.version_info < (3, 10))' || { echo "Python 3.10 or later is needed"; exit 1; }
 # Whether the kit is there; a word where it is another one than README.md names.
 NEEDS_KIT = command -v rt > /dev/null || { echo "rt, the command of the Rattle kit, isn't on the path: README.md, Try it"; exit 1; }; \
   grep -qF "$$(rt version)" README.md || echo "This kit is $$(rt version), and README.md names another one"
 
-.PHONY: try test build demo rows hostile soak streams sessions beside editors clients vsix refusals last-position compile-fail check \
-  plants gate-times pages threads install uninstall clean bench scripts-of-bench instructions release
+.PHONY: try test programs build demo rows hostile soak streams sessions beside editors clients vsix refusals \
+  last-position compile-fail check plants gate-times pages threads install uninstall clean bench scripts-of-bench \
+  instructions release
 
-# Two debug sessions in short form, a few minutes after a fresh clone. The program stays for an editor.
-try: $(UNPROVED)/pl0dap
-	@python3 demo/session.py --short demo/factorial.session $<
-	@python3 demo/session.py --short demo/back.session $<
-	@echo "Nothing was proved: 'make test' tests, 'make build' proves. Until then an editor can start $(CURDIR)/$<"
+# Two debug sessions in short form, by the program that cargo builds.
+try: programs
+	@python3 demo/session.py --short demo/factorial.session $(STOCK)/pl0dap
+	@python3 demo/session.py --short demo/back.session $(STOCK)/pl0dap
+	@echo "Nothing was proved: 'make test' tests, 'make build' proves. Until then an editor can start $(CURDIR)/$(STOCK)/pl0dap"
 
-# Whether libraries and programs do what the tests and the model in Python say, some minutes after a fresh clone, with nothing
-# proved: of CRATE, or of all whose files have changed since they passed.
-test:
-	@python3 tools/tests.py $(CRATE)
+# Whether libraries and programs do what the tests and the model in Python say.
+test: programs
+	@python3 tools/tests.py
 
-$(UNPROVED)/%: $(CODE)
-	@python3 tools/unproved.py $* $@
-
-$(UNPROVED)/fast_%: $(CODE)
-	@python3 tools/unproved.py --fast $* $@
+programs:
+	@$(NEEDS_RUST)
+	@$(NEEDS_PYTHON)
+	@cargo build --release
 
 build: $(PROGRAM) $(FROM_ZERO) $(PL0)
 
@@ -177,15 +178,15 @@ threads:
 # functions and lines are short, whether README.md has the right sizes and pages have few words, whether each lemma is used and
 # isn't the library's, and nothing stands in specs/ that serves proofs alone, whether each edit can be applied, and whether
 # README's session and the lessons' commands go as the pages have them.
-pages: $(UNPROVED)/pl0dap $(UNPROVED)/pl0
-	python3 checks/played_pages.py $^
+pages: programs
+	python3 checks/played_pages.py $(STOCK)/pl0dap $(STOCK)/pl0
 	python3 tools/pages.py
 	python3 tools/sizes.py
 	python3 tools/reading.py
 	python3 tools/cited.py --page
 	python3 tools/edits.py
 	python3 tools/dead_lemmas.py
-	python3 tools/known_lemmas.py
+	$(if $(shell command -v rt),python3 tools/known_lemmas.py,@echo "Without the kit no lemma is compared with its library's")
 
 # Programs that the compiler must refuse, which the gate can't judge.
 compile-fail:
@@ -224,7 +225,7 @@ uninstall:
 
 # Removes all that was built and proved in this checkout; what `rt` keeps elsewhere stays.
 clean:
-	rm -rf out crates/*/out
+	rm -rf out target crates/*/out
 
 # Times and instructions. With RECORD=1 the figures of docs/PERFORMANCE.md are written anew.
 bench: $(PROGRAM) $(SPEED) $(PL0)
@@ -244,11 +245,9 @@ scripts-of-bench:
 	python3 bench/instructions.py $(SPEED)
 	python3 checks/soak.py $(PROGRAM) 9000 200
 
-# Instructions a step and an answer, beside those that bench/instructions.txt has. With FAST=1 those of a program that nothing is
-# proved of and that is built in minutes; there up to a tenth more is no more than how it was built.
-COUNTED = $(if $(FAST),$(UNPROVED)/fast_speed,$(SPEED))
-instructions: $(COUNTED)
-	python3 bench/instructions.py $(COUNTED)
+# Instructions a step and an answer, beside those that bench/instructions.txt has.
+instructions: $(SPEED)
+	python3 bench/instructions.py $(SPEED)
 
 # Everything that the gate leaves out, or CHECK of it, with one line each at the end and in out/release.md. It takes hours: what
 # tools/release.txt has as passed with the same files isn't run again.

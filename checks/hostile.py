@@ -1,7 +1,7 @@
 #!/usr/bin/env python3
 """Plays hostile input to the adapter, and compares what comes of it with what docs/PROTOCOL.md says.
 
-usage: hostile.py [--stack KIB] [--listen] PROGRAM [FROM_ZERO]
+usage: hostile.py [--listen] PROGRAM [FROM_ZERO]
        hostile.py --own STACK_ADAPTER
 
 FROM_ZERO is `pl0dap_from_zero`, to which the cases are played as well. Only the `seq` 0 differs there: it is a number
@@ -16,9 +16,8 @@ messages have to run from 1.
 
 Other clients ask one request at a time of a process whose output is full or closed, and keep its input open. The page
 says at which request the reason has to stand on standard error, and that the next one ends the process. And the deepest
-content is played to a process with the stack that the page names, or of KIB, as one that isn't proved needs more, and
-with a large environment, which takes a part of it. Prints a line for each case that differs and one for all, and ends
-with status 1 where one differs.
+content is played to a process with the stack that the page names, and with a large environment, which takes a part of
+it. Prints a line for each case that differs and one for all, and ends with status 1 where one differs.
 """
 from __future__ import annotations
 
@@ -462,14 +461,13 @@ DEEPEST = Case("the deepest content, with little stack", READY,
                [request(10, "threads", '{"a":' * 126 + "1" + "}" * 126)], ["ok threads/10"], HEARD)
 
 
-def with_stack(size: int) -> Callable[[str, str], Client]:
-    """Begins processes with a stack of so many KiB, and a large environment."""
+def with_little_stack(program: str, folder: str) -> Client:
+    """A process with this stack, and a large environment."""
 
     def limit() -> None:
-        resource.setrlimit(resource.RLIMIT_STACK, (size * 1024, size * 1024))
+        resource.setrlimit(resource.RLIMIT_STACK, (STACK * 1024, STACK * 1024))
 
-    environment = {**os.environ, "LARGE": "x" * ENVIRONMENT}
-    return lambda program, folder: Client(program, folder, env=environment, preexec_fn=limit)
+    return Client(program, folder, env={**os.environ, "LARGE": "x" * ENVIRONMENT}, preexec_fn=limit)
 
 
 # ---- Outputs that nobody takes any more, and a client that asks one request at a time
@@ -613,12 +611,12 @@ def differing_own(program: str) -> int:
     return len(found)
 
 
-def differing(program: str, instead: dict[str, Case], stack: int) -> int:
+def differing(program: str, instead: dict[str, Case]) -> int:
     """How many cases differ, of which some are played instead of those of these names. Prints them."""
     wrong = 0
-    if found := difference(program, DEEPEST, with_stack(stack)):
+    if found := difference(program, DEEPEST, with_little_stack):
         wrong += 1
-        print(f"the stack, {stack} KiB, {DEEPEST.name}: {found}", flush=True)
+        print(f"the stack, {STACK} KiB, {DEEPEST.name}: {found}", flush=True)
     for topic, cases in CASES.items():
         for case in (instead.get(case.name, case) for case in cases):
             found = difference(program, case)
@@ -639,7 +637,6 @@ def differing(program: str, instead: dict[str, Case], stack: int) -> int:
 
 def main() -> int:
     parser = argparse.ArgumentParser(usage=__doc__.split("\n\n")[1].replace("usage: ", "", 1))
-    parser.add_argument("--stack", type=int, default=STACK)
     parser.add_argument("--listen", action="store_true")
     parser.add_argument("--own", action="store_true")
     parser.add_argument("program", type=os.path.abspath)
@@ -652,7 +649,7 @@ def main() -> int:
         elif program and given.listen:
             wrong += differing_between(program, instead)
         elif program:
-            wrong += differing(program, instead, given.stack)
+            wrong += differing(program, instead)
     return 1 if wrong else 0
 
 

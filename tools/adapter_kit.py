@@ -4,9 +4,9 @@
 usage: adapter_kit.py FOLDER
        adapter_kit.py --test
 
-FOLDER gets the seven crates without their wrong bodies, their lines of crates.txt, HANDLES, tools that build an
-unproved program, speak with it and record what an editor says, and VERSION: the version, the commit, and the digest of
-each file, which `sha256sum --check --quiet VERSION` compares. Where FOLDER has a VERSION, its files go first, unless
+FOLDER gets the seven crates without their wrong bodies, their lines of crates.txt, HANDLES, tools that speak with an
+adapter and record what an editor says, and VERSION: the version, the commit, and the digest of each file, which
+`sha256sum --check --quiet VERSION` compares. Where FOLDER has a VERSION, its files go first, unless
 one was changed: then nothing is done, and the file is named. All else in FOLDER stays, and so do other lines of
 crates.txt.
 
@@ -25,7 +25,7 @@ from dist import version
 from scratch import TOP, crate_lines, libraries
 
 CRATES = ("byte_streams", "dap_frame", "dap_server", "dap_bodies", "dap_reader", "debuggee", "dap_debug")
-TOOLS = ("tools/unproved.py", "tools/talk.py", "tools/record.py", "checks/lib/client.py", "checks/lib/__init__.py")
+TOOLS = ("tools/talk.py", "tools/record.py", "checks/lib/client.py", "checks/lib/__init__.py")
 HANDLES = "HANDLES"  # which an author may have changed, so that it is written once
 LINES, VERSION = "crates.txt", "VERSION"
 WRONG_BODIES = ("must-fail", "plants.txt")
@@ -106,7 +106,7 @@ def wrong() -> list[str]:
         (folder / names()[0]).write_text("changed")
         if changed(folder) != [names()[0]]:
             found.append("a changed file isn't noticed")
-        for tool in ("talk.py", "record.py", "unproved.py"):
+        for tool in ("talk.py", "record.py"):
             run = subprocess.run([sys.executable, f"tools/{tool}"], cwd=folder, capture_output=True, text=True)
             if "usage: " not in run.stdout + run.stderr:
                 found.append(f"tools/{tool} can't be started")
