@@ -30,7 +30,7 @@ NEEDS_PYTHON = python3 -c 'import sys; sys.exit(sys.version_info < (3, 10))' || 
 NEEDS_KIT = command -v rt > /dev/null || { echo "rt, the command of the Rattle kit, isn't on the path: README.md, Try it"; exit 1; }; \
   grep -qF "$$(rt version)" README.md || echo "This kit is $$(rt version), and README.md names another one"
 
-.PHONY: try test programs build demo rows hostile soak streams sessions beside editors clients vsix refusals \
+.PHONY: try test programs build demo rows hostile soak streams sessions in-memory beside editors clients vsix refusals \
   last-position compile-fail check plants gate-times pages threads install uninstall clean bench scripts-of-bench \
   instructions release
 
@@ -128,8 +128,13 @@ sessions: $(PROGRAM) $(STACK)
 	python3 checks/stack_sessions.py $(STACK) $(SESSIONS)
 
 # Random sessions whose bytes and status are compared with what the session puts over memory, in one thread, and how it ends.
-beside: $(PROGRAM) $(SPEED)
-	python3 checks/beside.py $(PROGRAM) $(SPEED) 200
+in-memory: $(PROGRAM) $(SPEED)
+	python3 checks/in_memory.py $(PROGRAM) $(SPEED) 200
+
+# Random sessions, hostile input and pages, played to each proved program and to the one that cargo builds: both do the same.
+COMPARED = $(PROGRAM) $(FROM_ZERO) $(PL0) $(STACK)
+beside: $(COMPARED) programs
+	python3 checks/both_builds.py 200 $(foreach program,$(COMPARED),$(program) $(STOCK)/$(notdir $(program)))
 
 # What Visual Studio Code and Kate mark in programs; the sessions of editors, played to the program; then Emacs, Kate and
 # CodeLite, where they are installed, debug a program with it, Emacs also one with stack_adapter, and pictures are taken, all

@@ -16,6 +16,7 @@ import os
 import random
 import sys
 import tempfile
+from collections.abc import Callable
 
 from lib.client import Client, frame, put_files, request
 from lib.plain_debugger import INSPECTING, RESUMING, STACK, Request, Session, World, advance
@@ -165,12 +166,12 @@ def short_text(make: random.Random) -> str:
 class Player:
     """A client that sends requests at random, and looks at what comes."""
 
-    def __init__(self, adapter: str, folder: str, seed: int):
+    def __init__(self, adapter: str, folder: str, seed: int, client: Callable[[str, str], Client] = Client):
         self.make = random.Random(seed)
         self.crosses = seed % 2 == 0
         self.files = {f"{name}.stk": short_text(self.make).encode() for name in "pq"}
         put_files(folder, self.files)
-        self.client = Client(adapter, folder)
+        self.client = client(adapter, folder)
         self.model = Session(folder)
         self.sent: list[bytes] = []
         self.counts: collections.Counter[str] = collections.Counter()

@@ -1,5 +1,5 @@
 //! Runs a program to its end and does nothing else: what the scripts of `bench/` time, and `checks/refusals.py` runs out of
-//! memory. Or drives a session over memory, beside which `checks/beside.py` plays it to the program in threads.
+//! memory. Or drives a session over memory, beside which `checks/in_memory.py` plays it to the program in threads.
 //!
 //! - `speed machine FILE` takes the machine's steps alone.
 //! - `speed slices FILE [FIRST COUNT [CONDITION [HIT]]]` runs a debuggee in slices, under breakpoints at COUNT lines from

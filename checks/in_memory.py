@@ -1,7 +1,7 @@
 #!/usr/bin/env python3
 """Plays random sessions to the adapter and to `drive` over memory, and compares all bytes that leave.
 
-usage: beside.py PROGRAM SPEED [COUNT] [SEED]
+usage: in_memory.py PROGRAM SPEED [COUNT] [SEED]
 
 SPEED is the program `speed`, whose `session` drives a session in one thread by the bytes that the client sends. Nothing
 is sent while a program runs, so there is one order of events, and the two outputs must be equal. Where `drive` gives
@@ -46,11 +46,10 @@ def status_of(fault: str) -> int:
     return 0 if not fault else FRAMING if fault.startswith("Frame") else REFUSED
 
 
-def served(program: str, folder: str, story: Story) -> tuple[bytes, int]:
-    """What the program writes to a client that waits for each run to end, and its status; the model says how many
+def served(adapter: Client, folder: str, story: Story) -> tuple[bytes, int]:
+    """What an adapter writes to a client that waits for each run to end, and its status; the model says how many
     messages come before."""
-    model, adapter = Session(folder), Client(program, folder)
-    came = b""
+    model, came = Session(folder), b""
     for part in story.parts:
         if model.is_closed():
             break
@@ -75,7 +74,7 @@ def main() -> int:
         with tempfile.TemporaryDirectory() as folder:
             put_files(folder, story.files)
             put, fault = driven(speed, folder, b"".join(part.text for part in story.parts))
-            written, status = served(program, folder, story)
+            written, status = served(Client(program, folder), folder, story)
         if (written, status) != (put, status_of(fault)):
             print(f"seed {seed}: drive puts, and gives up by {fault or 'no fault'}\n  {put!r}")
             print(f"the adapter writes, and ends with status {status}\n  {written!r}")
