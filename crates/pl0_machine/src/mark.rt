@@ -70,7 +70,7 @@ pub struct Tables<'a> {
 
 /// Returns the tables of marks, if there are marks.
 #[inline(always)]
-pub fn tables_of(marks: Option<&Marks>) -> Option<Tables>
+pub fn tables_of(marks: Option<&Marks>) -> Option<Tables<'_>>
     ensures { AreTables (option_map (λ marks. marks.now) marks.entry) result }
 {
     match marks {
