@@ -15,11 +15,8 @@ const WITH_HANDLE: [&str; 7] = ["assert", "assert_eq", "assert_ne", "eprintln", 
 const OTHER_MACROS: [&str; 7] = ["anyhow", "error", "matches", "prove", "unreachable", "write", "writeln"];
 /// Methods that take an allocator or a handle first, where Rust's of the same name take none.
 const WITH_ALLOCATOR: [&str; 5] = ["collect", "expect", "repeat", "to_vec", "try_collect"];
-/// What a path may begin with in every crate.
-const EVERYWHERE: [&str; 21] = [
-    "std", "core", "self", "super", "bool", "char", "str", "u8", "u16", "u32", "u64", "u128", "usize", "i8", "i16", "i32",
-    "i64", "i128", "isize", "f32", "f64",
-];
+/// What a `use` may begin with in every crate.
+const EVERYWHERE: [&str; 4] = ["core", "self", "std", "super"];
 
 pub struct Eraser<'a> {
     source: Source<'a>,
@@ -29,8 +26,8 @@ pub struct Eraser<'a> {
     head: Option<usize>,
     /// The last token but space and comments.
     last: &'a str,
-    /// Modules that the source declares and names that it brings in.
-    local: Vec<&'a str>,
+    /// The modules that the source declares.
+    modules: Vec<&'a str>,
     is_in_use: bool,
     has_prelude: bool,
     is_of_test: bool,
@@ -40,18 +37,10 @@ pub struct Eraser<'a> {
 
 impl<'a> Eraser<'a> {
     pub fn new(text: &'a str, paths: &'a Paths) -> Eraser<'a> {
-        Eraser {
-            source: Source { text, at: 0 },
-            paths,
-            out: String::with_capacity(text.len()),
-            head: None,
-            last: "",
-            local: Vec::new(),
-            is_in_use: false,
-            has_prelude: false,
-            is_of_test: false,
-            begins: String::new(),
-        }
+        let source = Source { text, at: 0 };
+        let (out, begins, modules) = Default::default();
+        let (has_prelude, is_in_use, is_of_test) = (false, false, false);
+        Eraser { source, paths, out, head: None, last: "", modules, has_prelude, is_in_use, is_of_test, begins }
     }
 
     pub fn run(mut self) -> Result<String, Refusal> {
@@ -62,8 +51,7 @@ impl<'a> Eraser<'a> {
                 self.write(token, token.len());
                 continue;
             }
-            let is_inner = self.source.rest().starts_with("#!");
-            if !self.has_prelude && !is_inner {
+            if !self.has_prelude && !self.source.rest().starts_with("#!") {
                 self.out += &self.prelude();
                 self.has_prelude = true;
             }
@@ -126,10 +114,8 @@ impl<'a> Eraser<'a> {
             _ => {
                 let (written, length) = self.spelling(word, after)?;
                 self.write(&written, length);
-                if self.is_in_use || self.last == "mod" {
-                    self.local.push(word);
-                }
                 if self.last == "mod" {
+                    self.modules.push(word);
                     self.begins = self.prelude();
                 }
                 self.is_in_use |= word == "use";
@@ -147,22 +133,17 @@ impl<'a> Eraser<'a> {
             false => self.refuse(format!("after `{word}` only `{}` is known here", text.trim_start())),
         };
         let written = match word {
-            "pub" => {
-                let reach = ["(crate)", "(super)"].into_iter().find(|reach| after.starts_with(reach)).unwrap_or("");
-                return exact(reach, &format!("pub{reach}"));
-            }
+            "pub" if after.starts_with("(crate)") => return exact("(crate)", "pub(crate)"),
             "fn" if self.is_of_test => return self.test_head(after),
             "fn" if after.starts_with(" drop(") => return exact(" drop(self)", "fn drop(&mut self)"),
             "fn" if after.starts_with(" fmt<") => return exact(" fmt<W: fmt::Write>(", "fn fmt("),
             "fn" if after.starts_with(" main(") && self.last != "pub" => "pub fn".to_string(),
             "Formatter" if after.starts_with('<') => return exact("<W>", "Formatter<'_>"),
             "Drop" if after.starts_with(" for ") => "::core::ops::Drop".to_string(),
-            _ if self.last == "." && WITH_ALLOCATOR.contains(&word) => {
-                if after.starts_with("()") {
-                    return self.refuse(format!("`{word}` takes an allocator or a handle"));
-                }
-                format!("{word}_in")
+            _ if self.last == "." && WITH_ALLOCATOR.contains(&word) && after.starts_with("()") => {
+                return self.refuse(format!("`{word}` takes an allocator or a handle"));
             }
+            _ if self.last == "." && WITH_ALLOCATOR.contains(&word) => format!("{word}_in"),
             _ if begins_path && after.starts_with("::") && !after.starts_with("::<") => self.path(word)?,
             _ => word.to_string(),
         };
@@ -171,17 +152,15 @@ impl<'a> Eraser<'a> {
 
     /// Where a path leads that begins with this word.
     fn path(&self, word: &str) -> Result<String, Refusal> {
-        if word == "crate" {
-            return Ok(self.paths.own.clone());
-        }
-        if let Some(there) = self.paths.uses.get(word) {
-            return Ok(there.clone());
-        }
         let is_type = word.starts_with(|first: char| first.is_ascii_uppercase());
-        if is_type || EVERYWHERE.contains(&word) || self.local.contains(&word) {
-            return Ok(word.to_string());
+        match self.paths.uses.get(word) {
+            _ if word == "crate" => Ok(self.paths.own.clone()),
+            Some(there) => Ok(there.clone()),
+            None if !self.is_in_use || is_type || EVERYWHERE.contains(&word) || self.modules.contains(&word) => {
+                Ok(word.to_string())
+            }
+            None => self.refuse(format!("`{word}` is no crate that this one uses, and no module of this file")),
         }
-        self.refuse(format!("`{word}` is neither a crate that this one uses nor brought in above"))
     }
 
     fn macro_call(&mut self, word: &str) -> Result<(), Refusal> {
@@ -189,7 +168,7 @@ impl<'a> Eraser<'a> {
         let inner = self.source.rest().get(begin..).unwrap_or_default();
         let argument = inner.trim_start();
         let takes_in = argument.starts_with("in ");
-        let opened = &self.source.rest()[word.len()..begin];
+        let opened = self.source.rest().get(word.len()..begin).unwrap_or_default();
         if takes_in != ALLOCATING.contains(&word) || !["!(", "![", "!{"].contains(&opened) {
             let known = if takes_in { "without `in`" } else { "with `in` and an allocator" };
             return self.refuse(format!("`{word}!` is known only {known}"));
@@ -231,7 +210,8 @@ impl<'a> Eraser<'a> {
     /// Writes a derive without `Drop`, since Rust lets each value go.
     fn derive(&mut self, inner: &str, end: usize) -> Result<(), Refusal> {
         let list = inner.trim_start_matches("derive").trim().trim_start_matches('(').trim_end_matches(')');
-        let names: Vec<&str> = list.split(',').map(str::trim).filter(|name| !name.is_empty() && *name != "Drop").collect();
+        let names = list.split(',').map(str::trim).filter(|name| !["", "Drop"].contains(name));
+        let names: Vec<&str> = names.collect();
         if let Some(other) = names.iter().find(|name| !DERIVES.contains(name)) {
             return self.refuse(format!("the derive `{other}` isn't known here"));
         }
@@ -299,17 +279,18 @@ impl<'a> Eraser<'a> {
                 at = self.past_space(self.source.block_end(block)?);
             }
         }
-        match text[at..].chars().next() {
+        let rest = &text[at..];
+        match rest.chars().next() {
             Some(',' | ';') if at > begin => Ok(at + 1),
             Some('}' | '{') if at > begin => Ok(at),
-            _ if at > begin && ["requires", "ensures"].iter().any(|clause| text[at..].starts_with(clause)) => Ok(at),
+            _ if at > begin && ["requires", "ensures"].contains(&&rest[..word_length(rest)]) => Ok(at),
             _ => self.refuse("`ghost` begins no item, member, field or clause that is known here"),
         }
     }
 
-    /// Past the space, the name and the space after it that stand at a place; a name of antt may stand in `«` and `»`.
+    /// Past the space, the name and the space after it that stand at a place; a name may stand in `«` and `»`.
     fn past_name(&self, at: usize) -> usize {
-        let rest = self.source.text[self.past_space(at)..].trim_start_matches(['«', '»']);
+        let rest = self.source.text[at..].trim_start().trim_start_matches('«');
         let after = rest.trim_start_matches(is_of_word).trim_start_matches('»').trim_start();
         self.source.text.len() - after.len()
     }

@@ -1,11 +1,11 @@
-//! Writes Rattle sources as stock Rust. It is for build scripts: the library and the programs of this repository are built
-//! from what it writes, and so is an adapter of your own whose language is a crate in Rattle.
+//! Writes Rattle sources as stock Rust. It is for build scripts: the library and the programs of this repository are
+//! built from what it writes, and so is an adapter of your own whose language is a crate in Rattle.
 //!
-//! A crate becomes a module. Lines stay where they are, so a message of rustc on `decoder.rs:120` leads to line 120 of
-//! `decoder.rt`. What is changed, and nothing else:
+//! A crate becomes a module. Lines stay where they are, so a message of rustc on `decoder.rs:120` leads to line 120
+//! of `decoder.rt`. What is changed, and nothing else:
 //!
-//! - what only proofs read goes: `ghost`, `requires` and `ensures` with the comments on them, the attributes `tactic` and
-//!   `cycle`, and `Drop` in derives;
+//! - what only proofs read goes: `ghost`, `requires` and `ensures` with the comments on them, the attributes `tactic`
+//!   and `cycle`, and `Drop` in derives;
 //! - paths lead to the modules, and those of the kit's crates to the crate `kit`, which stands for the kit's library;
 //! - where Rust spells a thing otherwise it is spelt so: `format!(in alloc; ..)` is `format!( alloc; ..)`.
 //!
@@ -84,10 +84,11 @@ pub fn erase_crate(source: &Path, name: &str, paths: &Paths) -> Result<String, V
     let mut refused = Vec::new();
     erase_folder(source, &target, paths, &mut refused);
     let root = if source.join("lib.rt").exists() { "lib.rs" } else { "main.rs" };
-    if refused.is_empty() { Ok(format!("#[path = {:?}] pub mod {name};\n", target.join(root))) } else { Err(refused) }
+    let item = format!("#[path = {:?}] pub mod {name};\n", target.join(root));
+    if refused.is_empty() { Ok(item) } else { Err(refused) }
 }
 
-/// Writes the modules to a file that the library includes; or prints what is refused as errors of the build, and ends it.
+/// Writes the modules to a file that the library includes; or prints what is refused as errors, and ends the build.
 pub fn finish(file: &str, modules: Result<String, Vec<String>>) {
     match modules {
         Ok(text) => fs::write(out_folder().join(file), text).expect("the target folder can be written"),
@@ -107,10 +108,9 @@ fn erase_folder(source: &Path, target: &Path, paths: &Paths, refused: &mut Vec<S
             erase_folder(&path, &target.join(file), paths, refused);
         } else if path.extension().is_some_and(|kind| kind == "rt") {
             let text = fs::read_to_string(&path).expect("a source is a text").replace("\r\n", "\n");
+            let target = target.join(file).with_extension("rs");
             match erase(&text, paths) {
-                Ok(erased) => {
-                    fs::write(target.join(file).with_extension("rs"), erased).expect("the target folder can be written");
-                }
+                Ok(erased) => fs::write(target, erased).expect("the target folder can be written"),
                 Err(Refusal { line, what }) => refused.push(format!("{}:{line}: {what}", path.display())),
             }
         }

@@ -14,8 +14,8 @@ const OF_KIT: [&str; 11] = [
 /// A line of `crates.txt`: its number and the crates that its crate uses.
 type Line = (usize, Vec<String>);
 
-/// Writes programs and tests with the crates that they use, and returns the items that declare them. What only tests use
-/// is declared for tests alone.
+/// Writes programs and tests with the crates that they use, and returns the items that declare them. What only tests
+/// use is declared for tests alone.
 ///
 /// # Errors
 ///

@@ -2,7 +2,7 @@
 
 use crate::Refusal;
 
-/// Words that begin an item or a clause, and so can't stand inside a block of antt: one that isn't closed would reach them.
+/// Words of items and clauses, which can't stand inside a block of antt: one that isn't closed would reach them.
 const NEVER_IN_A_BLOCK: [&str; 8] = ["fn", "ghost", "requires", "ensures", "impl", "struct", "enum", "pub"];
 
 #[derive(Clone, Copy, PartialEq)]
