@@ -133,7 +133,9 @@ impl<'a> Eraser<'a> {
             false => self.refuse(format!("after `{word}` only `{}` is known here", text.trim_start())),
         };
         let written = match word {
-            "pub" if after.starts_with("(crate)") => return exact("(crate)", "pub(crate)"),
+            "pub" if after.starts_with("(super)") => return exact("(super)", "pub(super)"),
+            "pub" if after.starts_with("(") => return exact("(crate)", "pub(crate)"),
+            "crate" if !begins_path || !after.starts_with("::") => return self.refuse("a `crate` that begins no path"),
             "fn" if self.is_of_test => return self.test_head(after),
             "fn" if after.starts_with(" drop(") => return exact(" drop(self)", "fn drop(&mut self)"),
             "fn" if after.starts_with(" fmt<") => return exact(" fmt<W: fmt::Write>(", "fn fmt("),

@@ -49,7 +49,7 @@ impl<'a> Source<'a> {
         } else if word > 0 {
             (if first.is_ascii_digit() { Kind::Literal } else { Kind::Word }, word)
         } else if first.is_ascii() {
-            (Kind::Sign, if rest.starts_with("::") { 2 } else { 1 })
+            (Kind::Sign, if rest.starts_with("::") || rest.starts_with("..") { 2 } else { 1 })
         } else {
             return self.refuse(self.at, format!("`{first}` stands outside clauses, comments and texts"));
         };

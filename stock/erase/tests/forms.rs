@@ -9,11 +9,12 @@ const PRELUDE: &str = "use kit::prelude::*; ";
 const LITERALS: &str = r##"a(r#""ghost { \"#, '\'', b'"', 'λ', "\"requires { ", f::<'a>)"##;
 
 /// Sources, and what is left of them.
-const PUT_AWAY: [(&str, &str); 16] = [
+const PUT_AWAY: [(&str, &str); 17] = [
     ("ghost use A.B.{◌≡◌, ◌;◌,\n  c};\nfn f() {}", "\n\nfn f() {}"),
     ("/// Says so.\n#[inline]\npub ghost view = { λ x. x };\nfn f() {}", "\n\n\nfn f() {}"),
     ("struct S {\n  /// A.\n  pub(crate) ghost all: { List T } by { p },\n  a: u8 }", "struct S {\n  \n\n  a: u8 }"),
     ("struct S { a: u8, ghost small: { a < 9 } }", "struct S { a: u8, }"),
+    ("struct S {\n  pub(super) ghost m: { ℕ },\n  a: u8 }", "struct S {\n  \n  a: u8 }"),
     ("trait T { ghost m: { ℕ } = { 0 }; }", "trait T {  }"),
     ("fn f() ghost top: { ℕ } requires { top ≤ 2 } {}", "fn f()  {}"),
     ("fn f()\n    requires { a\n        < b }\n    ensures* out { c }\n{ g() }", "fn f()\n    \n\n    \n{ g() }"),
@@ -29,10 +30,11 @@ const PUT_AWAY: [(&str, &str); 16] = [
 ];
 
 /// Sources, and how Rust spells them.
-const SPELT: [(&str, &str); 16] = [
+const SPELT: [(&str, &str); 17] = [
     ("use crate::a::{json::b};", "use crate::own::a::{json::b};"),
     ("use low::{a, b}; json::c(low::a)", "use crate::low::{a, b}; kit::json::c(crate::low::a)"),
     ("mod part; use part::x; fn f() { y::z(Low::W) }", "mod part; use part::x; fn f() { y::z(Low::W) }"),
+    ("0..crate::a", "0..crate::own::a"),
     ("format!(in alloc; \"{a}\")?", "format!( alloc; \"{a}\")?"),
     ("json!(\n    in a; {})?", "json!(\n     a; {})?"),
     ("assert_eq!(&rt; a, b); unreachable!()", "kit::assert_eq!(&rt; a, b); unreachable!()"),
@@ -52,7 +54,7 @@ const SPELT: [(&str, &str); 16] = [
 ];
 
 /// Sources that are refused, the line where, and a part of what is said.
-const REFUSED: [(&str, usize, &str); 28] = [
+const REFUSED: [(&str, usize, &str); 30] = [
     ("trait T {\n    fn f() requires b; }", 2, "`requires` without a block"),
     ("fn f()\n    ensures = { a } {}", 2, "`ensures` without a block"),
     ("fn f()\n    requires { a < b\n{ g() }\n\nfn h() {}", 2, "isn't closed before `fn`"),
@@ -80,6 +82,8 @@ const REFUSED: [(&str, usize, &str); 28] = [
     ("fn fmt<X>(&self) {}", 1, "only `fmt<W: fmt::Write>(`"),
     ("fn f(g: Formatter<X>) {}", 1, "only `<W>`"),
     ("use low::a;\nuse other::b;", 2, "`other` is no crate"),
+    ("use {crate::a};", 1, "begins no path"),
+    ("struct S {\n pub(in a) ghost m: { ℕ } }", 2, "only `(crate)`"),
     ("#[test]\nfn t(alloc: Global) {}", 2, "a test takes nothing"),
 ];
 
