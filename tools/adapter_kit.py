@@ -6,9 +6,8 @@ usage: adapter_kit.py FOLDER
 
 FOLDER gets the seven crates without their wrong bodies, their lines of crates.txt, HANDLES, tools that speak with an
 adapter and record what an editor says, and VERSION: the version, the commit, and the digest of each file, which
-`sha256sum --check --quiet VERSION` compares. Where FOLDER has a VERSION, its files go first, unless
-one was changed: then nothing is done, and the file is named. All else in FOLDER stays, and so do other lines of
-crates.txt.
+`sha256sum --check --quiet VERSION` compares. Where FOLDER has a VERSION, its files go first, unless one was changed:
+then nothing is done, and the file is named. All else in FOLDER stays, and so do other lines of crates.txt.
 
 With --test it is written into a temporary folder, twice, with a crate of one's own in it, and looked at.
 """
