@@ -18,7 +18,9 @@ CHECK ?=
 JOBS ?= 1
 SOAK ?= 0
 
-INSTALLED = $(DESTDIR)$(PREFIX)
+# Some shells leave `~/` in `PREFIX=~/x` as it is. A path that begins at this folder is refused.
+FROM_ROOT = $(patsubst ~/%,$(HOME)/%,$(PREFIX))
+INSTALLED = $(DESTDIR)$(if $(filter /%,$(firstword $(FROM_ROOT))),$(FROM_ROOT),$(error PREFIX=$(PREFIX) doesn't begin with / or ~/))
 MANUAL = $(INSTALLED)/share/man/man1
 INSTALLED_PROGRAMS = pl0dap pl0dap_from_zero pl0dap-listen pl0
 INSTALLED_PAGES = pl0dap.1 pl0dap_from_zero.1 pl0.1
@@ -217,7 +219,8 @@ install:
 	install -D editors/listen.py "$(INSTALLED)/bin/pl0dap-listen"
 	for page in $(INSTALLED_PAGES); do install -D -m 644 docs/$$page "$(MANUAL)/$$page"; done
 
-# An archive for those who only want to debug: what `make install` copies, and the editors' files. Proves and builds nothing.
+# An archive for those who only want to debug: what `make install` copies, with programs that need no C library, and the editors'
+# files. Links, and proves nothing; tools/dist.py wants gcc, and as another user than root `unshare`.
 .PHONY: dist
 dist:
 	@$(MAKE) --silent --question build > /dev/null 2>&1 || \

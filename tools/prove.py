@@ -96,10 +96,11 @@ def bring(name: str, part: str, source: pathlib.Path, target: pathlib.Path) -> N
 
 
 def bring_program(name: str, source: pathlib.Path) -> None:
-    """Copies a program to the checkout from a copy of the repository in which it was built."""
+    """Copies a program, and the object that it was linked from, to the checkout from a copy in which it was built."""
     place = TOP / "crates" / name / "out"
     place.mkdir(exist_ok=True)
-    shutil.copy(source / "crates" / name / "out" / name, place)
+    for file in (name, f"{name}.o"):
+        shutil.copy(source / "crates" / name / "out" / file, place)
 
 
 def prove(top: pathlib.Path, name: str, processors: int) -> Proof:
