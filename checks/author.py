@@ -25,7 +25,7 @@ TOP = pathlib.Path(__file__).resolve().parent.parent
 EXAMPLE = TOP / "example_adapter"
 FOLDER = TOP / "out" / "example_adapter"
 PROGRAM = FOLDER / "target" / "debug" / "counter_adapter"
-LANGUAGE = FOLDER / "language" / "lib.rt"
+LANGUAGE = FOLDER / "language" / "lib.rs"
 # What an edit changes, and a program that has a fault in its second line.
 REASON, EDITED = '"the count is too large"', '"edited"'
 OVERFLOW = f"set {2**63 - 1}\nadd 1\n"
@@ -86,7 +86,7 @@ def refused() -> None:
     """Writes into the language what isn't known, which the build has to refuse at its line."""
     text = LANGUAGE.read_text(encoding="utf-8")
     LANGUAGE.write_text(text + UNKNOWN, encoding="utf-8")
-    place = f"language/lib.rt:{text.count(chr(10)) + 1}: "
+    place = f"language/lib.rs:{text.count(chr(10)) + 1}: "
     ran = build()
     if not ran.returncode or place not in ran.stderr:
         raise Wrong(f"not refused at {place}{ran.stderr}")

@@ -59,6 +59,7 @@ PARTS = [
     script("nonblocking", "pl0dap"),
     script("stack_pause", "stack_adapter"),
     script("stack_sizes", "stack_adapter"),
+    Part("author", (sys.executable, "checks/author.py")),
     Part("adapter_kit", (sys.executable, "tools/adapter_kit.py", "--test")),
 ]
 

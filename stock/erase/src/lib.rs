@@ -25,7 +25,8 @@
 //! finish("language.rs", erase_crate(Path::new("language"), "language", &paths));
 //! ```
 //!
-//! The library then has the line `include!(concat!(env!("OUT_DIR"), "/language.rs"));`.
+//! The crate then has `#![no_std]` at its root, since the modules have the kit's prelude, and the line
+//! `include!(concat!(env!("OUT_DIR"), "/language.rs"));`. Where its own code uses std, it has `extern crate std;` too.
 
 mod eraser;
 mod repository;
@@ -73,7 +74,8 @@ pub fn erase(text: &str, paths: &Paths) -> Result<String, Refusal> {
     eraser::Eraser::new(text, paths).run()
 }
 
-/// Writes the sources in a folder as the module `name`, and returns the item that declares it.
+/// Writes the sources in a folder as the module `name`, and returns the item that declares it. A source ends in `.rt`,
+/// or in `.rs`, as it may while nothing in it is for the prover.
 ///
 /// # Errors
 ///
@@ -83,7 +85,8 @@ pub fn erase_crate(source: &Path, name: &str, paths: &Paths) -> Result<String, V
     println!("cargo::rerun-if-changed={}", source.display());
     let mut refused = Vec::new();
     erase_folder(source, &target, paths, &mut refused);
-    let root = if source.join("lib.rt").exists() { "lib.rs" } else { "main.rs" };
+    let is_library = ["lib.rt", "lib.rs"].iter().any(|file| source.join(file).exists());
+    let root = if is_library { "lib.rs" } else { "main.rs" };
     let item = format!("#[path = {:?}] pub mod {name};\n", target.join(root));
     if refused.is_empty() { Ok(item) } else { Err(refused) }
 }
@@ -106,7 +109,7 @@ fn erase_folder(source: &Path, target: &Path, paths: &Paths, refused: &mut Vec<S
         let file = path.file_stem().expect("an entry has a name");
         if path.is_dir() {
             erase_folder(&path, &target.join(file), paths, refused);
-        } else if path.extension().is_some_and(|kind| kind == "rt") {
+        } else if path.extension().is_some_and(|kind| kind == "rt" || kind == "rs") {
             let text = fs::read_to_string(&path).expect("a source is a text").replace("\r\n", "\n");
             let target = target.join(file).with_extension("rs");
             match erase(&text, paths) {
