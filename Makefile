@@ -32,7 +32,7 @@ NEEDS_PYTHON = python3 -c 'import sys; sys.exit(sys.version_info < (3, 10))' || 
 NEEDS_KIT = command -v rt > /dev/null || { echo "rt, the command of the Rattle kit, isn't on the path: README.md, Try it"; exit 1; }; \
   grep -qF "$$(rt version)" README.md || echo "This kit is $$(rt version), and README.md names another one"
 
-.PHONY: try test programs build demo rows hostile soak streams sessions in-memory beside editors clients vsix refusals \
+.PHONY: try test programs build demo rows hostile soak streams sessions in-memory beside stock editors clients vsix refusals \
   last-position compile-fail check plants gate-times pages threads install uninstall clean bench scripts-of-bench \
   instructions release
 
@@ -133,10 +133,18 @@ sessions: $(PROGRAM) $(STACK)
 in-memory: $(PROGRAM) $(SPEED)
 	python3 checks/in_memory.py $(PROGRAM) $(SPEED) 200
 
-# Random sessions, hostile input and pages, played to each proved program and to the one that cargo builds: both do the same.
+# Random sessions, hostile input, pages, contents and command lines, played to each proved program and to the one that cargo
+# builds: both do the same.
 COMPARED = $(PROGRAM) $(FROM_ZERO) $(PL0) $(STACK)
 beside: $(COMPARED) programs
 	python3 checks/both_builds.py 200 $(foreach program,$(COMPARED),$(program) $(STOCK)/$(notdir $(program)))
+	python3 checks/both_readers.py 10000 $(foreach program,$(PROGRAM) $(PL0),$(program) $(STOCK)/$(notdir $(program)))
+
+# Whether all that rustc compiles is the sources', line by line, and whether that and the tests find planted faults of what
+# makes it so.
+stock:
+	python3 checks/stock.py
+	python3 checks/stock.py --planted
 
 # What Visual Studio Code and Kate mark in programs; the sessions of editors, played to the program; then Emacs, Kate and
 # CodeLite, where they are installed, debug a program with it, Emacs also one with stack_adapter, and pictures are taken, all

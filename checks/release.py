@@ -105,6 +105,7 @@ CHECKS = [
     Check("editors", "editors and their sessions", partly=(2,)),
     Check("in-memory", "random sessions beside the session over memory"),
     Check("beside", "the same input to proved programs and to those that cargo builds"),
+    Check("stock", "what cargo builds is the sources, and planted faults of it are found"),
     Check("sessions", "2,000 random sessions beside a plain model", ("SESSIONS=2000",), beside="hostile"),
     Check("refusals", "each allocation, thread, read and write refused or hindered, all programs"),
     Check("soak", "sessions that leave nothing over, for an hour", ("SOAK=3600",), beside="pages"),

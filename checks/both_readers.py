@@ -1,15 +1,17 @@
 #!/usr/bin/env python3
-"""Plays random contents and command lines to two builds of the programs, and compares all that comes back.
+"""Plays random contents and command lines to two builds of `pl0dap` and `pl0`, and compares all that comes back.
 
-usage: stock_beside.py FOLDER STOCK [COUNT] [SEED]
+usage: both_readers.py COUNT PROVED STOCK [PROVED STOCK..] [--seed SEED]
 
-Each folder has a `pl0dap` and a `pl0`; those of STOCK are built by stock Rust. COUNT contents, 10,000 where nothing is
-given, are sent as frames, many in a session: what is answered shows how each was read. Then come command lines, one for
-10 contents. Bytes, statuses and standard errors must be equal, but for the words by which the stock programs say what
-they are. At a difference this prints both, and ends with status 1. Without SEED another one is taken each time.
+PROVED is what the kit built, STOCK what cargo built of the same program, as its file's name says: so this tests both
+readers of JSON, and of the command line. COUNT contents are sent as frames, many in a session: what is answered shows
+how each was read. Then come command lines, one for 10 contents and 200 at least. Bytes, statuses and standard errors
+must be equal, but for the words by which the stock programs say what they are. At a difference this prints both, and
+ends with status 1. Without SEED another one is taken each time.
 """
 from __future__ import annotations
 
+import argparse
 import pathlib
 import random
 import subprocess
@@ -107,8 +109,8 @@ def command_line(chance: random.Random) -> list[str | bytes]:
     return [program, *head, *chance.choices(pool, k=chance.randrange(6))]
 
 
-def outcome(folder: str, words: list[str | bytes], given: bytes, place: str) -> tuple[int, bytes, bytes]:
-    ran = subprocess.run(words, executable=f"{folder}/{words[0]}", input=given, capture_output=True, cwd=place)
+def outcome(program: pathlib.Path, words: list[str | bytes], given: bytes, place: str) -> tuple[int, bytes, bytes]:
+    ran = subprocess.run(words, executable=program, input=given, capture_output=True, cwd=place)
     return ran.returncode, ran.stdout, ran.stderr
 
 
@@ -120,8 +122,14 @@ def with_note(output: bytes) -> bytes:
 
 
 def main() -> int:
-    folder, stock = (str(pathlib.Path(given).resolve()) for given in sys.argv[1:3])
-    count, seed = map(int, sys.argv[3:5] + ["10000", str(random.randrange(10**6))][len(sys.argv[3:5]):])
+    parser = argparse.ArgumentParser()
+    parser.add_argument("--seed", type=int, default=random.randrange(10**6))
+    parser.add_argument("count", type=int)
+    parser.add_argument("programs", type=pathlib.Path, nargs="+")
+    asked = parser.parse_args()
+    programs = [program.resolve() for program in asked.programs]
+    builds = [{program.name: program for program in programs[at::2]} for at in range(2)]
+    count, seed = asked.count, asked.seed
     chance, differ, notes = random.Random(seed), 0, 0
     contents = [Contents(chance).content() for _ in range(count)]
     lines = [command_line(chance) for _ in range(max(200, count // 10))]
@@ -135,7 +143,7 @@ def main() -> int:
         for name, text in FILES.items():
             pathlib.Path(place, name).write_text(text, encoding="utf-8")
         for words, given in played:
-            wanted, came = (outcome(build, words, given, place) for build in (folder, stock))
+            wanted, came = (outcome(build[words[0]], words, given, place) for build in builds)
             output = with_note(wanted[1])
             notes += output != wanted[1]
             if came != (wanted[0], output, wanted[2]):
