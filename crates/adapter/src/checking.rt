@@ -5,8 +5,9 @@ ghost use Rattle.pl0_tree.specs.Faults.{IsFirstFault, FaultIs};
 ghost use Rattle.adapter.specs.Checking.{IsChecked, IsListingOf};
 
 use crate::listing::listing;
-use byte_streams::{Sink, WriteFailed, write_all};
+use byte_streams::{Sink, WriteFailed};
 use dap_session::{LoadFault, Loader};
+use dap_wires::Writes;
 use pl0_code::compile;
 use pl0_syntax::parse;
 use pl0_tree::{FaultKind, Place, SyntaxFault};
@@ -52,7 +53,7 @@ impl Checked {
 /// # Errors
 ///
 /// `WriteFailed` leaves a prefix of the listing written. After all others nothing was written.
-pub fn check<R: Wait, L: Loader, O: Sink>(
+pub fn check<R: Wait + Drop, L: Loader, O: Sink>(
     rt: &R,
     alloc: Global,
     path: &str,
@@ -67,15 +68,15 @@ pub fn check<R: Wait, L: Loader, O: Sink>(
 }
 
 /// Does what [`check`] does, and returns the text of the file besides.
-pub(crate) fn check_keeping<R: Wait, L: Loader, O: Sink>(
-    rt: &R,
+pub(crate) fn check_keeping<R: Writes<O>, L: Loader, O>(
+    rights: &R,
     alloc: Global,
     path: &str,
     loader: &mut L,
     output: &mut O,
 ) -> Checked
     ensures checked { IsChecked path.now result.outcome (L.loaded loader.old) (L.loaded loader.new)
-        (O.output output.old) (O.output output.new) }
+        (R.output output.old) (R.output output.new) }
     ensures loader { L.origin loader.new ≡ L.origin loader.old }
 {
     let text = match loader.load(path) {
@@ -94,7 +95,7 @@ pub(crate) fn check_keeping<R: Wait, L: Loader, O: Sink>(
             return Checked { outcome, text };
         }
     };
-    let outcome = match write_all(rt, output, listing.as_bytes()) {
+    let outcome = match rights.write_bytes(output, listing.as_bytes()) {
         Ok(()) => Ok(()),
         Err(WriteFailed) => Err(CheckFault::WriteFailed),
     };

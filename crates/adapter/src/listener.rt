@@ -6,7 +6,6 @@ ghost use Rattle.adapter.specs.ThreadTasks.{outcome_if_driven};
 use crate::serving::{ServeFault, Served, outcome};
 use crate::tasks::Witness;
 use crate::thread_tasks::{SessionOutput, WriterOutput};
-use std::sync::Wait;
 
 /// Is told how serving ended.
 pub trait EndListener {
@@ -62,7 +61,7 @@ impl<'a, E> ListenerWitness<'a, E> {
     }
 }
 
-impl<'a, 'o, 'l, O, L, R: Wait + Drop, E: EndListener> Witness<
+impl<'a, 'o, 'l, O, L, R: Drop, E: EndListener> Witness<
     WriterOutput<'o, O>,
     SessionOutput<'l, L, R>,
 > for ListenerWitness<'a, E> {

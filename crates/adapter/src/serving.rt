@@ -7,11 +7,12 @@ ghost use Rattle.adapter.specs.ThreadTasks.{outcome_if_driven};
 ghost use Rattle.dap_wires.specs.Wires.{AreUnused, AreJoined};
 
 use crate::listener::{EndListener, ListenerWitness, tell};
+use crate::rights::{Drives, Works};
 use crate::tasks::run_beside;
 use crate::thread_tasks::{ReaderOutput, RunnerOutput, SessionOutput, WriterOutput, tasks_over};
-use byte_streams::{Sink, Source, WriteFailed};
+use byte_streams::WriteFailed;
 use dap_session::{Closed, Dialect, Loader, SessionFault};
-use dap_wires::{Wires, reconcile};
+use dap_wires::{Reads, Wires, Writes, reconcile};
 use dbg_runner::Gate;
 use std::alloc::{AllocError, Global};
 use std::sync::Wait;
@@ -43,8 +44,9 @@ pub enum ServeFault {
 const NO_MEMORY: Result<Served, ServeFault> = Err(ServeFault::Session(SessionFault::NoMemory));
 
 /// Serves an input and an output: a reader, a runner and a writer work in threads of their own, the session in this one,
-/// and all are joined. The client speaks `dialect`. The loader is asked for the program of each launch, and each slice of
-/// a run passes the gate. The listener is told how serving ended before the reader is joined.
+/// and all are joined. Of the input and the output it knows the types alone: what is done with them is what `rights` can,
+/// as the host's handle can. The client speaks `dialect`. The loader is asked for the program of each launch, and each
+/// slice of a run passes the gate. The listener is told how serving ended before the reader is joined.
 ///
 /// After the answer to `disconnect` the reader ends when its next read returns. What was read then changes nothing.
 ///
@@ -54,8 +56,9 @@ const NO_MEMORY: Result<Served, ServeFault> = Err(ServeFault::Session(SessionFau
 /// and the runs call for; after a failed read or a framing fault, all of it was written. Where several failed, a failed
 /// write is returned before a session fault, and that before a failed read. If a thread can't be started, those that were
 /// started are joined, and nothing was read, loaded, run or written.
-pub fn serve<R, I, O, L, G, E>(
-    rt: &R,
+pub fn serve<T, R, I, O, L, G, E>(
+    rt: &T,
+    rights: &R,
     alloc: Global,
     dialect: Dialect,
     input: &mut I,
@@ -65,31 +68,33 @@ pub fn serve<R, I, O, L, G, E>(
     listener: &mut E,
 ) -> Result<Served, ServeFault>
 where
-    R: Threads + Wait + Copy + Drop + Send,
-    I: Source + Send,
-    O: Sink + Send,
+    T: Threads + Wait,
+    R: Reads<I> + Writes<O> + Drives + Works + Copy + Drop + Send,
+    I: Send,
+    O: Send,
     L: Loader,
     G: Gate + Send,
     E: EndListener,
     ensures served { IsServed dialect result
         (world (L.loaded loader.old) (G.passed gate.old)
-        (streams (I.supply input.old) (O.output output.old)))
+        (streams (R.supply input.old) (R.output output.old)))
         (world (L.loaded loader.new) (G.passed gate.new)
-        (streams (I.supply input.new) (O.output output.new))) }
+        (streams (R.supply input.new) (R.output output.new))) }
     ensures loader { L.origin loader.new ≡ L.origin loader.old }
     ensures told { E.tells listener.old listener.new result }
 {
-    match Wires::new(*rt, alloc) {
+    match Wires::new(*rights, alloc) {
         Ok(wires) => serve_over(
-            rt, alloc, dialect, wires, input, output, loader, gate, listener,
+            rt, rights, alloc, dialect, wires, input, output, loader, gate, listener,
         ),
         Err(AllocError) => tell(listener, NO_MEMORY),
     }
 }
 
 /// Serves as [`serve`] does, over queues that nothing went through.
-fn serve_over<R, I, O, L, G, E>(
-    rt: &R,
+fn serve_over<T, R, I, O, L, G, E>(
+    rt: &T,
+    rights: &R,
     alloc: Global,
     dialect: Dialect,
     wires: Wires<R>,
@@ -100,9 +105,10 @@ fn serve_over<R, I, O, L, G, E>(
     listener: &mut E,
 ) -> Result<Served, ServeFault>
 where
-    R: Threads + Wait + Copy + Drop + Send,
-    I: Source + Send,
-    O: Sink + Send,
+    T: Threads + Wait,
+    R: Reads<I> + Writes<O> + Drives + Works + Copy + Drop + Send,
+    I: Send,
+    O: Send,
     L: Loader,
     G: Gate + Send,
     E: EndListener,
@@ -110,14 +116,14 @@ where
     requires joined { AreJoined wires }
     ensures served { IsServed dialect result
         (world (L.loaded loader.old) (G.passed gate.old)
-        (streams (I.supply input.old) (O.output output.old)))
+        (streams (R.supply input.old) (R.output output.old)))
         (world (L.loaded loader.new) (G.passed gate.new)
-        (streams (I.supply input.new) (O.output output.new))) }
+        (streams (R.supply input.new) (R.output output.new))) }
     ensures loader { L.origin loader.new ≡ L.origin loader.old }
     ensures told { E.tells listener.old listener.new result }
 {
     let (writer, runner, reader, session) = tasks_over(
-        *rt, alloc, dialect, wires, input, output, loader, gate,
+        *rights, alloc, dialect, wires, input, output, loader, gate,
     );
     let witness = ListenerWitness::new(listener);
     // The reader is started last, since nothing can wake it from a read.

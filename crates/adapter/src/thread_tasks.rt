@@ -13,21 +13,20 @@ ghost use Rattle.dap_wires.specs.Orders.{pushed_orders, push_queue, taken_orders
 ghost use Rattle.dap_wires.specs.Writing.{IsWrittenUntil, OwesNothing};
 ghost use Rattle.adapter.specs.ThreadTasks.{SessionEndsAs, ReaderEndsAs};
 
-use crate::gates::{Gated, OpenGate};
+use crate::rights::{Drives, Works};
 use crate::tasks::{OptionalTask, Task};
-use byte_streams::{Sink, Source, WriteFailed};
-use dap_session::{Closed, Dialect, Loader, Order, Orders, SessionFault, drive};
+use byte_streams::WriteFailed;
+use dap_session::{Closed, Dialect, Loader, SessionFault};
 use dap_wires::{
-    ClientSender, FrameSender, OrderReceiver, OrderSender, OutboxLog, ReadEnd, ReportSender,
-    SessionEnds, SessionInbox, Wires, WriterEnd, read_loop, write_loop,
+    ClientSender, FrameSender, OrderReceiver, OrderSender, OutboxLog, ReadEnd, Reads, ReportSender,
+    SessionEnds, SessionInbox, Wires, WriterEnd, Writes,
 };
-use dbg_runner::{Gate, Joined, work};
+use dbg_runner::Gate;
 use std::alloc::Global;
-use std::sync::Wait;
 
 /// Reading the input.
 #[derive(Drop)]
-pub struct ReaderTask<'a, I, R: Wait + Drop> {
+pub struct ReaderTask<'a, I, R: Drop> {
     rt: R,
     alloc: Global,
     input: &'a mut I,
@@ -36,21 +35,21 @@ pub struct ReaderTask<'a, I, R: Wait + Drop> {
 
 /// What the reader's task returns.
 #[derive(Drop)]
-pub struct ReaderOutput<'a, I, R: Wait + Drop> {
+pub struct ReaderOutput<'a, I, R: Drop> {
     pub input: &'a mut I,
     pub inbox: ClientSender<R>,
     /// How reading ended; `None` if nothing was read.
     pub end: Option<ReadEnd>,
 }
 
-impl<'a, I: Source, R: Wait + Drop> Task for ReaderTask<'a, I, R> {
+impl<'a, I, R: Reads<I>> Task for ReaderTask<'a, I, R> {
     type Output = ReaderOutput<'a, I, R>;
 
     ghost can_run = { λ _. ⊤ };
 
     ghost gives = { λ t r. (r.input.ghost_name ≡ t.input.ghost_name) × (client_queue r.inbox ≡ client_queue t.inbox)
-        × ReaderEndsAs r.end (client_events t.inbox) (client_events r.inbox) (I.supply t.input.now)
-        (I.supply r.input.now) };
+        × ReaderEndsAs r.end (client_events t.inbox) (client_events r.inbox) (R.supply t.input.now)
+        (R.supply r.input.now) };
 
     ghost is_done = { λ r. is_some r.end };
 
@@ -61,13 +60,13 @@ impl<'a, I: Source, R: Wait + Drop> Task for ReaderTask<'a, I, R> {
             input,
             mut inbox,
         } = self;
-        let end = Some(read_loop(&rt, alloc, input, &mut inbox));
+        let end = Some(rt.read_into(alloc, input, &mut inbox));
         ReaderOutput { input, inbox, end }
     }
 }
 
 /// If a thread can't be started, nothing is read.
-impl<'a, I: Source, R: Wait + Drop> OptionalTask for ReaderTask<'a, I, R> {
+impl<'a, I, R: Reads<I>> OptionalTask for ReaderTask<'a, I, R> {
     fn leave(self) -> ReaderOutput<'a, I, R> {
         let ReaderTask { input, inbox, .. } = self;
         ReaderOutput {
@@ -80,7 +79,7 @@ impl<'a, I: Source, R: Wait + Drop> OptionalTask for ReaderTask<'a, I, R> {
 
 /// Writing the output.
 #[derive(Drop)]
-pub struct WriterTask<'a, O, R: Wait + Drop> {
+pub struct WriterTask<'a, O, R: Drop> {
     rt: R,
     output: &'a mut O,
     outbox: WriterEnd<O, R>,
@@ -94,14 +93,14 @@ pub struct WriterOutput<'a, O> {
     pub wrote: Result<(), WriteFailed>,
 }
 
-impl<'a, O: Sink, R: Wait + Drop> Task for WriterTask<'a, O, R> {
+impl<'a, O, R: Writes<O>> Task for WriterTask<'a, O, R> {
     type Output = WriterOutput<'a, O>;
 
-    ghost can_run = { λ t. OwesNothing (end_taken t.outbox) (O.output (end_first t.outbox)) (O.output t.output.now) };
+    ghost can_run = { λ t. OwesNothing (end_taken t.outbox) (R.output (end_first t.outbox)) (R.output t.output.now) };
 
     ghost gives = { λ t r. (r.output.ghost_name ≡ t.output.ghost_name) × (received_queue r.log ≡ end_queue t.outbox)
         × ((taken : List WriterMessage) × (messages_received r.log ≡ end_taken t.outbox ++ taken)
-        × IsWrittenUntil r.wrote taken (O.output t.output.now) (O.output r.output.now)) };
+        × IsWrittenUntil r.wrote taken (R.output t.output.now) (R.output r.output.now)) };
 
     ghost is_done = { λ _. true };
 
@@ -111,7 +110,7 @@ impl<'a, O: Sink, R: Wait + Drop> Task for WriterTask<'a, O, R> {
             output,
             mut outbox,
         } = self;
-        let wrote = write_loop(&rt, output, &mut outbox);
+        let wrote = rt.write_from(output, &mut outbox);
         WriterOutput {
             output,
             log: outbox.leave(),
@@ -122,7 +121,7 @@ impl<'a, O: Sink, R: Wait + Drop> Task for WriterTask<'a, O, R> {
 
 /// Running the program that is debugged.
 #[derive(Drop)]
-pub struct RunnerTask<'a, G, R: Wait + Drop> {
+pub struct RunnerTask<'a, G, R: Drop> {
     rt: R,
     alloc: Global,
     orders: OrderReceiver<R>,
@@ -132,13 +131,13 @@ pub struct RunnerTask<'a, G, R: Wait + Drop> {
 
 /// What the runner's task returns.
 #[derive(Drop)]
-pub struct RunnerOutput<'a, G, R: Wait + Drop> {
+pub struct RunnerOutput<'a, G, R: Drop> {
     pub orders: OrderReceiver<R>,
     pub reports: ReportSender<R>,
     pub gate: &'a mut G,
 }
 
-impl<'a, G: Gate, R: Wait + Drop> Task for RunnerTask<'a, G, R> {
+impl<'a, G: Gate, R: Works> Task for RunnerTask<'a, G, R> {
     type Output = RunnerOutput<'a, G, R>;
 
     ghost can_run = { λ t. (taken_orders t.orders ≡ []) × (sent_reports t.reports ≡ [])
@@ -160,10 +159,7 @@ impl<'a, G: Gate, R: Wait + Drop> Task for RunnerTask<'a, G, R> {
             reports,
             gate,
         } = self;
-        let mut ports = Gated::new(Joined::new(orders, reports, OpenGate::new()), gate);
-        work(&rt, alloc, &mut ports);
-        let (ports, gate) = ports.into_parts();
-        let (orders, reports, _) = ports.into_ports();
+        let (orders, reports) = rt.work_over(alloc, orders, reports, gate);
         RunnerOutput {
             orders,
             reports,
@@ -174,7 +170,7 @@ impl<'a, G: Gate, R: Wait + Drop> Task for RunnerTask<'a, G, R> {
 
 /// Driving the session, in the thread that joins the others.
 #[derive(Drop)]
-pub struct SessionTask<'a, L, R: Wait + Drop> {
+pub struct SessionTask<'a, L, R: Drop> {
     rt: R,
     alloc: Global,
     dialect: Dialect,
@@ -186,14 +182,14 @@ pub struct SessionTask<'a, L, R: Wait + Drop> {
 
 /// What the session's task returns.
 #[derive(Drop)]
-pub struct SessionOutput<'a, L, R: Wait + Drop> {
+pub struct SessionOutput<'a, L, R: Drop> {
     pub loader: &'a mut L,
     pub ends: SessionEnds<R>,
     /// How the session ended; `None` if it was not driven.
     pub closed: Option<Result<Closed, SessionFault>>,
 }
 
-impl<'a, L: Loader, R: Wait + Drop> Task for SessionTask<'a, L, R> {
+impl<'a, L: Loader, R: Drives> Task for SessionTask<'a, L, R> {
     type Output = SessionOutput<'a, L, R>;
 
     // The inbox is that of a session over these ports, which has taken and put nothing.
@@ -223,18 +219,10 @@ impl<'a, L: Loader, R: Wait + Drop> Task for SessionTask<'a, L, R> {
             mut orders,
         } = self;
         let events = &mut inbox;
-        let end = drive(
-            &rt,
-            alloc,
-            dialect,
-            events,
-            loader,
-            &mut outbox,
-            &mut orders,
-        );
+        let end = rt.drive_over(alloc, dialect, events, loader, &mut outbox, &mut orders);
         let ends = SessionEnds {
             inbox: inbox.leave(),
-            outbox: outbox.finish(),
+            outbox: rt.finish(outbox),
             orders,
         };
         SessionOutput {
@@ -247,19 +235,20 @@ impl<'a, L: Loader, R: Wait + Drop> Task for SessionTask<'a, L, R> {
 
 /// If a thread can't be started, the session is not driven: the writer gets `End` and the runner `Quit`, and the loader is
 /// asked for nothing.
-impl<'a, L: Loader, R: Wait + Drop> OptionalTask for SessionTask<'a, L, R> {
+impl<'a, L: Loader, R: Drives> OptionalTask for SessionTask<'a, L, R> {
     fn leave(self) -> SessionOutput<'a, L, R> {
         let SessionTask {
+            rt,
             loader,
             inbox,
             outbox,
             mut orders,
             ..
         } = self;
-        let _ = orders.push(Order::Quit);
+        rt.order_to_quit(&mut orders);
         let ends = SessionEnds {
             inbox: inbox.leave(),
-            outbox: outbox.finish(),
+            outbox: rt.finish(outbox),
             orders,
         };
         SessionOutput {
@@ -271,7 +260,7 @@ impl<'a, L: Loader, R: Wait + Drop> OptionalTask for SessionTask<'a, L, R> {
 }
 
 /// Makes the tasks of the writer, the runner, the reader and the session, each with the ends of the queues that it needs.
-pub fn tasks_over<'a, R: Wait + Copy + Drop, I, O: Sink, L, G>(
+pub fn tasks_over<'a, R: Copy + Drop, I, O, L, G>(
     rt: R,
     alloc: Global,
     dialect: Dialect,

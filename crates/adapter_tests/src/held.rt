@@ -203,6 +203,7 @@ fn tells_how_it_ended_before_the_input_ends(rt: HostRuntime) {
         let progress = Progress::new();
         let came = serve(
             &rt,
+            &rt,
             alloc,
             Dialect::Codes,
             &mut Input::new(&rt, sent, streams, &progress),

@@ -39,6 +39,7 @@ where
     let given = Ok(arguments(rt, words).into_iter());
     let reason = run(
         rt,
+        rt,
         Dialect::Codes,
         given,
         files,

@@ -45,6 +45,7 @@ where
     let dialect = Dialect::Codes;
     let reason = execute(
         rt,
+        rt,
         dialect,
         arguments,
         loader,
@@ -202,6 +203,7 @@ fn ends_so_where_errors_cannot_be_written(rt: HostRuntime) {
     let files = &mut Files::none(alloc);
     let dialect = Dialect::Codes;
     let reason = execute(
+        &rt,
         &rt,
         dialect,
         &CHECK,

@@ -37,6 +37,7 @@ pub fn run<R: Threads + Wait + Abort + Copy + Drop + Send + Sync>(
     let mut gate = SliceGate::new(rt, streams, &progress);
     let end = serve(
         rt,
+        rt,
         alloc,
         Dialect::Codes,
         &mut input,
@@ -206,6 +207,7 @@ fn serves_streams_of_std(rt: HostRuntime) {
     let progress = Progress::new();
     let result = serve(
         &rt,
+        &rt,
         alloc,
         Dialect::Codes,
         &mut Reading::new(&rt, input.as_slice()),
@@ -241,6 +243,7 @@ fn serves_clients_that_count_from_zero(rt: HostRuntime) {
         let mut output = Vec::new(alloc);
         let progress = Progress::new();
         let result = serve(
+            &rt,
             &rt,
             alloc,
             dialect,

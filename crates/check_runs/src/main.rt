@@ -31,18 +31,45 @@ fn main(rt: HostRuntime) -> Result<(), anyhow::Error> {
     let errors = &mut Writing::new(&rt, rt.stdout());
     println!(rt; "two.pl0:")?;
     let given = env::args(&rt);
-    let reason = run(&rt, Dialect::Codes, given, files, input, output, errors);
+    let reason = run(
+        &rt,
+        &rt,
+        Dialect::Codes,
+        given,
+        files,
+        input,
+        output,
+        errors,
+    );
     println!(rt; "status {}", reason.status())?;
     for file in FILES {
         println!(rt; "{file}:")?;
         let given = arguments(rt.alloc(), &["--check", file])?;
-        let reason = run(&rt, Dialect::Codes, Ok(given), files, input, output, errors);
+        let reason = run(
+            &rt,
+            &rt,
+            Dialect::Codes,
+            Ok(given),
+            files,
+            input,
+            output,
+            errors,
+        );
         println!(rt; "status {}", reason.status())?;
     }
     for option in ["--help", "--check", "--chec"] {
         println!(rt; "{option}:")?;
         let given = arguments(rt.alloc(), &[option])?;
-        let reason = run(&rt, Dialect::Codes, Ok(given), files, input, output, errors);
+        let reason = run(
+            &rt,
+            &rt,
+            Dialect::Codes,
+            Ok(given),
+            files,
+            input,
+            output,
+            errors,
+        );
         println!(rt; "status {}", reason.status())?;
     }
     Ok(())

@@ -20,7 +20,7 @@ const POLLS: usize = 256;
 /// # Errors
 ///
 /// `AllocError`, where an allocation failed.
-pub(crate) fn channel<M: Sent + Drop, R: Wait + Copy + Drop>(
+pub(crate) fn channel<M: Sent + Drop, R: Copy + Drop>(
     rt: R,
     alloc: Global,
     capacity: usize,
@@ -58,7 +58,7 @@ pub(crate) fn channel<M: Sent + Drop, R: Wait + Copy + Drop>(
 /// # Errors
 ///
 /// `AllocError`, where an allocation failed.
-pub(crate) fn channel_of_one<M: Sent + Drop, R: Wait + Copy + Drop>(
+pub(crate) fn channel_of_one<M: Sent + Drop, R: Copy + Drop>(
     rt: R,
     alloc: Global,
     capacity: usize,
@@ -83,7 +83,7 @@ pub(crate) fn channel_of_one<M: Sent + Drop, R: Wait + Copy + Drop>(
 
 /// Brings the logs of all ends together, when all threads were joined, and proves that of each sender what was received,
 /// and then what is left inside, is what it sent.
-pub(crate) fn reconcile<M: Sent + Drop, R: Wait + Drop>(
+pub(crate) fn reconcile<M: Sent + Drop, R: Drop>(
     first: SendEnd<M, R>,
     second: SendEnd<M, R>,
     log: ReceiveLog<M>,
@@ -110,10 +110,7 @@ pub(crate) fn reconcile<M: Sent + Drop, R: Wait + Drop>(
 
 /// Brings the logs of both ends of a queue of one sender together, when both threads were joined, and proves that what was
 /// received, and then what is left inside, is what was sent.
-pub(crate) fn reconcile_one<M: Sent + Drop, R: Wait + Drop>(
-    first: SendEnd<M, R>,
-    log: ReceiveLog<M>,
-)
+pub(crate) fn reconcile_one<M: Sent + Drop, R: Drop>(first: SendEnd<M, R>, log: ReceiveLog<M>)
     requires one { receive_log_queue log ≡ sender_queue first }
     requires first { (sender_log first).first ≡ true }
     requires second { (receive_log log).second ≡ true }
@@ -176,7 +173,9 @@ impl<M: Sent + Drop, R: Wait + Drop> ReceiveEnd<M, R> {
         }
         receiver.recv_as::<Takes, R>(rt, pass).ok()
     }
+}
 
+impl<M: Sent + Drop, R: Drop> ReceiveEnd<M, R> {
     /// Leaves the queue: from now on `send` returns its message as an error.
     pub(crate) fn leave(self) -> ReceiveLog<M>
         ensures log { receive_log result ≡ receiver_log self }

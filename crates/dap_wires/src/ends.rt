@@ -7,11 +7,10 @@ ghost use Rattle.crossbeam_channel.specs.Ends.{sends_on, receives_on};
 use crate::end_log::EndLog;
 use crate::rule::{InOrder, Sent};
 use crossbeam_channel::{Pass, RuledReceiver, RuledSender};
-use std::sync::Wait;
 
 /// The end of one sender.
 #[derive(Drop)]
-pub(crate) struct SendEnd<M: Sent + Drop, R: Wait + Drop> {
+pub(crate) struct SendEnd<M: Sent + Drop, R: Drop> {
     pub(crate) rt: R,
     pub(crate) sender: RuledSender<M, EndLog<M>, InOrder>,
     pub(crate) pass: Pass<M, EndLog<M>>,
@@ -20,7 +19,7 @@ pub(crate) struct SendEnd<M: Sent + Drop, R: Wait + Drop> {
 
 /// The end of the receiver.
 #[derive(Drop)]
-pub(crate) struct ReceiveEnd<M: Sent + Drop, R: Wait + Drop> {
+pub(crate) struct ReceiveEnd<M: Sent + Drop, R: Drop> {
     pub(crate) rt: R,
     pub(crate) receiver: RuledReceiver<M, EndLog<M>, InOrder>,
     pub(crate) pass: Pass<M, EndLog<M>>,

@@ -17,11 +17,10 @@ use dap_session::Event;
 use dbg_runner::{GhostList, Report};
 use std::alloc::Global;
 use std::collections::VecDeque;
-use std::sync::Wait;
 
 /// The end of the reader, which sends what comes from a client.
 #[derive(Drop)]
-pub struct ClientSender<R: Wait + Drop> {
+pub struct ClientSender<R: Drop> {
     pub(crate) end: SendEnd<Arrival, R>,
     // What was returned as an error.
     pub(crate) handed_back: GhostList<Event>,
@@ -31,7 +30,7 @@ pub struct ClientSender<R: Wait + Drop> {
 
 /// The end of the runner, which sends reports.
 #[derive(Drop)]
-pub struct ReportSender<R: Wait + Drop> {
+pub struct ReportSender<R: Drop> {
     pub(crate) alloc: Global,
     pub(crate) end: SendEnd<Arrival, R>,
     // Where the outputs of each report are counted.

@@ -22,7 +22,7 @@ use std::sync::Wait;
 /// The end of the session, which receives events. Its fields are private, so that none is waited for while one that was
 /// taken isn't given.
 #[derive(Drop)]
-pub struct EventReceiver<R: Wait + Drop> {
+pub struct EventReceiver<R: Drop> {
     end: ReceiveEnd<Arrival, R>,
     window: WindowExit,
     // What was taken from the queue and isn't given yet.
@@ -35,7 +35,7 @@ pub struct EventReceiver<R: Wait + Drop> {
         ++ map event.Report rest.items } by { Coded-set (coded_list event_row.the_row.coded) _ _ },
 }
 
-impl<R: Wait + Drop> EventReceiver<R> {
+impl<R: Drop> EventReceiver<R> {
     ghost use Rattle.std.specs.Prelude.{◌≡◌, ◌++◌, ◌∷◌, [], true, IfSome, IfNone};
     ghost use Rattle.dap_session.specs.Incoming.{incoming_of};
     ghost use Rattle.dap_wires.specs.Ends.{receiver_log, receiver_queue, receiver_room};
@@ -75,6 +75,32 @@ impl<R: Wait + Drop> EventReceiver<R> {
         Some(event)
     }
 
+    /// Leaves the inbox: from now on each event or report that is sent is returned as an error.
+    pub fn leave(self) -> InboxLog
+        ensures received { received result ≡ taken_events self }
+        ensures queue { left_queue result ≡ event_queue self }
+    {
+        let EventReceiver {
+            end,
+            rest,
+            given,
+            ..
+        } = self;
+        InboxLog {
+            log: end.leave(),
+            rest,
+            given,
+        }
+    }
+}
+
+impl<R: Wait + Drop> EventReceiver<R> {
+    ghost use Rattle.std.specs.Prelude.{◌≡◌, ◌++◌, ◌∷◌, [], true, IfSome, IfNone};
+    ghost use Rattle.dap_session.specs.Incoming.{incoming_of};
+    ghost use Rattle.dap_wires.specs.Ends.{receiver_log, receiver_queue, receiver_room};
+    ghost use Rattle.dap_wires.specs.Inbox.{taken_events, ungiven_reports, event_queue, received, left_queue};
+    ghost use Rattle.dap_wires.specs.Rooms.{inbox_room};
+
     /// Takes the next message, where all that was taken before was given, and gives the event in it. Blocks until there is
     /// one. Returns `None` where it is of quiet reports, which [`give_kept`](Self::give_kept) gives, and where an allocation
     /// failed or the senders are gone.
@@ -98,24 +124,6 @@ impl<R: Wait + Drop> EventReceiver<R> {
                 self.rest = reports;
                 None
             }
-        }
-    }
-
-    /// Leaves the inbox: from now on each event or report that is sent is returned as an error.
-    pub fn leave(self) -> InboxLog
-        ensures received { received result ≡ taken_events self }
-        ensures queue { left_queue result ≡ event_queue self }
-    {
-        let EventReceiver {
-            end,
-            rest,
-            given,
-            ..
-        } = self;
-        InboxLog {
-            log: end.leave(),
-            rest,
-            given,
         }
     }
 }

@@ -32,7 +32,7 @@ const QUIET_LIMIT: usize = 16;
 /// # Errors
 ///
 /// `AllocError`, where an allocation failed.
-pub fn inbox<R: Wait + Copy + Drop>(
+pub fn inbox<R: Copy + Drop>(
     rt: R,
     alloc: Global,
 ) -> Result<(ClientSender<R>, ReportSender<R>, EventReceiver<R>), AllocError>
@@ -61,11 +61,7 @@ pub fn inbox<R: Wait + Copy + Drop>(
 
 /// Brings the logs of all ends together, when all threads were joined, and proves that what the session received is, of the
 /// reader and of the runner, a prefix of what each sent.
-pub fn reconcile_inbox<R: Wait + Drop>(
-    client: ClientSender<R>,
-    reports: ReportSender<R>,
-    log: InboxLog,
-)
+pub fn reconcile_inbox<R: Drop>(client: ClientSender<R>, reports: ReportSender<R>, log: InboxLog)
     requires one { (report_queue reports ≡ client_queue client) × (left_queue log ≡ client_queue client) }
     ensures client { IsPrefixOf (from_client (received log)) (client_events client) }
     ensures reports { IsPrefixOf (reports_among (received log)) (sent_reports reports) }

@@ -9,11 +9,10 @@ use crate::bundle::Bundle;
 use crate::ends::{ReceiveEnd, ReceiveLog, SendEnd};
 use crate::writer_message::WriterMessage;
 use dbg_runner::GhostList;
-use std::sync::Wait;
 
 /// The end of the session, which puts frames.
 #[derive(Drop)]
-pub struct FrameSender<R: Wait + Drop> {
+pub struct FrameSender<R: Drop> {
     pub(crate) end: SendEnd<WriterMessage, R>,
     // The frames that were put and aren't in the queue.
     pub(crate) kept: Option<Bundle>,
@@ -29,7 +28,7 @@ pub struct FrameSender<R: Wait + Drop> {
 
 /// The end of a session that puts no more frames.
 #[derive(Drop)]
-pub struct EndedSender<R: Wait + Drop> {
+pub struct EndedSender<R: Drop> {
     pub(crate) end: SendEnd<WriterMessage, R>,
     // The frames that were put and never came into the queue.
     pub(crate) kept: Option<Bundle>,
@@ -38,7 +37,7 @@ pub struct EndedSender<R: Wait + Drop> {
 
 /// The end of the writer, which takes frames.
 #[derive(Drop)]
-pub struct FrameReceiver<R: Wait + Drop> {
+pub struct FrameReceiver<R: Drop> {
     pub(crate) end: ReceiveEnd<WriterMessage, R>,
     ghost takes: { (receiver_log end).takes ≡ true },
     ghost joins: { (receiver_log end).second ≡ true },

@@ -23,7 +23,7 @@ const OUTBOX_CAPACITY: usize = 64;
 /// # Errors
 ///
 /// `AllocError`, where an allocation failed.
-pub fn outbox<R: Wait + Copy + Drop>(
+pub fn outbox<R: Copy + Drop>(
     rt: R,
     alloc: Global,
 ) -> Result<(FrameSender<R>, FrameReceiver<R>), AllocError>
@@ -46,7 +46,7 @@ pub fn outbox<R: Wait + Copy + Drop>(
 
 /// Brings the logs of both ends together, when both threads were joined, and proves that the messages that the writer
 /// received are a prefix of those that the session put.
-pub fn reconcile_outbox<R: Wait + Drop>(frames: EndedSender<R>, log: OutboxLog)
+pub fn reconcile_outbox<R: Drop>(frames: EndedSender<R>, log: OutboxLog)
     requires { received_queue log ≡ ended_queue frames }
     ensures taken { IsPrefixOf (messages_received log) (messages_put frames) }
 {
@@ -183,7 +183,9 @@ impl<R: Wait + Drop> FrameReceiver<R> {
     {
         self.end.receive()
     }
+}
 
+impl<R: Drop> FrameReceiver<R> {
     /// Leaves the outbox: from now on a frame that is put is returned as an error.
     pub fn leave(self) -> OutboxLog
         ensures received { messages_received result ≡ messages_taken self }

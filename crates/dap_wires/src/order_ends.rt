@@ -12,7 +12,7 @@ use crossbeam_queue::{Pass, RuledArrayQueue};
 use crossbeam_utils::sync::{Parker, Unparker};
 use dbg_runner::{GhostList, Order};
 use std::alloc::Global;
-use std::sync::{Arc, Wait};
+use std::sync::Arc;
 
 /// The session sends all orders, as the first sender.
 impl Sent for Order {
@@ -26,7 +26,7 @@ pub(crate) type OrderQueue = RuledArrayQueue<Order, EndLog<Order>, InOrder>;
 
 /// The end of the session, which pushes orders.
 #[derive(Drop)]
-pub struct OrderSender<R: Wait + Drop> {
+pub struct OrderSender<R: Drop> {
     pub(crate) rt: R,
     pub(crate) queue: Arc<OrderQueue, Global>,
     pub(crate) pass: Pass<Order, EndLog<Order>>,
@@ -42,7 +42,7 @@ pub struct OrderSender<R: Wait + Drop> {
 
 /// The end of the runner, which takes orders.
 #[derive(Drop)]
-pub struct OrderReceiver<R: Wait + Drop> {
+pub struct OrderReceiver<R: Drop> {
     pub(crate) rt: R,
     pub(crate) queue: Arc<OrderQueue, Global>,
     pub(crate) pass: Pass<Order, EndLog<Order>>,

@@ -28,7 +28,7 @@ const ORDERS_CAPACITY: usize = 4;
 /// # Errors
 ///
 /// `AllocError`, where an allocation failed.
-pub fn orders<R: Wait + Copy + Drop>(
+pub fn orders<R: Copy + Drop>(
     rt: R,
     alloc: Global,
 ) -> Result<(OrderSender<R>, OrderReceiver<R>), AllocError>
@@ -61,7 +61,7 @@ pub fn orders<R: Wait + Copy + Drop>(
 
 /// Brings the logs of both ends together, when both threads were joined, and proves that the orders that the runner took
 /// are a prefix of those that the session pushed.
-pub fn reconcile_orders<R: Wait + Drop>(session: OrderSender<R>, runner: OrderReceiver<R>)
+pub fn reconcile_orders<R: Drop>(session: OrderSender<R>, runner: OrderReceiver<R>)
     requires { pop_queue runner ≡ push_queue session }
     ensures taken { IsPrefixOf (taken_orders runner) (pushed_orders session).orders }
     ensures full { (pushed_orders session).fulls ≢ 0 → EnoughWerePushed (pushed_orders session).orders }

@@ -9,6 +9,7 @@ ghost use Rattle.dap_wires.specs.Reading.{IsReadUntil, HasSentAll, end_by};
 
 use crate::event_ends::ClientSender;
 use crate::transfer::{PIECE_LIMIT, Pieces};
+use byte_streams::Source;
 use dap_session::Event;
 use std::alloc::Global;
 use std::sync::Wait;
@@ -24,6 +25,35 @@ pub enum ReadEnd {
     NoMemory,
     /// The session had left the inbox, so an event was returned as an error.
     HandedBack,
+}
+
+/// The right to read inputs of one type into inboxes. Who has this right, and of the input knows no more than its type, can
+/// read it by no other way: it is read on only where all that was read of it is sent.
+pub trait Reads<I>: Drop + Sized {
+    ghost use Rattle.std.specs.Prelude.{◌≡◌, ◌++◌, List};
+    ghost use Rattle.byte_streams.specs.Streams.{Supply, IsOfWhole};
+    ghost use Rattle.dap_history.specs.Events.{Incoming};
+    ghost use Rattle.dap_wires.specs.Inbox.{client_events, client_queue, returned_events};
+    ghost use Rattle.dap_wires.specs.Reading.{IsReadUntil};
+
+    /// What the reads of an input gave.
+    ghost supply: { I → Supply };
+
+    /// Reads as [`read_loop`] does.
+    fn read_into(&self, alloc: Global, source: &mut I, inbox: &mut ClientSender<Self>) -> ReadEnd
+        ensures read { (sent : List Incoming) × (client_events inbox.new ≡ client_events inbox.old ++ sent)
+            × IsReadUntil result sent (supply source.old) (supply source.new) }
+        ensures of_whole { ∥ IsOfWhole (supply source.new) ∥₁ }
+        ensures queue { client_queue inbox.new ≡ client_queue inbox.old };
+}
+
+/// Each source, by [`read_loop`].
+impl<I: Source, R: Wait + Drop> Reads<I> for R {
+    ghost supply = { I.supply };
+
+    fn read_into(&self, alloc: Global, source: &mut I, inbox: &mut ClientSender<R>) -> ReadEnd {
+        read_loop(self, alloc, source, inbox)
+    }
 }
 
 /// Reads pieces of an input and sends them, until the input ends, a read or an allocation fails, or the session has left

@@ -12,7 +12,7 @@ use std::sync::Wait;
 /// The inbox of one session, with this loader and these other ports. The next event is taken only where the session owes
 /// nothing. The types of the ports are part of this type, so that a session has no others to show.
 #[derive(Drop)]
-pub struct SessionInbox<L, O, D, R: Wait + Drop> {
+pub struct SessionInbox<L, O, D, R: Drop> {
     rt: R,
     events: EventReceiver<R>,
     dialect: Dialect,
@@ -22,7 +22,7 @@ pub struct SessionInbox<L, O, D, R: Wait + Drop> {
     orders: Snapshot<D>,
 }
 
-impl<L, O, D, R: Wait + Drop> SessionInbox<L, O, D, R> {
+impl<L, O, D, R: Drop> SessionInbox<L, O, D, R> {
     /// The inbox of a session that has taken nothing, whose client speaks `dialect`.
     pub fn new(
         rt: R,

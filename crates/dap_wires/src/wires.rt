@@ -16,11 +16,10 @@ use crate::frames::{outbox, reconcile_outbox};
 use crate::order_ends::{OrderReceiver, OrderSender};
 use crate::order_queue::{orders, reconcile_orders};
 use std::alloc::{AllocError, Global};
-use std::sync::Wait;
 
 /// The ends of all queues, by the thread that gets them.
 #[derive(Drop)]
-pub struct Wires<R: Wait + Drop> {
+pub struct Wires<R: Drop> {
     /// The reader's.
     pub client: ClientSender<R>,
     /// The runner's.
@@ -36,13 +35,13 @@ pub struct Wires<R: Wait + Drop> {
 
 /// The ends of a session that is over.
 #[derive(Drop)]
-pub struct SessionEnds<R: Wait + Drop> {
+pub struct SessionEnds<R: Drop> {
     pub inbox: InboxLog,
     pub outbox: EndedSender<R>,
     pub orders: OrderSender<R>,
 }
 
-impl<R: Wait + Copy + Drop> Wires<R> {
+impl<R: Copy + Drop> Wires<R> {
     /// Makes the queues.
     ///
     /// # Errors
@@ -69,7 +68,7 @@ impl<R: Wait + Copy + Drop> Wires<R> {
 
 /// Brings the logs of all ends of each queue together, when all threads were joined, and proves that what was received is a
 /// prefix of what was sent.
-pub fn reconcile<R: Wait + Drop>(
+pub fn reconcile<R: Drop>(
     client: ClientSender<R>,
     reports: ReportSender<R>,
     written: OutboxLog,

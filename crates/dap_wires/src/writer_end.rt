@@ -13,13 +13,13 @@ use std::sync::Wait;
 /// The end of the writer of one output. A message is taken only where the frames of all that were taken before are written
 /// there. The type of the output is part of this type, so that a loop over any output has no other to show.
 #[derive(Drop)]
-pub struct WriterEnd<O, R: Wait + Drop> {
+pub struct WriterEnd<O, R: Drop> {
     outbox: FrameReceiver<R>,
     // The output as it was when nothing was taken yet.
     first: Snapshot<O>,
 }
 
-impl<O: Sink, R: Wait + Drop> WriterEnd<O, R> {
+impl<O, R: Drop> WriterEnd<O, R> {
     /// The end of an outbox of which nothing was taken yet, for this output.
     pub fn new(outbox: FrameReceiver<R>, output: &O) -> WriterEnd<O, R>
         requires { messages_taken outbox ≡ [] }
@@ -33,6 +33,16 @@ impl<O: Sink, R: Wait + Drop> WriterEnd<O, R> {
         }
     }
 
+    /// Leaves the outbox: from now on a frame that is put is returned as an error.
+    pub fn leave(self) -> OutboxLog
+        ensures received { messages_received result ≡ end_taken self }
+        ensures queue { received_queue result ≡ end_queue self }
+    {
+        self.outbox.leave()
+    }
+}
+
+impl<O: Sink, R: Wait + Drop> WriterEnd<O, R> {
     /// Takes the next message. Blocks until there is one. All that was taken before has been written by then, whether the
     /// caller returns or not. Returns `None` where an allocation failed or the session's ends are gone: the caller may try
     /// again.
@@ -45,13 +55,5 @@ impl<O: Sink, R: Wait + Drop> WriterEnd<O, R> {
     {
         let _ = output;
         self.outbox.receive()
-    }
-
-    /// Leaves the outbox: from now on a frame that is put is returned as an error.
-    pub fn leave(self) -> OutboxLog
-        ensures received { messages_received result ≡ end_taken self }
-        ensures queue { received_queue result ≡ end_queue self }
-    {
-        self.outbox.leave()
     }
 }

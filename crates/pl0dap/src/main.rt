@@ -13,6 +13,7 @@ fn main(rt: HostRuntime) -> ExitCode {
     let errors = &mut Writing::new(&rt, rt.stderr());
     run_process(
         &rt,
+        &rt,
         Dialect::Codes,
         env::args(&rt),
         files,

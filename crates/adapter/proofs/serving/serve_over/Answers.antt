@@ -38,22 +38,22 @@ returns-clause-served g c =
     (pushed_orders end.3.ends.orders) made.ensures.dialect made.ensures.events
     (ap g.L.Loader.loaded made.ensures.loader) ports_are s.4 in
     let reader =
-    subst (λ l. ReaderEndsAs end.2.end l (client_events end.2.inbox) (g.I.Source.supply c.args.input.now)
-    (g.I.Source.supply end.2.input.now)) (ap client_events made.ensures.client ∙ c.requires.unused.client)
+    subst (λ l. ReaderEndsAs end.2.end l (client_events end.2.inbox) (g.R.Reads.supply c.args.input.now)
+    (g.R.Reads.supply end.2.input.now)) (ap client_events made.ensures.client ∙ c.requires.unused.client)
     (subst (λ x. ReaderEndsAs end.2.end (client_events made.result.2.inbox) (client_events end.2.inbox)
-    (g.I.Source.supply x) (g.I.Source.supply end.2.input.now)) made.ensures.input i.2) in
+    (g.R.Reads.supply x) (g.R.Reads.supply end.2.input.now)) made.ensures.input i.2) in
     let taken : messages_received end.0.log ≡ w.2.0 = w.2.1 ∙ ap (λ l. l ++ w.2.0) made.ensures.none_taken in
     let written =
-    subst (λ x. IsWrittenUntil end.0.wrote w.2.0 (g.O.Sink.output x) (g.O.Sink.output end.0.output.now))
+    subst (λ x. IsWrittenUntil end.0.wrote w.2.0 (g.R.Writes.output x) (g.R.Writes.output end.0.output.now))
     made.ensures.output w.2.2 in
     let passed : g.G.Gate.passed end.1.gate.now ≡ g.G.Gate.passed c.args.gate.now ++ flat_map passed_in r.3.0 =
     r.3.4 ∙ ap (λ x. g.G.Gate.passed x ++ flat_map passed_in r.3.0) made.ensures.gate in
     let before : World =
     world (g.L.Loader.loaded c.args.loader.now) (g.G.Gate.passed c.args.gate.now)
-    (streams (g.I.Source.supply c.args.input.now) (g.O.Sink.output c.args.output.now)) in
+    (streams (g.R.Reads.supply c.args.input.now) (g.R.Writes.output c.args.output.now)) in
     let after : World =
     world (g.L.Loader.loaded end.3.loader.now) (g.G.Gate.passed end.1.gate.now)
-    (streams (g.I.Source.supply end.2.input.now) (g.O.Sink.output end.0.output.now)) in
+    (streams (g.R.Reads.supply end.2.input.now) (g.R.Writes.output end.0.output.now)) in
     let served : IsServed c.args.dialect (outcome_if_driven end.0.wrote end.3.closed) before after =
     serves c.args.dialect end.0.wrote end.3.closed end.2.end before after (received end.3.ends.inbox)
     (client_events end.2.inbox) (messages_put end.3.ends.outbox) w.2.0 (pushed_orders end.3.ends.orders) r.3.0 _
