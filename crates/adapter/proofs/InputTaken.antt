@@ -52,7 +52,7 @@ stream_more : (e : Incoming) (xs ys : List Incoming) → stream_of xs ≡ stream
 stream_more e xs ys same =
     stream_append (e ∷ []) xs ∙ ap (λ l. stream_of (e ∷ []) ++ l) same ∙ sym (stream_append (e ∷ []) ys)
 
-client_stream : (xs : List Incoming) → stream_of (from_client xs) ≡ stream_of xs
+pub client_stream : (xs : List Incoming) → stream_of (from_client xs) ≡ stream_of xs
 client_stream [] = refl
 client_stream (Piece p ∷ xs) = ap (λ l. p ++ l) (client_stream xs)
 client_stream (End ∷ xs) = client_stream xs
@@ -72,7 +72,7 @@ reads_stream NoMemoryCame old later read = read.0
 reads_stream (File file) old later read = absurd read
 reads_stream (Report r) old later same = consumed_at old later same
 
-read_stream : (events : List Incoming) (old later : Supply) → AreRead events old later
+pub read_stream : (events : List Incoming) (old later : Supply) → AreRead events old later
     → Appends old.read later.read (stream_of events)
 read_stream [] old later same = consumed_at old later same
 read_stream (e ∷ events) old later read =
@@ -160,7 +160,7 @@ load_stream : (f : Dialect) (before : List Incoming) (e : Incoming) (load : Load
 load_stream f before (File file) load events is = refl
 load_stream f before _ load events is = absurd is
 
-inbox_stream : (f : Dialect) (before events given : List Incoming) (loads : List Load)
+pub inbox_stream : (f : Dialect) (before events given : List Incoming) (loads : List Load)
     → Interleaves f before events given loads
     → stream_of given ≡ stream_of events
 inbox_stream f before [] given loads from = ap stream_of from.0

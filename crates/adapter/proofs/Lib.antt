@@ -20,6 +20,10 @@ mod UpTo
 -- `serve` never reports that its runner or its writer is gone, and `OrdersFull` only where enough orders were pushed to
 -- fill their queue; for the clauses `gone`, `full` and `fault` of `serving_laws`.
 mod SessionFaults
+-- Where all wait, nothing is left; for the clause `waiting` of `serving_laws`.
+mod Waiting
+-- The same of the ends of the queues; for the clause `ends`.
+mod WaitingEnds
 -- What was loaded grows by one file at a time; for `FileLoader`.
 mod Loaded
 -- What was written is of one history of what was read; for the clause `written` of `serving_laws`.

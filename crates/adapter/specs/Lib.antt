@@ -9,6 +9,10 @@ pub mod AllRead
 pub mod UpTo
 -- What the output took, however serving ended.
 pub mod Written
+-- What holds where all threads wait.
+pub mod Waiting
+-- The same of the ends of the queues.
+pub mod WaitingEnds
 -- The exit status and the last line on standard error.
 pub mod ExitReasons
 -- Each status, last line and number, as examples.

@@ -33,7 +33,7 @@ pub use dap_session::Dialect;
 pub use dap_wires::{Reads, Writes};
 pub use exit_reason::{ExitReason, end_of_check, end_of_serve};
 pub use files::FileLoader;
-pub use laws::{serving_laws, worked_exits};
+pub use laws::{serving_laws, waiting_laws, worked_exits};
 pub use listener::{EndListener, NoListener};
 pub use program::{execute, run, run_process};
 pub use reporting::say_reason;

@@ -89,7 +89,7 @@ reports_after reports ms =
     ∙ ap (λ l. l ++ reports_among (came ms)) (all_reports reports.items)
 
 -- the reader's arrivals are what the client sent
-client_first : (ms : List Arrival) → came (of_first is_by_runner ms) ≡ from_client (came ms)
+pub client_first : (ms : List Arrival) → came (of_first is_by_runner ms) ≡ from_client (came ms)
 client_first [] = refl
 client_first (arrival.Event (event.Piece piece) ∷ ms) = ap (λ l. Piece piece.items ∷ l) (client_first ms)
 client_first (arrival.Event event.End ∷ ms) = ap (λ l. End ∷ l) (client_first ms)
@@ -101,7 +101,7 @@ client_first (arrival.Event (event.Report r) ∷ ms) = client_first ms
 client_first (arrival.Quiet reports ∷ ms) = client_first ms ∙ sym (client_after reports ms)
 
 -- the runner's arrivals have all the reports
-reports_second : (ms : List Arrival) → reports_among (came (of_second is_by_runner ms)) ≡ reports_among (came ms)
+pub reports_second : (ms : List Arrival) → reports_among (came (of_second is_by_runner ms)) ≡ reports_among (came ms)
 reports_second [] = refl
 reports_second (arrival.Event (event.Piece piece) ∷ ms) = reports_second ms
 reports_second (arrival.Event event.End ∷ ms) = reports_second ms
