@@ -90,6 +90,13 @@ pub record OwesNothing {S I : Type 0} (replies : Replies S) (works : Works S) (b
   pub there : reached.present ≡ true
   pub is_open : IsOpen rest
 
+-- the same, and the adapter has no work to do
+abbrev pub OwesNothingIdle : {S I : Type 0} → Replies S → Works S → (S → Bool) → Gives I → Polls I → S → I → I
+    → StreamLog → StreamLog → Type 0
+OwesNothingIdle replies works busy gives polls before inbox now written later =
+    (owes : OwesNothing replies works busy gives polls before inbox now written later)
+    × (busy owes.reached.adapter ≡ false)
+
 -- ---- for private contracts
 
 -- what comes next: an item; or nothing yet, which is seen only where the adapter is busy, and then it works

@@ -18,7 +18,7 @@ pub(crate) enum Next {
 
 /// How a session comes to its next item: what it does while nothing has come.
 pub(crate) trait Pace<R: Responder, I, O> {
-    ghost use Rattle.std.specs.Prelude.{◌≡◌, Bool, true, None, IfOk, OnErr};
+    ghost use Rattle.std.specs.Prelude.{◌≡◌, Bool, true, false, None, IfOk, OnErr};
     ghost use Rattle.dap_server.specs.Inbox.{Gives};
     ghost use Rattle.dap_server.specs.Working.{Works, Polls, ComesNext};
 
@@ -37,6 +37,9 @@ pub(crate) trait Pace<R: Responder, I, O> {
     /// Where an item may be waited for.
     ghost may_wait: { I → O → Type 0 };
 
+    /// Where the inbox may be looked into.
+    ghost may_look: { I → O → Type 0 };
+
     /// Returns the next item; or, where the adapter is busy and none is there, does a part of its work.
     ///
     /// # Errors
@@ -49,7 +52,8 @@ pub(crate) trait Pace<R: Responder, I, O> {
         inbox: &mut I,
         output: &O,
     ) -> Result<Next, AllocError>
-        requires { may_wait inbox.old output.now }
+        requires waits { busy responder.old ≡ false → may_wait inbox.old output.now }
+        requires looks { busy responder.old ≡ true → may_look inbox.old output.now }
         ensures origin { R.origin responder.new ≡ R.origin responder.old }
         ensures ok { IfOk result (λ next. ComesNext works busy gives polls responder.old inbox.old next responder.new
             inbox.new) }
@@ -71,6 +75,8 @@ impl<R: Responder, I: Inbox<O>, O> Pace<R, I, O> for Waiting {
     ghost polls = { λ _ _ _. ⊥ };
 
     ghost may_wait = { I.may_wait };
+
+    ghost may_look = { λ _ _. Unit {0} };
 
     fn next_turn(
         rt: &impl Wait,
@@ -97,6 +103,8 @@ impl<W: Worker, I: Polled<O>, O> Pace<W, I, O> for Polling {
 
     ghost may_wait = { I.may_wait };
 
+    ghost may_look = { I.may_look };
+
     fn next_turn(
         rt: &impl Wait,
         alloc: Global,
@@ -107,7 +115,7 @@ impl<W: Worker, I: Polled<O>, O> Pace<W, I, O> for Polling {
         if !worker.is_busy() {
             return Ok(Next::Take(inbox.next(rt, alloc, output)));
         }
-        match inbox.poll(rt, alloc) {
+        match inbox.poll(rt, alloc, output) {
             Some(item) => Ok(Next::Take(item)),
             None => Ok(Next::Tell(worker.work(alloc)?)),
         }

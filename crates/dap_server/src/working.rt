@@ -5,7 +5,7 @@ ghost use Rattle.byte_streams.specs.Streams.{Appends};
 ghost use Rattle.dap_server.specs.Messages.{plain_event};
 ghost use Rattle.dap_server.specs.Serving.{HasFailed};
 ghost use Rattle.dap_server.specs.ServingInbox.{OutputFailures, CannotTell, end_of_input};
-ghost use Rattle.dap_server.specs.Working.{ServedWorker, OwesNothing, Tells};
+ghost use Rattle.dap_server.specs.Working.{ServedWorker, OwesNothing, OwesNothingIdle, Tells};
 
 use crate::ending::{Ending, ServeFault};
 use crate::inbox::Item;
@@ -35,9 +35,12 @@ pub fn serve_worker<W: Worker, I: Polled<O>, O: Sink>(
     inbox: &mut I,
     output: &mut O,
 ) -> Result<Ending, ServeFault>
-    // An item may be waited for wherever nothing is owed. So none is waited for elsewhere, whether the session ends or not.
-    requires { (i : I) (o : O) → OwesNothing W.replies W.works W.busy I.gives I.polls worker.old inbox.old i
+    // An item may be waited for wherever nothing is owed and the adapter isn't busy, and looked for wherever nothing is
+    // owed. So it is neither waited nor looked for elsewhere, whether the session ends or not.
+    requires waits { (i : I) (o : O) → OwesNothingIdle W.replies W.works W.busy I.gives I.polls worker.old inbox.old i
         (O.output output.old).written (O.output o).written → I.may_wait i o }
+    requires looks { (i : I) (o : O) → OwesNothing W.replies W.works W.busy I.gives I.polls worker.old inbox.old i
+        (O.output output.old).written (O.output o).written → I.may_look i o }
     ensures origin { W.origin worker.new ≡ W.origin worker.old }
     ensures served { ServedWorker W.replies W.works W.busy I.gives I.polls worker.old worker.new inbox.old inbox.new
         (O.output output.old).written (O.output output.new).written result }
@@ -54,8 +57,10 @@ pub(crate) fn converse<P: Pace<R, I, O>, R: Responder, I, O: Sink>(
     inbox: &mut I,
     output: &mut O,
 ) -> Result<Ending, ServeFault>
-    requires { (i : I) (o : O) → OwesNothing R.replies P.works P.busy P.gives P.polls responder.old inbox.old i
-        (O.output output.old).written (O.output o).written → P.may_wait i o }
+    requires waits { (i : I) (o : O) → OwesNothingIdle R.replies P.works P.busy P.gives P.polls responder.old inbox.old
+        i (O.output output.old).written (O.output o).written → P.may_wait i o }
+    requires looks { (i : I) (o : O) → OwesNothing R.replies P.works P.busy P.gives P.polls responder.old inbox.old i
+        (O.output output.old).written (O.output o).written → P.may_look i o }
     ensures origin { R.origin responder.new ≡ R.origin responder.old }
     ensures served { ServedWorker R.replies P.works P.busy P.gives P.polls responder.old responder.new inbox.old
         inbox.new (O.output output.old).written (O.output output.new).written result }

@@ -198,9 +198,22 @@ returns-in-Take-NoMemory-clause-served g c =
     worker_ended_by _ g.P.Pace.works g.P.Pace.busy g.P.Pace.gives g.P.Pace.polls _ _ here c.loop.decoder.rest
     c.args.inbox.now c.loop.inbox _ NoMemory _ _ _ _ working came.1 refl c.loop.invariant.is_open (refl, is_done here _)
 
-pub next_turn-requires : goal.next_turn-requires
-next_turn-requires g c =
-    c.requires c.loop.inbox c.loop.output (record {
+pub next_turn-requires-clause-waits : goal.next_turn-requires-clause-waits
+next_turn-requires-clause-waits g c idle =
+    c.requires.waits c.loop.inbox c.loop.output (
+      record {
+        reached = state c.loop.responder c.loop.next true;
+        rest = c.loop.decoder.rest;
+        working = c.loop.invariant.working;
+        there = refl;
+        is_open = c.loop.invariant.is_open;
+      },
+      idle,
+    )
+
+pub next_turn-requires-clause-looks : goal.next_turn-requires-clause-looks
+next_turn-requires-clause-looks g c busy =
+    c.requires.looks c.loop.inbox c.loop.output (record {
       reached = state c.loop.responder c.loop.next true;
       rest = c.loop.decoder.rest;
       working = c.loop.invariant.working;
