@@ -7,7 +7,7 @@ use Rattle.dap_server.specs.Conversation.{State, Replies}
 use Rattle.dap_server.specs.Inbox.{PlainItem, Gives}
 use Rattle.dap_server.specs.ServingInbox.{EndsAt}
 use Rattle.dap_server.specs.Working as courses
-use Rattle.dap_server.specs.Working.{Works, Polls, Comes, Course, WorkerEnds, ServedWorker}
+use Rattle.dap_server.specs.Working.{Works, Polls, Comes, Course, OwesNothing, OwesNothingIdle, WorkerEnds, ServedWorker}
 use Rattle.dap_server.specs.declared.ending.Ending.{Ending}
 use Rattle.dap_server.specs.declared.ending.ServeFault.{ServeFault}
 
@@ -43,6 +43,30 @@ module _ {I K Q : Type 0} (know : I → K) (stays : I → Q) (gives : Gives K) (
             worked told,
         none.1 ∙ so_far.1,
       )
+
+  pub owed : {S : Type 0} (replies : Replies S) (works : Works S) (busy : S → Bool) (before : S) (inbox now : I)
+      (written later : StreamLog) → OwesNothing replies works busy given found before inbox now written later
+      → OwesNothing replies works busy gives polls before (know inbox) (know now) written later
+      × (stays now ≡ stays inbox)
+  owed replies works busy before inbox now written later is =
+      let course = coursed replies works busy _ inbox _ _ now _ is.working.course in (
+        record {
+          reached = is.reached;
+          rest = is.rest;
+          working = record { texts = is.working.texts; course = course.0; written = is.working.written };
+          there = is.there;
+          is_open = is.is_open;
+        },
+        course.1,
+      )
+
+  pub owed_idle : {S : Type 0} (replies : Replies S) (works : Works S) (busy : S → Bool) (before : S) (inbox now : I)
+      (written later : StreamLog) → OwesNothingIdle replies works busy given found before inbox now written later
+      → OwesNothingIdle replies works busy gives polls before (know inbox) (know now) written later
+      × (stays now ≡ stays inbox)
+  unfolding owed
+  owed_idle replies works busy before inbox now written later is =
+      let owes = owed replies works busy before inbox now written later is.0 in ((owes.0, is.1), owes.1)
 
   ended_at : {S : Type 0} (last : Option PlainItem) (busy : Bool) (inbox left : I) (result : Result Ending ServeFault)
       (replies : Replies S) (b : State S) (rest : List ℕ) (adapter : S) (written later : StreamLog)

@@ -1,4 +1,4 @@
--- Defines what an inbox has taken, by how many receives, and from which queue.
+-- Defines what an inbox has taken, by how many receives, from which queue, and for which session.
 use Rattle.std.specs.Prelude.{ℕ}
 use Rattle.atomic_table.specs.declared.badge.Badge.{Badge}
 use Rattle.atomic_table.specs.Seated.{TableId}
@@ -11,11 +11,11 @@ use Rattle.dap_reader.specs.declared.arrivals.Arrivals.{Arrivals}
 use Rattle.dap_reader.specs.declared.arrivals.TakenLog.{TakenLog}
 
 -- what reads of the input gave of which the inbox has given all
-abbrev pub taken : Arrivals → Supply
+abbrev pub taken : {W O : Type 0} → Arrivals W O → Supply
 taken inbox = through (view inbox.pass)
 
 -- how many items it has received of the thread that reads
-abbrev pub received : Arrivals → ℕ
+abbrev pub received : {W O : Type 0} → Arrivals W O → ℕ
 received inbox = receives (view inbox.pass)
 
 -- the identity of a queue, which is the same at both of its ends
@@ -23,8 +23,16 @@ abbrev pub QueueId : Type 0
 QueueId = TableId × Badge (Key Item)
 
 -- the queue from which the inbox takes
-abbrev pub queue : Arrivals → QueueId
+abbrev pub queue : {W O : Type 0} → Arrivals W O → QueueId
 queue inbox = (inbox.pass.table_id, inbox.pass.me.0.of)
+
+-- what was taken, the worker and the output as they were when the inbox had given nothing yet
+abbrev pub begun : {W O : Type 0} → Arrivals W O → Supply × W × O
+begun inbox = (through (view inbox.first.value), inbox.worker.value, inbox.output.value)
+
+-- what no item changes of an inbox
+abbrev pub origin : {W O : Type 0} → Arrivals W O → QueueId × (Supply × W × O)
+origin inbox = (queue inbox, begun inbox)
 
 -- what an inbox had taken that is left, and from which queue
 abbrev pub taken_at_last : TakenLog → Supply

@@ -4,7 +4,7 @@ ghost use Rattle.std.specs.Prelude.{◌≡◌, IfOk, OnErr};
 ghost use Rattle.byte_streams.specs.Streams.{IsOfWhole};
 ghost use Rattle.dap_reader.specs.Sent.{sent, sender_queue};
 ghost use Rattle.dap_reader.specs.Serving.{ServedInput};
-ghost use Rattle.dap_reader.specs.Taken.{taken, queue, taken_at_last, left_queue};
+ghost use Rattle.dap_reader.specs.Taken.{taken, begun, queue, taken_at_last, left_queue};
 
 use crate::arrivals::{Arrivals, TakenLog};
 use crate::queue::{item_queue, reconcile};
@@ -59,7 +59,7 @@ where
         (I.supply input.old) (I.supply input.new) (O.output output.old) (O.output output.new) ended) }
     ensures nothing { OnErr result ((worker.new ≡ worker.old) × (output.new ≡ output.old)) }
 {
-    let (sender, inbox) = item_queue::<Brand, I>(alloc, &*input)?;
+    let (sender, inbox) = item_queue::<Brand, I, W, O>(alloc, &*input, &*worker, &*output)?;
     let reader = ReaderTask {
         rt: *rt,
         alloc,
@@ -125,12 +125,11 @@ pub(crate) struct SessionTask<'a, W, O, R: Wait + Drop> {
     rt: R,
     alloc: Global,
     worker: &'a mut W,
-    inbox: Arrivals,
+    inbox: Arrivals<W, O>,
     output: &'a mut O,
 }
 
 impl<'a, W: Worker, O: Sink, R: Wait + Drop> Task for SessionTask<'a, W, O, R> {
-    ghost use Rattle.std.specs.Prelude.{⊤};
     ghost use Rattle.dap_server.specs.Inbox.{Reads};
     ghost use Rattle.dap_server.specs.ServingInbox.{OutputFailures};
     ghost use Rattle.dap_server.specs.Working.{ServedWorker};
@@ -138,7 +137,7 @@ impl<'a, W: Worker, O: Sink, R: Wait + Drop> Task for SessionTask<'a, W, O, R> {
 
     type Output = (&'a mut W, TakenLog, &'a mut O, Result<Ending, ServeFault>);
 
-    ghost can_run = { λ _. ⊤ };
+    ghost can_run = { λ t. begun t.inbox ≡ (taken t.inbox, t.worker.now, t.output.now) };
 
     ghost gives = { λ t r. (r.0.ghost_name ≡ t.worker.ghost_name) × (r.2.ghost_name ≡ t.output.ghost_name)
         × (W.origin r.0.now ≡ W.origin t.worker.now) × (left_queue r.1 ≡ queue t.inbox)
