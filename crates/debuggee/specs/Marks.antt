@@ -3,7 +3,7 @@ use Rattle.std.specs.Prelude.{◌≡◌, ◌≢◌, ◌≤◌, ◌<◌, ℕ, ◌
 use Rattle.debuggee.specs.declared.mode.Mode.{Mode}
 use Rattle.debuggee.specs.Plain.{PlainBreakpoint, PlainHalt, AtBreakpoint, AtStep, PlainOutput}
 use Rattle.debuggee.specs.Due.{Sight, is_asked}
-use Rattle.debuggee.specs.Runs.{Added, Meaning, Passes, Runs}
+use Rattle.debuggee.specs.Runs.{Added, Meaning, Passes, Runs, slice_limit}
 
 -- how many marks there are
 abbrev pub mark_count : ℕ
@@ -37,10 +37,11 @@ AreMarked first next breakpoints = AreChained first next (places_of breakpoints)
 abbrev pub halt_of : {S : Type 0} → Sight S → Mode → Bool → S → Option PlainHalt
 halt_of see mode stops s = if stops then Some AtBreakpoint else if is_asked see mode s then Some AtStep else None
 
--- a run that halts, or steps with no halt after any of them
+-- a slice that halts, or steps with no halt after any of them, fewer than a slice takes
 abbrev pub PassesOrHalts : {S : Type 0} → Meaning S → Sight S → Mode → List ℕ → List ℕ → S → List PlainBreakpoint
     → Option PlainHalt → S → List PlainBreakpoint → List PlainOutput → List PlainOutput → Type 0
 PassesOrHalts takes see mode first next a old None b new before after =
-    Added (Passes takes see mode a old b new) before after × AreMarked first next new
+    Added (λ told. (many : ℕ) × (many < slice_limit) × Passes takes see mode a old many b new told) before after
+    × AreMarked first next new
 PassesOrHalts takes see mode first next a old (Some halt) b new before after =
-    Runs takes see mode a old (Some halt) b new before after
+    Runs takes see slice_limit mode a old (Some halt) b new before after

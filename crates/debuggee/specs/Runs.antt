@@ -1,6 +1,6 @@
 -- Defines where a run halts, at the first state that is due, and what is told: what its steps print and what messages
 -- say, in order.
-use Rattle.std.specs.Prelude.{◌≡◌, ℕ, Bool, List, [], ◌∷◌, ◌++◌, map, Option, None, Some}
+use Rattle.std.specs.Prelude.{◌≡◌, ◌<◌, ◌+◌, ℕ, Bool, List, [], ◌∷◌, ◌++◌, map, Option, None, Some}
 use Rattle.std.specs.List.{list_any}
 use Rattle.debuggee.specs.declared.mode.Mode.{Mode}
 use Rattle.debuggee.specs.Plain.{PlainStep, Goes, Prints, Ends, Fails, PlainBreakpoint, PlainHalt, AtEnd, AtFault, PlainOutput, Printed}
@@ -25,22 +25,26 @@ Advances takes see mode a old halt b new told =
     (printed : List PlainOutput) × Moves takes a b printed × (halt ≡ due see mode old b)
     × (new ≡ map (counted see b) old) × (told ≡ printed ++ logs see b old)
 
--- as many steps as there are, with no halt after any of them
+-- so many steps, with no halt after any of them
 pub data Passes {S : Type 0} (takes : Meaning S) (see : Sight S) (mode : Mode) (a : S) (old : List PlainBreakpoint)
-    : S → List PlainBreakpoint → List PlainOutput → Type 0 where
-  Stays : Passes takes see mode a old a old []
-  Then : (m b : S) (mid new : List PlainBreakpoint) (told more : List PlainOutput)
-      → Passes takes see mode a old m mid told → Advances takes see mode m mid None b new more
-      → Passes takes see mode a old b new (told ++ more)
+    : ℕ → S → List PlainBreakpoint → List PlainOutput → Type 0 where
+  Stays : Passes takes see mode a old 0 a old []
+  Then : (many : ℕ) (m b : S) (mid new : List PlainBreakpoint) (told more : List PlainOutput)
+      → Passes takes see mode a old many m mid told → Advances takes see mode m mid None b new more
+      → Passes takes see mode a old (many + 1) b new (told ++ more)
 
--- A run: steps with no halt after any of them, and a last one, after which it halts, or only its slice ends. What is
--- told is added to what was told before.
-abbrev pub Runs : {S : Type 0} → Meaning S → Sight S → Mode → S → List PlainBreakpoint → Option PlainHalt → S
+-- A run of at most so many steps: after none but the last it halts, and after the last it halts, or only its slice
+-- ends. What is told is added to what was told before.
+abbrev pub Runs : {S : Type 0} → Meaning S → Sight S → ℕ → Mode → S → List PlainBreakpoint → Option PlainHalt → S
     → List PlainBreakpoint → List PlainOutput → List PlainOutput → Type 0
-Runs {S} takes see mode a old halt b new before after =
-    (m : S) × (mid : List PlainBreakpoint) × (told : List PlainOutput) × (more : List PlainOutput)
-    × Passes takes see mode a old m mid told × Advances takes see mode m mid halt b new more
-    × (after ≡ before ++ (told ++ more))
+Runs {S} takes see most mode a old halt b new before after =
+    (many : ℕ) × (many < most) × (m : S) × (mid : List PlainBreakpoint) × (told : List PlainOutput)
+    × (more : List PlainOutput) × Passes takes see mode a old many m mid told
+    × Advances takes see mode m mid halt b new more × (after ≡ before ++ (told ++ more))
+
+-- the most steps that a slice of a run takes
+abbrev pub slice_limit : ℕ
+slice_limit = 1000
 
 -- what is due in a state is returned, arrivals are counted, and messages said
 abbrev pub Arrives : {S : Type 0} → Sight S → Mode → S → List PlainBreakpoint → Option PlainHalt

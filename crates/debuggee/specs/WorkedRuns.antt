@@ -114,17 +114,18 @@ MessagesSay =
 
 -- ---- runs
 
--- a run to the second arrival at a breakpoint, past another that says something
+-- a run of three steps to the second arrival at a breakpoint, past another that says something
 abbrev pub RunStops : Type 0
 RunStops =
-    Runs takes see Continue 0 (at_place 1 None (Some (Exactly 2)) 0 ∷ saying (at_place 0 None None 0) ∷ [])
+    Runs takes see 3 Continue 0 (at_place 1 None (Some (Exactly 2)) 0 ∷ saying (at_place 0 None None 0) ∷ [])
     (Some AtBreakpoint) 3 (at_place 1 None (Some (Exactly 2)) 2 ∷ saying (at_place 0 None None 1) ∷ [])
     (Printed (codes "before") ∷ [])
     (Printed (codes "before") ∷ Printed (codes "0") ∷ Logged (codes "n is 2?") ∷ Printed (codes "2") ∷ [])
 
--- a run to the end, one into a fault, and a slice that ends before
+-- a run to the end, one into a fault, a slice that ends before, and none without a step
 abbrev pub RunsEnd : Type 0
 RunsEnd =
-    Runs takes see Continue 4 [] (Some (AtEnd 7)) 5 [] [] (Printed (codes "4") ∷ [])
-    × Runs takes see In 6 [] (Some (AtFault stuck)) 6 [] [] []
-    × Runs takes see (Out 1) 0 [] None 2 [] [] (Printed (codes "0") ∷ [])
+    Runs takes see 2 Continue 4 [] (Some (AtEnd 7)) 5 [] [] (Printed (codes "4") ∷ [])
+    × Runs takes see 1 In 6 [] (Some (AtFault stuck)) 6 [] [] []
+    × Runs takes see 2 (Out 1) 0 [] None 2 [] [] (Printed (codes "0") ∷ [])
+    × (Runs takes see 0 In 6 [] (Some (AtFault stuck)) 6 [] [] [] → ⊥)

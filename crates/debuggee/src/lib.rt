@@ -18,9 +18,10 @@
 //! ```
 //!
 //! [`run`] promises (`Runs` in `specs/Runs.antt`), of each language and by the language's own steps: it takes one step at
-//! least, and halts at the first state in which a breakpoint stops the program (its condition holds or has no value, and its
-//! rule accepts the arrival) or that the mode asks for; or at the program's end; or at its fault. What the steps print and
-//! the messages of breakpoints say is told in order, all of it, and nothing else. `run_laws` joins the slices of a run.
+//! least and 1,000 at most, and halts at the first state in which a breakpoint stops the program (its condition holds or has
+//! no value, and its rule accepts the arrival) or that the mode asks for; or at the program's end; or at its fault. What the
+//! steps print and the messages of breakpoints say is told in order, all of it, and nothing else. `run_laws` joins the slices
+//! of a run.
 //!
 //! What the steps mean is the language's to say: its ghost member `takes` has no default. A language whose `takes` allows
 //! any step has no promise of where a run leads, or of what is printed.

@@ -3,7 +3,7 @@
 ghost use Rattle.std.specs.Prelude.{IfOk, map, option_map};
 ghost use Rattle.debuggee.specs.Plain.{plain_breakpoint, plain_halt, plain_output};
 ghost use Rattle.debuggee.specs.Marks.{AreMarked, PassesOrHalts};
-ghost use Rattle.debuggee.specs.Runs.{Added, Takes, Advances, Runs};
+ghost use Rattle.debuggee.specs.Runs.{Added, Takes, Advances, Runs, slice_limit};
 
 use crate::arriving::arrive_by_marks;
 use crate::breakpoint::Breakpoint;
@@ -30,9 +30,10 @@ pub fn run<D: Debuggee>(
     mode: Mode,
     told: &mut Vec<Output>,
 ) -> Result<Option<Halt>, AllocError>
-    ensures { IfOk result (λ halt. Runs D.takes D.sees mode debuggee.old (map plain_breakpoint breakpoints.old.items)
-        (option_map plain_halt halt) debuggee.new (map plain_breakpoint breakpoints.new.items)
-        (map plain_output told.old.items) (map plain_output told.new.items)) }
+    ensures { IfOk result (λ halt. Runs D.takes D.sees slice_limit mode debuggee.old
+        (map plain_breakpoint breakpoints.old.items) (option_map plain_halt halt) debuggee.new
+        (map plain_breakpoint breakpoints.new.items) (map plain_output told.old.items)
+        (map plain_output told.new.items)) }
 {
     let marks = marks_of(alloc, breakpoints)?;
     let mut looks = 0;
