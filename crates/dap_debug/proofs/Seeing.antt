@@ -8,12 +8,12 @@ use Rattle.dap_server.specs.Inbox.{PlainItem, Bytes, Event, Gives, TakesOne}
 use Rattle.dap_server.specs.Serving.{FailsAt, FailsInFront, IsDone, BreaksWithin}
 use Rattle.dap_server.specs.ServingInbox.{ServingEndsBy, EndsWithin, EndsAt}
 use Rattle.dap_server.specs.Working as courses
-use Rattle.dap_server.specs.Working.{Works, Polls, Course, EndsInWork, WorkerEnds, ServedWorker, OwesNothing as WorkerOwesNothing}
+use Rattle.dap_server.specs.Working.{Works, Polls, Course, EndsInWork, WorkerEnds, ServedWorker, OwesNothing as WorkerOwesNothing, OwesNothingIdle as WorkerOwesNothingIdle}
 use Rattle.dap_reader.specs.Serving.{ServedInput}
 use Rattle.dap_reader.specs.declared.serving.StartFault.{StartFault}
 use Rattle.dap_debug.specs.Replies.{Known}
 use Rattle.dap_debug.specs.Loading.{ReadsFiles, Situation, situation}
-use Rattle.dap_debug.specs.Serving.{replied_by, worked_by, runs_in, Debugged, DebuggedFrom, OwesNothing}
+use Rattle.dap_debug.specs.Serving.{replied_by, worked_by, runs_in, Debugged, DebuggedFrom, OwesNothing, OwesNothingIdle}
 use Rattle.dap_debug.specs.Standings.{unused}
 use Rattle.dap_server.specs.declared.ending.Ending.{Ending}
 use Rattle.dap_server.specs.declared.ending.Ending.TheVariants as ending
@@ -191,6 +191,24 @@ served see replies works busy gives polls before after inbox left written later 
       ends = ended see works busy gives polls _ left result replies _ _ after _ later is.ends;
     }
 
+owed : {S T I : Type 0} (see : S → T) (replies : Replies T) (works : Works T) (busy : T → Bool) (gives : Gives I)
+    (polls : Polls I) (before : S) (inbox now : I) (written later : StreamLog)
+    → WorkerOwesNothing (seen_replies see replies) (seen_works see works) (λ s. busy (see s)) gives polls before inbox
+    now written later → WorkerOwesNothing replies works busy gives polls (see before) inbox now written later
+owed see replies works busy gives polls before inbox now written later is =
+    record {
+      reached = seen see is.reached;
+      rest = is.rest;
+      working = record {
+        texts = is.working.texts;
+        course = coursed see replies works busy gives polls _ inbox is.reached is.rest now is.working.texts
+            is.working.course;
+        written = is.working.written;
+      };
+      there = is.there;
+      is_open = is.is_open;
+    }
+
 -- the same of a session, from one without a program on
 module _ {S T F I : Type 0} (see : S → Situation T F) (known : Known T) (reads : ReadsFiles F) (gives : Gives I)
     (polls : Polls I) where
@@ -212,18 +230,16 @@ module _ {S T F I : Type 0} (see : S → Situation T F) (known : Known T) (reads
       (λ s. runs_in (see s)) gives polls before inbox now written later
       → OwesNothing known reads gives polls files inbox now written later
   owes before files inbox now written later first is =
-      rw (← first) (record {
-        reached = seen see is.reached;
-        rest = is.rest;
-        working = record {
-          texts = is.working.texts;
-          course = coursed see _ _ runs_in gives polls _ inbox is.reached is.rest now is.working.texts
-              is.working.course;
-          written = is.working.written;
-        };
-        there = is.there;
-        is_open = is.is_open;
-      })
+      rw (← first) (owed see _ _ runs_in gives polls before inbox now written later is)
+
+  pub owes_idle : (before : S) (files : F) (inbox now : I) (written later : StreamLog)
+      → see before ≡ situation unused files
+      → WorkerOwesNothingIdle (seen_replies see (replied_by known reads)) (seen_works see (worked_by known))
+      (λ s. runs_in (see s)) gives polls before inbox now written later
+      → OwesNothingIdle known reads gives polls files inbox now written later
+  unfolding owed
+  owes_idle before files inbox now written later first is =
+      rw (← first) (owed see _ _ runs_in gives polls before inbox now written later is.0, is.1)
 
 pub debugged_from : {S T F : Type 0} (see : S → Situation T F) (known : Known T) (reads : ReadsFiles F)
     (before after : S) (files later_files : F) (input later_input : Supply) (output later : Output)

@@ -5,7 +5,7 @@ use Rattle.dap_server.specs.Messages.{PlainEvent, PlainReply}
 use Rattle.dap_bodies.specs.Events.{stopped, terminated}
 use Rattle.debuggee.specs.Plain.{PlainBreakpoint, PlainFault, PlainHalt, AtEnd, AtFault, PlainOutput}
 use Rattle.debuggee.specs.Due.{Sight}
-use Rattle.debuggee.specs.Runs.{Meaning, Runs, Arrives}
+use Rattle.debuggee.specs.Runs.{Meaning, Runs, Arrives, slice_limit}
 use Rattle.debuggee.specs.declared.mode.Mode.{Mode}
 use Rattle.debuggee.specs.declared.mode.Mode.TheVariants as mode
 use Rattle.dap_debug.specs.declared.command.Resume.{Resume}
@@ -35,13 +35,13 @@ abbrev pub fault_of : Option PlainHalt → Option PlainFault
 fault_of (Some (AtFault fault)) = Some fault
 fault_of _ = None
 
--- A slice of a run: it goes by the language's own steps to the first state in which the program is due, to its end or
--- into its fault, or halts at none of these; and the events are all that is told of it.
+-- A slice of a run: it goes by the language's own steps, at most `slice_limit` of them, to the first state in which the
+-- program is due, to its end or into its fault, or halts at none of these; and the events are all that is told of it.
 abbrev pub Slice : {S : Type 0} → Meaning S → Sight S → S → Mode → List PlainBreakpoint → List PlainEvent → Phase S
     → Option PlainFault → List PlainBreakpoint → Type 0
 Slice {S} takes sees program how old events now fault new =
     (halt : Option PlainHalt) × (there : S) × (told : List PlainOutput)
-    × Runs takes sees how program old halt there new [] told
+    × Runs takes sees slice_limit how program old halt there new [] told
     × Tells told halt events × (now ≡ phase_after halt there how) × (fault ≡ fault_of halt)
 
 -- the same of the program of a session

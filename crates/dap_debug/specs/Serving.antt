@@ -8,7 +8,7 @@ use Rattle.dap_server.specs.Messages.{PlainReply}
 use Rattle.dap_server.specs.Conversation.{Replies}
 use Rattle.dap_server.specs.Inbox.{Gives, Reads}
 use Rattle.dap_server.specs.ServingInbox.{OutputFailures}
-use Rattle.dap_server.specs.Working.{Works, Polls, ServedWorker, OwesNothing as WorkerOwesNothing}
+use Rattle.dap_server.specs.Working.{Works, Polls, ServedWorker, OwesNothing as WorkerOwesNothing, OwesNothingIdle as WorkerOwesNothingIdle}
 use Rattle.dap_server.specs.declared.ending.Ending.{Ending}
 use Rattle.dap_server.specs.declared.ending.ServeFault.{ServeFault}
 use Rattle.dap_debug.specs.Commands.{checked, command_of}
@@ -59,6 +59,13 @@ abbrev pub OwesNothing : {S F I : Type 0} → Known S → ReadsFiles F → Gives
 OwesNothing known reads gives polls files inbox now written later =
     WorkerOwesNothing (replied_by known reads) (worked_by known) runs_in gives polls (situation unused files) inbox now
     written later
+
+-- the same, and no program runs
+abbrev pub OwesNothingIdle : {S F I : Type 0} → Known S → ReadsFiles F → Gives I → Polls I → F → I → I → StreamLog
+    → StreamLog → Type 0
+OwesNothingIdle known reads gives polls files inbox now written later =
+    WorkerOwesNothingIdle (replied_by known reads) (worked_by known) runs_in gives polls (situation unused files) inbox
+    now written later
 
 -- A client was served over what reads of an input gave. `taken` is what they gave up to the item that was taken last,
 -- the front of all that they gave; of an input that tells its bytes, these are its own.

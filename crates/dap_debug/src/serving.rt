@@ -4,7 +4,7 @@ ghost use Rattle.std.specs.Prelude.{◌≡◌};
 ghost use Rattle.dap_server.specs.ServingInbox.{OutputFailures};
 ghost use Rattle.dap_debug.specs.Replies.{known_of};
 ghost use Rattle.dap_debug.specs.Loading.{reads_by};
-ghost use Rattle.dap_debug.specs.Serving.{Debugged, DebuggedByReader, OwesNothing};
+ghost use Rattle.dap_debug.specs.Serving.{Debugged, DebuggedByReader, OwesNothing, OwesNothingIdle};
 
 use crate::session::Session;
 use byte_streams::{Opener, Sink, Source};
@@ -76,10 +76,14 @@ where
     F: Opener,
     I: Polled<O>,
     O: Sink,
-    // An item may be waited for wherever nothing is owed. So none is waited for elsewhere, whether the session ends or not.
-    requires { (i : I) (o : O) → OwesNothing (known_of L.takes L.sees L.shows)
+    // An item may be waited for wherever nothing is owed and no program runs, and looked for wherever nothing is owed. So it
+    // is neither waited nor looked for elsewhere, whether the session ends or not.
+    requires waits { (i : I) (o : O) → OwesNothingIdle (known_of L.takes L.sees L.shows)
         (reads_by F.opens F.closes F.File.supply) I.gives I.polls files.old inbox.old i
         (O.output output.old).written (O.output o).written → I.may_wait i o }
+    requires looks { (i : I) (o : O) → OwesNothing (known_of L.takes L.sees L.shows)
+        (reads_by F.opens F.closes F.File.supply) I.gives I.polls files.old inbox.old i
+        (O.output output.old).written (O.output o).written → I.may_look i o }
     ensures served { Debugged (known_of L.takes L.sees L.shows) (reads_by F.opens F.closes F.File.supply)
         I.gives I.polls files.old files.new inbox.old inbox.new (O.output output.old).written
         (O.output output.new).written result }

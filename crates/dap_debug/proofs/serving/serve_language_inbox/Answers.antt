@@ -3,7 +3,7 @@ use Rattle.dap_debug.specs.Loading.{reads_by, situation}
 use Rattle.dap_debug.specs.Replies.{known_of}
 use Rattle.dap_debug.specs.Standings.{standing}
 use Rattle.dap_debug.proofs.Loaded.{situated}
-use Rattle.dap_debug.proofs.Seeing.{debugged, owes}
+use Rattle.dap_debug.proofs.Seeing.{debugged, owes, owes_idle}
 use Rattle.dap_debug.proofs.serving.serve_language_inbox.Goals as goal
 
 pub returns-clause-served : goal.returns-clause-served
@@ -14,7 +14,12 @@ returns-clause-served g c =
     (situated _ _ _ _ c.new-session.ensures.unused c.new-session.ensures.files)
     (search rules) c.serve_worker-ended.ensures.served
 
-pub serve_worker-ended-requires : goal.serve_worker-ended-requires
-serve_worker-ended-requires g c i o is =
-    c.requires i o (owes (λ session. situation (standing session.state) session.files.now) _ _ _ _ _ _ _ _ _ _
+pub serve_worker-ended-requires-clause-waits : goal.serve_worker-ended-requires-clause-waits
+serve_worker-ended-requires-clause-waits g c i o is =
+    c.requires.waits i o (owes_idle (λ session. situation (standing session.state) session.files.now) _ _ _ _ _ _ _ _ _
+    _ (situated _ _ _ _ c.new-session.ensures.unused c.new-session.ensures.files) is)
+
+pub serve_worker-ended-requires-clause-looks : goal.serve_worker-ended-requires-clause-looks
+serve_worker-ended-requires-clause-looks g c i o is =
+    c.requires.looks i o (owes (λ session. situation (standing session.state) session.files.now) _ _ _ _ _ _ _ _ _ _
     (situated _ _ _ _ c.new-session.ensures.unused c.new-session.ensures.files) is)
