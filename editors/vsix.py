@@ -24,7 +24,8 @@ SOURCE = os.path.join(TOP, "editors", "vscode")
 LEFT_OUT = ("launch.json",)  # a template for the user's own folder
 LICENSE = "LICENSE.txt"
 THE_FIRST_DAY = (1980, 1, 1, 0, 0, 0)
-KINDS = {"js": "application/javascript", "json": "application/json", "txt": "text/plain", "vsixmanifest": "text/xml"}
+KINDS = {"js": "application/javascript", "json": "application/json", "md": "text/markdown", "txt": "text/plain",
+         "vsixmanifest": "text/xml"}
 MANIFEST, TYPES = "extension.vsixmanifest", "[Content_Types].xml"
 MANIFEST_SPACE = "{http://schemas.microsoft.com/developer/vsx-schema/2011}"
 TYPES_SPACE = "{http://schemas.openxmlformats.org/package/2006/content-types}"
@@ -75,6 +76,7 @@ def manifest(package: dict) -> str:
   <Dependencies/>
   <Assets>
     <Asset Type="Microsoft.VisualStudio.Code.Manifest" Path="extension/package.json" Addressable="true"/>
+    <Asset Type="Microsoft.VisualStudio.Services.Content.Details" Path="extension/README.md" Addressable="true"/>
     <Asset Type="Microsoft.VisualStudio.Services.Content.License" Path="extension/{LICENSE}" Addressable="true"/>
   </Assets>
 </PackageManifest>

@@ -54,6 +54,12 @@ class Diagnostic {
   }
 }
 
+class InlineValueVariableLookup {
+  constructor(range, variableName) {
+    Object.assign(this, { range, variableName });
+  }
+}
+
 class DebugAdapterExecutable {
   constructor(command, words) {
     this.words = [command, ...words];
@@ -78,6 +84,7 @@ const editor = {
   Range,
   Diagnostic,
   DebugAdapterExecutable,
+  InlineValueVariableLookup,
   DiagnosticSeverity: { Error: 0, Warning: 1 },
   TaskScope: { Workspace: 2 },
   Uri: { file: (name) => name },
@@ -89,9 +96,10 @@ const editor = {
     onDidCloseTextDocument: (call) => (offered.close = call),
   },
   languages: {
+    registerInlineValuesProvider: (type, provider) => (offered[`values ${type}`] = provider),
     createDiagnosticCollection: () => ({ set: (name, list) => (marked[name] = list), delete: (name) => delete marked[name] }),
   },
-  window: { activeTextEditor: { document }, showInformationMessage: say, showErrorMessage: say },
+  window: { activeTextEditor: { document }, showErrorMessage: say },
   commands: { registerCommand: (name, call) => (offered.commands[name] = call) },
   debug: {
     registerDebugConfigurationProvider: (type, provider) => (offered[`debug ${type}`] = provider),
@@ -171,6 +179,38 @@ async function typing() {
   delete settings["pl0.path.pl0"];
 }
 
+/** A text that is open when the extension starts is marked without a change. */
+async function opened() {
+  settings["pl0.path.pl0"] = CHECKER;
+  write("3:9: error: first", 2);
+  require(FOLDER).activate({ subscriptions: [] });
+  await comes({ "/tmp/a.pl0": [new Diagnostic(word, "first", 0)] });
+  offered.close(document);
+  delete settings["pl0.path.pl0"];
+}
+
+/** Where words stand on the lines that are shown, up to that of a stop. */
+function values() {
+  const lines = ["const one = 1;", "var x1;", "x1 := x1 + one", "."];
+  const text = { lineAt: (line) => ({ text: lines[line] }) };
+  const shown = { start: { line: 1 }, end: { line: 3 } };
+  const found = offered["values pl0"].provideInlineValues(text, shown, { stoppedLocation: { end: { line: 2 } } });
+  assert.deepStrictEqual(
+    found.map(({ variableName, range }) => [variableName, ...range.at]),
+    [["var", 1, 0, 1, 3], ["x1", 1, 4, 1, 6], ["x1", 2, 0, 2, 2], ["x1", 2, 6, 2, 8], ["one", 2, 11, 2, 14]],
+  );
+}
+
+/** The commands are offered for programs alone, one as a button; none of what a folder may say is run in a restricted window. */
+function offers({ capabilities, contributes: { commands, configuration, menus } }) {
+  const isProgram = "resourceLangId == pl0";
+  assert.deepStrictEqual(commands.map((one) => one.enablement), commands.map(() => isProgram));
+  assert.deepStrictEqual(menus["editor/title/run"].map(({ command, when }) => [command, when]), [["pl0.run", isProgram]]);
+  assert.match(commands.find((one) => one.command === "pl0.run").icon, /^\$\(.+\)$/);
+  assert.strictEqual(capabilities.untrustedWorkspaces.supported, true);
+  assert.deepStrictEqual(Object.values(configuration.properties).filter((one) => one.scope !== "machine"), []);
+}
+
 /** The adapter, by its settings and without them. */
 function adapters() {
   const words = () => offered["adapter pl0"].createDebugAdapterDescriptor().words;
@@ -197,8 +237,11 @@ function indentation() {
 }
 
 async function main() {
-  const contributed = JSON.parse(fs.readFileSync(path.join(FOLDER, "package.json"), "utf8")).contributes;
-  require(FOLDER).activate({ subscriptions: [] });
+  const described = JSON.parse(fs.readFileSync(path.join(FOLDER, "package.json"), "utf8"));
+  const contributed = described.contributes;
+  offers(described);
+  await opened();
+  values();
 
   const resolve = (given) => offered["debug pl0"].resolveDebugConfiguration(undefined, given);
   const launch = { type: "pl0", request: "launch", name: "PL/0", program: "${file}" };
@@ -214,7 +257,7 @@ async function main() {
   const tasks = offered["tasks pl0"].provideTasks();
   assert.deepStrictEqual(
     tasks.map((task) => task.execution.words.join(" ")),
-    ["pl0 run ${file}", "pl0 trace ${file}", "pl0 check ${file}", "pl0 list ${file}", "pl0 tree ${file}"],
+    ["pl0 run ${file}", "pl0 trace ${file}", "pl0 check ${file}", "pl0 list ${file}", "pl0 tree ${file}", "pl0 tokens ${file}"],
   );
   assert.deepStrictEqual(
     tasks.map((task) => task.definition.command),
@@ -230,14 +273,7 @@ async function main() {
   for (const command of Object.values(offered.commands)) {
     await command();
   }
-  document.languageId = "c";
-  await offered.commands["pl0.run"]();
-  assert.deepStrictEqual(started, [
-    "pl0 run /tmp/a.pl0",
-    "pl0 trace /tmp/a.pl0",
-    "pl0 check /tmp/a.pl0",
-    "The current file is no PL/0 program.",
-  ]);
+  assert.deepStrictEqual(started, ["pl0 run /tmp/a.pl0", "pl0 trace /tmp/a.pl0", "pl0 check /tmp/a.pl0"]);
 
   const { regexp, file, line, column, severity, message } = contributed.problemMatchers[0].pattern;
   const found = new RegExp(regexp).exec("/home/a b/gcd.pl0:3:9: error: `;` is missing");
