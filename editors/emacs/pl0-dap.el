@@ -46,35 +46,32 @@
 ;; As one types, `pl0 check -' looks at the text, and what it says is marked.
 (defvar-local pl0-flymake-process nil "The last check of the text of this buffer.")
 
-(defun pl0-flymake-told (source)
-  "The diagnostics of SOURCE that the current buffer tells."
-  (let (told)
+(defun pl0-flymake-reported (source)
+  "The diagnostics of SOURCE that the current buffer reports."
+  (let (reported)
     (goto-char (point-min))
     (while (re-search-forward "^-:\\([0-9]+\\):\\([0-9]+\\): \\(error\\|warning\\): \\(.*\\)$" nil t)
       (pcase-let* ((`(,line ,column ,kind ,words) (mapcar #'match-string '(1 2 3 4)))
                    (`(,begin . ,end) (flymake-diag-region source (string-to-number line) (string-to-number column))))
-        (push (flymake-make-diagnostic source begin end (if (equal kind "error") :error :warning) words) told)))
-    told))
-
-(defun pl0-flymake-end (source report)
-  "A sentinel that has REPORT told what a check says of SOURCE, if it is the last one."
-  (lambda (process _event)
-    (unless (process-live-p process)
-      (when (and (buffer-live-p source) (eq process (buffer-local-value 'pl0-flymake-process source)))
-        (funcall report (with-current-buffer (process-buffer process) (pl0-flymake-told source))))
-      (kill-buffer (process-buffer process)))))
+        (push (flymake-make-diagnostic source begin end (if (equal kind "error") :error :warning) words) reported)))
+    reported))
 
 (defun pl0-flymake (report &rest _)
-  "Have REPORT told what `pl0 check -' says of the current buffer."
-  (let ((process (make-process :name "pl0-flymake" :noquery t :connection-type 'pipe
-                               :buffer (generate-new-buffer " *pl0-flymake*")
-                               :command (list pl0-command "check" "-")
-                               :sentinel (pl0-flymake-end (current-buffer) report))))
+  "Call REPORT with what `pl0 check -' reports of the current buffer, if no later check has begun."
+  (let* ((source (current-buffer))
+         (end (lambda (process _event)
+                (unless (process-live-p process)
+                  (when (and (buffer-live-p source) (eq process (buffer-local-value 'pl0-flymake-process source)))
+                    (funcall report (with-current-buffer (process-buffer process) (pl0-flymake-reported source))))
+                  (kill-buffer (process-buffer process)))))
+         (process (make-process :name "pl0-flymake" :noquery t :connection-type 'pipe :sentinel end
+                                :buffer (generate-new-buffer " *pl0-flymake*") :command (list pl0-command "check" "-"))))
     (setq pl0-flymake-process process)
     (save-restriction
       (widen)
-      (process-send-region process (point-min) (point-max))
-      (process-send-eof process))))
+      (ignore-errors ; a text that is too long isn't read to its end, and Flymake would drop this check for good
+        (process-send-region process (point-min) (point-max))
+        (process-send-eof process)))))
 
 ;;;###autoload
 (add-to-list 'auto-mode-alist '("\\.pl0\\'" . pl0-mode))
