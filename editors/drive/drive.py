@@ -148,8 +148,8 @@ def drive_neovim(_session: str, _program: str) -> bool:
 
 
 def take_picture(_session: str, program: str) -> bool:
-    words = [sys.executable, os.path.join(DRIVE, "terminal.py"), picture("emacs.png"), program]
-    return subprocess.run(words).returncode == 0
+    words = [sys.executable, os.path.join(DRIVE, "terminal.py"), picture("emacs.png"), place_of(KEYS), *LISTEN]
+    return subprocess.run([*words, *proxy(KEYS, program)]).returncode == 0
 
 
 def drive_all(program: str, from_zero: str, stack: str) -> tuple[bool, bool]:
@@ -161,7 +161,7 @@ def drive_all(program: str, from_zero: str, stack: str) -> tuple[bool, bool]:
         ("Emacs, by keys", emacs + missing("tmux"), ("keys",), type_keys, program),
         ("Emacs with an adapter of one's own", emacs, ("own",), drive_emacs, stack),
         ("Emacs at a mistake", emacs + pl0, ("mistake",), drive_emacs, program),
-        ("Emacs in a terminal", emacs + missing("xterm") + display, ("picture",), take_picture, program),
+        ("Emacs in a terminal", emacs + missing("tmux", "xterm") + display, ("picture",), take_picture, program),
         ("Kate", missing("kate") + display, ("factorial", "condition", "endless", "words", "writes", "mistake"),
          drive_kate, from_zero),
         ("CodeLite", missing("codelite") + display, ("factorial", "endless", "writes"), drive_codelite, program),

@@ -5,9 +5,6 @@
 ;; SESSION is factorial, back, fault, endless, refused or mistake, which wants pl0 on the path; or own, of which the adapter is
 ;; stack_adapter, and the settings are those of docs/YOUR_OWN_ADAPTER.md.  COMMAND starts the adapter, or the proxy before it.
 ;; Prints what Emacs shows, line by line, and ends with status 0 at the end of the session.
-;;
-;; SESSION picture is for an Emacs in a terminal, without --batch: it stops, shows frames, variables and output, and makes the file
-;; that the variable DRIVE_SHOWN names.  Emacs stays as it is.
 
 (require 'package)
 (package-initialize)
@@ -262,47 +259,7 @@ It warns of what is left."
     (drive-wait "the end" (not (dap--session-running (dap--cur-session))))
     (drive-show-output)))
 
-(defun drive-open-frames ()
-  "Open the nodes of the view of sessions: the session, its thread, and then the frames are there."
-  (dotimes (_ 3)
-    (lsp-treemacs-render (dap-ui--sessions-tree) " Debug Sessions " t dap-ui--sessions-buffer)
-    (drive-rest 0.5)))
-
-(defun drive-show-views ()
-  "Show the program, its variables, what was logged, and the frames."
-  (dap-ui-locals)
-  (drive-open-frames)
-  (let ((program (get-file-buffer (expand-file-name "examples/factorial.pl0" drive-folder)))
-        (ignore-window-parameters t))
-    (delete-other-windows)
-    (switch-to-buffer program)
-    (let* ((below (split-window nil 22 'below))
-           (beside (split-window nil 92 'right))
-           (corner (split-window below 48 'right)))
-      (set-window-buffer beside dap-ui--locals-buffer)
-      (set-window-buffer below (dap--debug-session-output-buffer (dap--cur-session)))
-      (set-window-buffer corner dap-ui--sessions-buffer))))
-
-(defun drive-picture ()
-  "A stop as a user sees it: a log point has spoken, and the newest of four frames is selected."
-  (menu-bar-mode -1)
-  (setq frame-background-mode 'light
-        inhibit-startup-screen t
-        native-comp-async-report-warnings-errors nil)
-  (frame-set-background-mode nil)
-  (drive-start "examples/factorial.pl0")
-  (drive-breakpoint 9 "dap-breakpoint-log-message" "k is {k}, n {n}")
-  (drive-breakpoint 10 "dap-breakpoint-condition" "k = 8")
-  (drive-debug)
-  (drive-wait "a stop" (drive-frame))
-  (drive-show-views)
-  (drive-rest 1)
-  (message nil)
-  (redisplay t)
-  (write-region "" nil (getenv "DRIVE_SHOWN") nil 'silent))
-
 (pcase drive-session
-  ("picture" (drive-picture))
   ("factorial" (drive-factorial))
   ("back" (drive-back))
   ("fault" (drive-fault))
@@ -311,5 +268,4 @@ It warns of what is left."
   ("own" (drive-own))
   ("mistake" (drive-mistake))
   (_ (drive-show "no session %s" drive-session) (kill-emacs 4)))
-(when noninteractive
-  (kill-emacs 0))
+(kill-emacs 0)

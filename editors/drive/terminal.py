@@ -1,53 +1,40 @@
 #!/usr/bin/env python3
-"""Takes a picture of Emacs in a terminal, at a stop of examples/factorial.pl0.
+"""Takes a picture of Emacs in a terminal, at a stop of factorial.pl0.
 
-usage: terminal.py PICTURE COMMAND..
+usage: terminal.py PICTURE TRANSCRIPT COMMAND..
 
-COMMAND starts the adapter. Emacs runs in xterm on a display of its own; emacs.el brings it to the stop, and shows the
-program, its variables, what a log point has said, and the frames. PICTURE gets a PNG of that. Ends with status 1 where
-no stop is shown in time. Needs emacs with dap-mode, xterm, Xvfb and xdotool.
+COMMAND and TRANSCRIPT are those of keys.py. Keys bring Emacs to the stop, and show variables, frames and what a log
+point has written. PICTURE gets a PNG of it, in xterm on a display of its own. Ends with status 1 where something
+doesn't come in time. Needs what keys.py does, xterm, Xvfb and xdotool.
 """
 from __future__ import annotations
 
-import os
 import subprocess
 import sys
-import time
 
+from keys import FRAMES, Transcript, emacs, key, must
 from screen import Screen
 
-DRIVER = os.path.join(os.path.dirname(os.path.realpath(__file__)), "emacs.el")
-LIMIT = float(os.environ.get("DRIVE_SECONDS", "60"))  # seconds that Emacs gets to come to the stop
-TERMINAL = ("xterm", "-tn", "xterm-256color", "-fa", "DejaVu Sans Mono", "-fs", "11", "-bg", "white", "-fg", "black")
+TERMINAL = ("xterm", "-tn", "xterm-256color", "-fa", "DejaVu Sans Mono", "-fs", "10", "-bg", "white", "-fg", "black",
+            "-ms", "white", "-geometry", "134x42+0+0")  # the mouse is white too
+OPEN, OTHER_WINDOW = "Tab", ("C-x", "o")
 
 
-def waits_for(place: str) -> bool:
-    """Whether a file is made in time."""
-    until = time.monotonic() + LIMIT
-    while not os.path.exists(place):
-        if time.monotonic() > until:
-            return False
-        time.sleep(0.2)
-    return True
-
-
-def main() -> int:
-    picture, *command = sys.argv[1:]
-    with Screen(1100, 720) as screen:
-        shown = os.path.join(screen.folder.name, "shown")
-        emacs = ("emacs", "-nw", "--no-init-file", "--load", DRIVER, "--", "picture", *command)
-        words = [*TERMINAL, "-geometry", "122x38+0+0", "-e", *emacs]
-        terminal = subprocess.Popen(words, env={**screen.settings, "DRIVE_SHOWN": shown}, stderr=subprocess.DEVNULL)
-        try:
-            if not waits_for(shown):
-                print("Emacs shows no stop")
-                return 1
-            screen.take(picture)
-        finally:
-            terminal.terminate()
-            terminal.wait()
-    return 0
+def main() -> None:
+    picture, place, *adapter = sys.argv[1:]
+    with Screen(1076, 720) as screen, emacs(adapter) as terminal:
+        shown = subprocess.Popen([*TERMINAL, "-e", "tmux", "-L", terminal.name, "attach"], env=screen.settings)
+        terminal.type("M-g", "g", " 9 ", "Enter", *key("Toggle"), *key("Log"), " k is {k}, n {n} ", "Enter",
+                      "Down", *key("Toggle"), *key("When"), " k = 8 ", "Enter", *key("Debug"), " PL/0 ", "Enter")
+        Transcript(place).must('"reason":"breakpoint"', FRAMES)
+        terminal.press(*key("Variables"), *key("Frames"), *OTHER_WINDOW, *OTHER_WINDOW, "C-u", " 28 ", "C-x", "}")
+        terminal.press(OPEN, "Down", OPEN)
+        must("the frames", lambda: "factorial.pl0:16)" in terminal.screen())
+        terminal.press(*OTHER_WINDOW, *OTHER_WINDOW)
+        screen.take(picture)
+        shown.terminate()
+        shown.wait()
 
 
 if __name__ == "__main__":
-    sys.exit(main())
+    main()

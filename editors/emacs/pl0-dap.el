@@ -8,7 +8,6 @@
 ;;; Code:
 
 (require 'dap-mode)
-(require 'dap-hydra)
 (require 'dap-ui)
 (require 'dap-utils)
 
@@ -31,7 +30,20 @@
       ("\\<[0-9]+\\>" . font-lock-constant-face)))
   "What `pl0-mode' highlights.")
 
-;;;###autoload
+(defun pl0-keymap (commands)
+  "A keymap in which each of COMMANDS has `C-c C-' and the first letter of its word for its key."
+  (let ((map (make-sparse-keymap)))
+    (pcase-dolist (`(,word . ,command) commands)
+      (define-key map (kbd (format "C-c C-%c" (downcase (aref word 0)))) command))
+    map))
+
+(defconst pl0-commands
+  '(("Debug" . dap-debug) ("Toggle breakpoint" . dap-breakpoint-toggle) ("When" . dap-breakpoint-condition)
+    ("After" . dap-breakpoint-hit-condition) ("Log" . dap-breakpoint-log-message))
+  "What has keys in each program: a word for each command.")
+
+(defvar pl0-mode-map (pl0-keymap pl0-commands) "The keys of `pl0-mode'.")
+
 (define-derived-mode pl0-mode prog-mode "PL/0"
   "Major mode for programs in PL/0, which has neither comments nor texts in quotes."
   (setq-local font-lock-defaults '(pl0-font-lock-keywords t))
@@ -73,7 +85,6 @@
         (process-send-region process (point-min) (point-max))
         (process-send-eof process)))))
 
-;;;###autoload
 (add-to-list 'auto-mode-alist '("\\.pl0\\'" . pl0-mode))
 
 ;; What these commands print of a mistake or a fault begins with its file, line and column, and `next-error' goes there.
@@ -84,19 +95,16 @@
   (save-buffer)
   (compilation-start (mapconcat #'shell-quote-argument (list pl0-command what buffer-file-name) " ")))
 
-;;;###autoload
 (defun pl0-run ()
   "Run the program of the current buffer."
   (interactive)
   (pl0-compile "run"))
 
-;;;###autoload
 (defun pl0-trace ()
   "Show the run of the program of the current buffer, step by step."
   (interactive)
   (pl0-compile "trace"))
 
-;;;###autoload
 (defun pl0-check ()
   "Look for a mistake in the program of the current buffer."
   (interactive)
@@ -105,7 +113,7 @@
 (defconst pl0-status-of-mistake 2 "The status of `pl0 check' where a text has a mistake.")
 
 (defun pl0-checked (program)
-  "The status of `pl0-command' after a check of the file PROGRAM, and what it told.
+  "The status of `pl0-command' after a check of the file PROGRAM, and what it printed.
 Nil where it can't be asked."
   (when (and (executable-find pl0-command) (file-regular-p program))
     (with-temp-buffer
@@ -119,13 +127,13 @@ It is an error, and its place is that of the next one.  Warnings are shown."
     (with-current-buffer (or buffer (current-buffer))
       (when (and buffer (buffer-modified-p))
         (save-buffer))
-      (pcase-let ((`(,status . ,told) (pl0-checked program)))
+      (pcase-let ((`(,status . ,printed) (pl0-checked program)))
         (cond ((equal status pl0-status-of-mistake)
                (when buffer
                  (pl0-check))
-               (user-error "%s" told))
-              ((and (equal status 0) (not (string-empty-p told)))
-               (display-warning 'pl0 told)))))))
+               (user-error "%s" printed))
+              ((and (equal status 0) (not (string-empty-p printed)))
+               (display-warning 'pl0 printed)))))))
 
 (defun pl0-dap-configuration (configuration)
   "CONFIGURATION with what it leaves out: the adapter and the program.
@@ -152,108 +160,99 @@ The program is the current buffer's file.  A text with a mistake is an error."
 (when dap-output-buffer-filter
   (add-to-list 'dap-output-buffer-filter "console"))
 
-(defun pl0-dap-session-p (session)
-  "Whether SESSION is with this adapter."
-  (equal "pl0" (plist-get (dap--debug-session-launch-args session) :type)))
+(defun pl0-dap-program (session)
+  "The program of SESSION; nil where another adapter debugs it."
+  (let ((launched (dap--debug-session-launch-args session)))
+    (when (equal "pl0" (plist-get launched :type))
+      (plist-get launched :program))))
 
-;; While a program is debugged all commands are under a letter or two each, until `q' or the program's end.
-(defhydra pl0-dap-keys (:color pink :hint nil :foreign-keys run :inherit (dap-hydra/heads))
-  "
-_n_ next  _i_ in  _o_ out  _c_ continue  _p_ pause   _B_ step back  _C_ continue back   _ee_ evaluate  _sl_ variables  _sS_ frames
-_bb_ breakpoint  _bc_ condition  _bh_ hit condition  _bl_ log message   _Q_ end the session
-"
-  ("p" pl0-dap-pause)
-  ("B" pl0-dap-step-back)
-  ("C" pl0-dap-reverse-continue))
+(defconst pl0-dap-commands
+  '(("Next" . dap-next) ("In" . dap-step-in) ("Out" . dap-step-out) ("Continue" . dap-continue) ("Back" . pl0-dap-step-back)
+    ("Reverse" . pl0-dap-reverse-continue) ("Evaluate" . dap-eval) ("Variables" . pl0-dap-variables) ("Frames" . pl0-dap-frames)
+    ("Pause" . pl0-dap-pause) ("Quit" . dap-disconnect))
+  "What has keys in a program that is debugged: a word for each command.")
+
+;; A stop selects the program's window, also if somebody types elsewhere: so that this doesn't get into the text, it is read-only.
+(define-minor-mode pl0-dap-mode
+  "Keys for a program that is debugged; its text can't be changed meanwhile."
+  :lighter " Debug"
+  :keymap (pl0-keymap pl0-dap-commands)
+  (setq buffer-read-only (or pl0-dap-mode (not (file-writable-p buffer-file-name)))))
+
+(defun pl0-dap-header (session)
+  "The words whose first letters are keys in SESSION now."
+  (let ((words (mapcar #'car (append pl0-dap-commands (cdr pl0-commands)))))
+    (string-join (cons "C-c C-LETTER:" (if (dap--debug-session-thread-id session) (remove "Pause" words) '("Pause" "Quit"))) " ")))
 
 (defun pl0-dap-show-keys (session)
-  "Show the keys where SESSION is with this adapter and somebody looks."
-  (when (and (pl0-dap-session-p session) (not noninteractive))
-    (pl0-dap-keys/body)))
+  "Switch `pl0-dap-mode' on while the program of SESSION is debugged, and show its keys."
+  (when-let* ((program (pl0-dap-program session))
+              (buffer (find-buffer-visiting program)))
+    (with-current-buffer buffer
+      (let ((debugged (cl-some (lambda (one) (and (dap--session-running one) (equal program (pl0-dap-program one))))
+                               (cons (dap--cur-session) (dap--get-sessions)))))
+        (unless (eq debugged pl0-dap-mode) (pl0-dap-mode (if debugged 1 -1)))
+        (setq header-line-format (when debugged (pl0-dap-header session)))))))
 
-(defun pl0-dap-show-keys-at-start (session event)
-  "Show the keys where EVENT of SESSION is the one after a launch."
-  (when (equal "initialized" (gethash "event" event))
-    (pl0-dap-show-keys session)))
+(dolist (hook '(dap-session-created-hook dap-continue-hook dap-stack-frame-changed-hook dap-terminated-hook))
+  (add-hook hook #'pl0-dap-show-keys))
 
-(defun pl0-dap-leave-keys (session)
-  "Leave the keys where SESSION is with this adapter."
-  (when (and (pl0-dap-session-p session) (not noninteractive))
-    (hydra-keyboard-quit)))
+;; What is typed into a minibuffer, as behind `M-x', or into a search goes there, even if a stop arrives meanwhile.
+(defun pl0-dap-go-once-typed (go session frame)
+  "GO to FRAME of SESSION, once nothing is read, if the program still stands there."
+  (if (not (and (pl0-dap-program session)
+                (or (minibufferp (window-buffer)) (buffer-local-value 'isearch-mode (window-buffer)))))
+      (funcall go session frame)
+    (setf (dap--debug-session-active-frame session) frame)
+    (run-with-timer 0.1 nil (lambda ()
+                              (when (eq frame (dap--debug-session-active-frame session))
+                                (pl0-dap-go-once-typed go session frame))))))
 
-;; The letters that are typed into a minibuffer, as behind `M-x', are no keys: they are left until it has been read.
-(defvar pl0-dap-typing nil "Whether the keys were left for a minibuffer.")
+(advice-add 'dap--go-to-stack-frame :around #'pl0-dap-go-once-typed)
 
-(defun pl0-dap-leave-keys-to-type ()
-  "Leave the keys while a minibuffer reads."
-  (when (and hydra-curr-map (eq hydra-curr-map pl0-dap-keys/keymap) overriding-terminal-local-map)
-    (setq pl0-dap-typing t)
-    (hydra-keyboard-quit)))
+(defun pl0-dap-variables ()
+  "Show scopes and variables beside the program."
+  (interactive)
+  (save-selected-window (dap-ui-locals)))
 
-(defun pl0-dap-show-keys-again ()
-  "Show the keys that were left for a minibuffer, once it has been read."
-  (when pl0-dap-typing
-    (setq pl0-dap-typing nil)
-    (run-with-timer 0 nil (lambda ()
-                            (let ((session (dap--cur-session)))
-                              (when (dap--session-running session)
-                                (pl0-dap-show-keys session)))))))
-
-(add-hook 'minibuffer-setup-hook #'pl0-dap-leave-keys-to-type)
-(add-hook 'minibuffer-exit-hook #'pl0-dap-show-keys-again)
-(advice-add 'dap--on-event :after #'pl0-dap-show-keys-at-start)
-(add-hook 'dap-stopped-hook #'pl0-dap-show-keys)
-(add-hook 'dap-terminated-hook #'pl0-dap-leave-keys)
+(defun pl0-dap-frames ()
+  "Show sessions and frames beside the program."
+  (interactive)
+  (save-selected-window (dap-ui-sessions)))
 
 ;; A program has one thread, whose number is 1, so there is nothing to ask.
-;;;###autoload
 (defun pl0-dap-pause (session)
   "Stop the program of SESSION where it runs."
   (interactive (list (dap--cur-session-or-die)))
   (dap-stop-thread-1 session 1))
 
 ;; dap-mode has no commands for going back.
-;;;###autoload
 (defun pl0-dap-step-back (session)
   "Go back by a step in SESSION."
   (interactive (list (dap--cur-session-or-die)))
   (dap--step "stepBack" session))
 
-;;;###autoload
 (defun pl0-dap-reverse-continue (session)
   "Go back in SESSION to the last place where a breakpoint would have stopped the program, or to its beginning."
   (interactive (list (dap--cur-session-or-die)))
   (dap--step "reverseContinue" session))
 
 ;; dap-mode says nothing of a breakpoint that was refused.
-(defun pl0-dap-refusal (asked answer)
-  "Why the breakpoint ASKED in the current buffer was refused, by its ANSWER.
-Nil where it was set."
-  (unless (gethash "verified" answer)
-    (format "The breakpoint at line %d stops nothing: %s"
-            (line-number-at-pos (dap-breakpoint-get-point asked))
-            (gethash "message" answer))))
-
 (defun pl0-dap-show-refusals (session response file-name)
   "Warn of each breakpoint in FILE-NAME that was refused in SESSION by RESPONSE.
 Breakpoints in other files than the program are left alone."
-  (when (and (pl0-dap-session-p session)
-             (file-equal-p file-name (plist-get (dap--debug-session-launch-args session) :program)))
+  (when-let* ((program (pl0-dap-program session))
+              ((file-equal-p file-name program)))
     (with-current-buffer (find-file-noselect file-name)
-      (dolist (refusal (delq nil (cl-mapcar #'pl0-dap-refusal
-                                            (gethash file-name (dap--get-breakpoints))
-                                            (gethash "breakpoints" (gethash "body" response)))))
-        (display-warning 'pl0 refusal)))))
+      (cl-mapc (lambda (asked answer)
+                 (unless (gethash "verified" answer)
+                   (display-warning 'pl0 (format "The breakpoint at line %d stops nothing: %s"
+                                                 (line-number-at-pos (dap-breakpoint-get-point asked))
+                                                 (gethash "message" answer)))))
+               (gethash file-name (dap--get-breakpoints))
+               (gethash "breakpoints" (gethash "body" response))))))
 
 (advice-add 'dap--update-breakpoints :after #'pl0-dap-show-refusals)
-
-;; The adapter's process ends at the end of its input, which dap-mode leaves open after `disconnect'.
-(defun pl0-dap-close-input (message _callback session)
-  "Close the adapter's input if MESSAGE, which was sent in SESSION, is `disconnect'."
-  (when (and (equal "disconnect" (plist-get message :command)) (pl0-dap-session-p session))
-    (process-send-eof (dap--debug-session-proc session))))
-
-(advice-add 'dap--send-message :after #'pl0-dap-close-input)
 
 ;; A fault's name is in the event `stopped'.  dap-mode asks for it once more, by `exceptionInfo', and shows what it is answered.
 (defvar pl0-dap-fault nil "The name of the fault before which a program stopped last.")
@@ -265,13 +264,17 @@ Breakpoints in other files than the program are left alone."
 
 (advice-add 'dap--on-event :before #'pl0-dap-keep-fault)
 
-(defun pl0-dap-answer-exception-info (send message callback session)
-  "Answer MESSAGE by CALLBACK if it asks for the fault of SESSION, and else SEND it."
-  (if (and (equal "exceptionInfo" (plist-get message :command)) (pl0-dap-session-p session))
-      (funcall callback (ht ("body" (ht ("exceptionId" pl0-dap-fault) ("description" "The next step can't be taken")))))
-    (funcall send message callback session)))
+;; After `disconnect' the adapter's process ends at the end of its input, which dap-mode leaves open.
+(defun pl0-dap-send (send message callback session)
+  "SEND MESSAGE of SESSION, whose answer goes to CALLBACK; for a fault that is known already, answer."
+  (pcase (when (pl0-dap-program session) (plist-get message :command))
+    ("exceptionInfo"
+     (funcall callback (ht ("body" (ht ("exceptionId" pl0-dap-fault) ("description" "The next step can't be taken"))))))
+    (command
+     (funcall send message callback session)
+     (when (equal "disconnect" command) (process-send-eof (dap--debug-session-proc session))))))
 
-(advice-add 'dap--send-message :around #'pl0-dap-answer-exception-info)
+(advice-add 'dap--send-message :around #'pl0-dap-send)
 
 ;; These mark the line of a stop and those of breakpoints, and make a menu Debug.
 (dap-mode 1)
