@@ -50,7 +50,8 @@ inbox_reports f before (e ∷ events) given loads (inl from) =
     inbox_reports f (before ++ e ∷ []) events given from.1 from.4
     ∙ sym (load_reports f before e from.0 events from.3)
 inbox_reports f before (e ∷ events) given loads (inr from) =
-    ap reports_among from.1 ∙ reports_more e from.0 events (inbox_reports f (before ++ e ∷ []) events from.0 loads from.3)
+    ap reports_among from.1
+    ∙ reports_more e from.0 events (inbox_reports f (before ++ e ∷ []) events from.0 loads from.3)
 
 -- ---- all together
 

@@ -62,4 +62,5 @@ pub record NothingIsLeft (dialect : Dialect) (before now : World) : Type 0 where
 
 -- Where all wait and the queues are empty, nothing is left to do.
 abbrev pub WaitingOwesNothing : Type 0
-WaitingOwesNothing = (dialect : Dialect) (before now : World) → AreWaiting dialect before now → NothingIsLeft dialect before now
+WaitingOwesNothing =
+    (dialect : Dialect) (before now : World) → AreWaiting dialect before now → NothingIsLeft dialect before now

@@ -40,7 +40,8 @@ pub record Ends (I O L R : Type 0) : Type 0 where
   pub output : O
   pub loader : L
 
-module _ {I O L : Type 0} (R : Type 0) (supply_of : I → Supply) (output_of : O → Output) (loaded_of : L → List Load) where
+module _ {I O L : Type 0} (R : Type 0) (supply_of : I → Supply) (output_of : O → Output)
+    (loaded_of : L → List Load) where
   -- Nothing is inside: of each sender, what it put is what was taken.
   pub record QueuesAreEmpty (e : Ends I O L R) : Type 0 where
     pub inbox_first :

@@ -117,14 +117,13 @@ where
     let Ok(arguments) = borrow_texts(rt.alloc(), given.as_slice()) else {
         return report(rt, &[], ExitReason::NoMemory, errors);
     };
-    let arguments = arguments.as_slice();
-    let asked = parse_arguments(rt.alloc(), arguments);
+    let asked = parse_arguments(rt.alloc(), arguments.as_slice());
     let mut loader = FileLoader::new(rt, rt.alloc(), files, kinds_for(&asked));
     let reason = carry_out(
         rt,
         rights,
         dialect,
-        arguments,
+        arguments.as_slice(),
         asked,
         &mut loader,
         input,

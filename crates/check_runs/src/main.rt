@@ -3,10 +3,10 @@
 //! command line is that of this process.
 #![tactic(auto)]
 
-use adapter::{Dialect, Reading, SystemFiles, Writing, run};
+use adapter::{Dialect, Opener, Reading, Sink, Source, SystemFiles, Writing, run};
 use std::alloc::{AllocError, Global};
-use std::env;
 use std::env::Args;
+use std::{env, io};
 
 /// Files that are checked: each has a listing, or else a fault, or isn't there.
 const FILES: [&str; 11] = [
@@ -30,7 +30,29 @@ fn main(rt: HostRuntime) -> Result<(), anyhow::Error> {
     let output = &mut Writing::new(&rt, rt.stdout());
     let errors = &mut Writing::new(&rt, rt.stdout());
     println!(rt; "two.pl0:")?;
-    let given = env::args(&rt);
+    run_line(rt, env::args(&rt), files, input, output, errors)?;
+    for file in FILES {
+        println!(rt; "{file}:")?;
+        let given = arguments(rt.alloc(), &["--check", file])?;
+        run_line(rt, Ok(given), files, input, output, errors)?;
+    }
+    for option in ["--help", "--check", "--chec"] {
+        println!(rt; "{option}:")?;
+        let given = arguments(rt.alloc(), &[option])?;
+        run_line(rt, Ok(given), files, input, output, errors)?;
+    }
+    Ok(())
+}
+
+/// Does what a command line asks for, and prints the exit status.
+fn run_line<F: Opener, I: Source + Send, O: Sink + Send, E: Sink>(
+    rt: HostRuntime,
+    given: io::Result<Args>,
+    files: &mut F,
+    input: &mut I,
+    output: &mut O,
+    errors: &mut E,
+) -> Result<(), anyhow::Error> {
     let reason = run(
         &rt,
         &rt,
@@ -42,36 +64,6 @@ fn main(rt: HostRuntime) -> Result<(), anyhow::Error> {
         errors,
     );
     println!(rt; "status {}", reason.status())?;
-    for file in FILES {
-        println!(rt; "{file}:")?;
-        let given = arguments(rt.alloc(), &["--check", file])?;
-        let reason = run(
-            &rt,
-            &rt,
-            Dialect::Codes,
-            Ok(given),
-            files,
-            input,
-            output,
-            errors,
-        );
-        println!(rt; "status {}", reason.status())?;
-    }
-    for option in ["--help", "--check", "--chec"] {
-        println!(rt; "{option}:")?;
-        let given = arguments(rt.alloc(), &[option])?;
-        let reason = run(
-            &rt,
-            &rt,
-            Dialect::Codes,
-            Ok(given),
-            files,
-            input,
-            output,
-            errors,
-        );
-        println!(rt; "status {}", reason.status())?;
-    }
     Ok(())
 }
 
