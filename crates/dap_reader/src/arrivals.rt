@@ -71,6 +71,8 @@ impl<W: Worker, O: Sink> Inbox<O> for Arrivals<W, O> {
 
     /// It receives one item, and returns it: it waits for no further one before.
     fn next(&mut self, rt: &impl Wait, _alloc: Global, _output: &O) -> Item
+        requires { OwesNothingIdle W.replies W.works W.busy Reads Looks (begun self.old).1 (begun self.old).0
+            (taken self.old) (O.output (begun self.old).2).written (O.output _output.now).written }
         ensures gives { Reads (taken self.old) (plain_item result) (taken self.new)
             × (origin self.new ≡ origin self.old) }
         ensures once { received self.new ≡ received self.old + 1 }
