@@ -269,9 +269,16 @@ fn page_asked(arguments: Option<&Value>) -> Page
 {
     let asked = whole(arguments, "count").unwrap_or(0);
     Page {
-        start: whole(arguments, "start").unwrap_or(0) as usize,
+        start: index_of(whole(arguments, "start").unwrap_or(0)),
         count: page_count(asked) as usize,
     }
+}
+
+/// Returns a number as an index; the largest one where `usize` is too narrow, which is an index of nothing.
+fn index_of(number: u64) -> usize
+    ensures { result ≡ number }
+{
+    number.min(usize::MAX as u64) as usize
 }
 
 /// Shows variables inside the one with this number.
@@ -314,7 +321,7 @@ fn number_of_reference(reference: u64) -> Option<usize>
     ensures { result ≡ number_of_reference reference }
 {
     if INSIDE_BASE < reference {
-        Some((reference - INSIDE_BASE - 1) as usize)
+        Some(index_of(reference - INSIDE_BASE - 1))
     } else {
         None
     }

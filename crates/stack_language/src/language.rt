@@ -88,7 +88,7 @@ impl Language for Machine {
     }
 
     fn place_for(&self, line: u64) -> Option<Location> {
-        let place = self.line_at_or_after(line.saturating_sub(1) as usize)?;
+        let place = self.line_at_or_after(index_of(line.saturating_sub(1)))?;
         let line = shown_line(place);
         Some(Location { place, line })
     }
@@ -273,4 +273,11 @@ fn reason(fault: Fault) -> &'static str
         Fault::TooFew => "a number is missing on the stack",
         Fault::TooMany => "there are too many numbers or calls",
     }
+}
+
+/// Returns a number as an index; the largest one where `usize` is too narrow, which is an index of nothing.
+fn index_of(number: u64) -> usize
+    ensures { result ≡ number }
+{
+    number.min(usize::MAX as u64) as usize
 }
