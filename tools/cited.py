@@ -53,6 +53,7 @@ WAYS = {
     "shown": (["dap_history.Shown.AnswersShowTheProgram"], HISTORY),
     "last": (["dap_history.Laws.DisconnectIsLast"], HISTORY),
     "history": (["adapter.Written.OutputIsOfHistory"], [BYTES, *HISTORY]),
+    "waiting": (["adapter.Waiting.WaitingOwesNothing"], HISTORY),
     "contract": ([CONTRACT], []),
 }
 

@@ -53,6 +53,7 @@ VERSIONS = {
     "docs/pl0dap.1": rf'^\.TH .*"pl0dap {VERSION}"',
     "docs/EDITORS.md": rf"pl0dap\.pl0-{VERSION}`",
     "editors/vscode/package.json": rf'^  "version": "{VERSION}"',
+    "Cargo.toml": rf'^version = "{VERSION}"$',
     "CHANGELOG.md": rf"^## {VERSION}, \d{{4}}-\d{{2}}-\d{{2}}$",
 }
 FUNCTION = re.compile(r"^( *)(?:pub(?:\([a-z ]+\))? )?(?:const )?(?:unsafe )?(?:ghost )?fn (\w+)")
