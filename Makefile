@@ -190,8 +190,8 @@ threads:
 	@tools/threads/explore.sh
 
 # Whether the files, headings and functions that the pages name are there, and what the model of the threads names, whether
-# functions and lines are short, whether README.md has the right sizes and pages have few words, whether each lemma is used and
-# isn't the library's, and nothing stands in specs/ that serves proofs alone, whether each edit can be applied, and whether
+# functions and lines are short, whether README.md has the right sizes and pages have few words, whether each lemma is used
+# and nothing stands in specs/ that serves proofs alone, whether each edit can be applied, and whether
 # README's session and the lessons' commands go as the pages have them.
 pages: programs
 	python3 checks/played_pages.py $(STOCK)/pl0dap $(STOCK)/pl0
@@ -201,7 +201,6 @@ pages: programs
 	python3 tools/cited.py --page
 	python3 tools/edits.py
 	python3 tools/dead_lemmas.py
-	$(if $(shell command -v rt),python3 tools/known_lemmas.py,@echo "Without the kit no lemma is compared with its library's")
 
 # Programs that the compiler must refuse, which the gate can't judge.
 compile-fail:
