@@ -25,7 +25,7 @@ pub const LISTING: &[u8] = b"0 3 7 assign
 ";
 
 /// Asserts that judging what the loader gives writes this, and ends the program with this status and last line.
-fn assert_judged<R: Abort + Wait + AllocGlobal, L: Loader>(
+fn assert_judged<R: Abort + Wait + AllocGlobal + Drop, L: Loader>(
     rt: &R,
     alloc: Global,
     loader: &mut L,

@@ -3,24 +3,27 @@
 //! command line is that of this process.
 #![tactic(auto)]
 
-use adapter::{Dialect, Opener, Reading, Sink, Source, SystemFiles, Writing, run};
+use adapter::{Dialect, Reading, SystemFiles, Writing, run};
 use std::alloc::{AllocError, Global};
 use std::env::Args;
 use std::{env, io};
 
-/// Files that are checked: each has a listing, or else a fault, or isn't there.
-const FILES: [&str; 11] = [
-    "factorial.pl0",
-    "fault.pl0",
-    "gcd.pl0",
-    "nested.pl0",
-    "odd.pl0",
-    "overflow.pl0",
-    "primes.pl0",
-    "procedures.pl0",
-    "wirth.pl0",
-    "mistake.pl0",
-    "missing.pl0",
+/// Command lines: an option, and the file that it gets. A file that is checked has a listing, or else a fault, or isn't there.
+const LINES: [(&str, Option<&str>); 14] = [
+    ("--check", Some("factorial.pl0")),
+    ("--check", Some("fault.pl0")),
+    ("--check", Some("gcd.pl0")),
+    ("--check", Some("nested.pl0")),
+    ("--check", Some("odd.pl0")),
+    ("--check", Some("overflow.pl0")),
+    ("--check", Some("primes.pl0")),
+    ("--check", Some("procedures.pl0")),
+    ("--check", Some("wirth.pl0")),
+    ("--check", Some("mistake.pl0")),
+    ("--check", Some("missing.pl0")),
+    ("--help", None),
+    ("--check", None),
+    ("--chec", None),
 ];
 
 /// Does what each command line asks for, with what is said on standard error printed to standard output.
@@ -30,29 +33,7 @@ fn main(rt: HostRuntime) -> Result<(), anyhow::Error> {
     let output = &mut Writing::new(&rt, rt.stdout());
     let errors = &mut Writing::new(&rt, rt.stdout());
     println!(rt; "two.pl0:")?;
-    run_line(rt, env::args(&rt), files, input, output, errors)?;
-    for file in FILES {
-        println!(rt; "{file}:")?;
-        let given = arguments(rt.alloc(), &["--check", file])?;
-        run_line(rt, Ok(given), files, input, output, errors)?;
-    }
-    for option in ["--help", "--check", "--chec"] {
-        println!(rt; "{option}:")?;
-        let given = arguments(rt.alloc(), &[option])?;
-        run_line(rt, Ok(given), files, input, output, errors)?;
-    }
-    Ok(())
-}
-
-/// Does what a command line asks for, and prints the exit status.
-fn run_line<F: Opener, I: Source + Send, O: Sink + Send, E: Sink>(
-    rt: HostRuntime,
-    given: io::Result<Args>,
-    files: &mut F,
-    input: &mut I,
-    output: &mut O,
-    errors: &mut E,
-) -> Result<(), anyhow::Error> {
+    let given = env::args(&rt);
     let reason = run(
         &rt,
         &rt,
@@ -64,6 +45,24 @@ fn run_line<F: Opener, I: Source + Send, O: Sink + Send, E: Sink>(
         errors,
     );
     println!(rt; "status {}", reason.status())?;
+    for (option, file) in LINES {
+        println!(rt; "{}:", file.unwrap_or(option))?;
+        let given = match file {
+            Some(file) => arguments(rt.alloc(), &[option, file])?,
+            None => arguments(rt.alloc(), &[option])?,
+        };
+        let reason = run(
+            &rt,
+            &rt,
+            Dialect::Codes,
+            Ok(given),
+            files,
+            input,
+            output,
+            errors,
+        );
+        println!(rt; "status {}", reason.status())?;
+    }
     Ok(())
 }
 
