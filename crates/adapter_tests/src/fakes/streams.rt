@@ -1,6 +1,6 @@
 //! Streams and a gate, each for a thread of its own. A wait that is never met fails the test.
 
-ghost use Rattle.std.specs.Prelude.{ℕ, None};
+ghost use Rattle.std.specs.Prelude.{◌≡◌, ℕ, [], None};
 
 use crate::fakes::next_count;
 use crate::fakes::progress::{Hold, Progress};
@@ -69,7 +69,9 @@ impl<'a, R: Abort> Input<'a, R> {
         bytes: &'a [u8],
         streams: Streams<'a>,
         progress: &'a Progress,
-    ) -> Input<'a, R> {
+    ) -> Input<'a, R>
+        ensures { result.read.bytes ≡ [] }
+    {
         Input {
             rt,
             bytes,
